@@ -1,0 +1,25 @@
+# make table       build the proved archives, and print roots, sines and cosines beside the hardware's and document 01's
+# make test        the gate: proofs, must-fail edits, programs, the host's comparisons; its last line is `N passed, 0 failed`
+# make exhaustive  every f32 (some minutes)
+# make bench       times, as ratios to the other side in one run
+.PHONY: table test archives exhaustive bench clean
+
+HOST = cd host && cargo
+
+table: archives
+	@$(HOST) run --release --offline --quiet --bin table
+
+test:
+	@tools/gate
+
+archives:
+	@tools/archives
+
+exhaustive: archives
+	@$(HOST) run --release --offline --quiet --bin exhaustive
+
+bench: archives
+	@$(HOST) run --release --offline --quiet --bin bench
+
+clean:
+	rm -rf target host/target

@@ -1,0 +1,18 @@
+-- Whole numbers about a root: r * r < n + r and n ≤ r * r + r say that r is the whole number nearest to the root of n. Assumes nothing.
+use mathlib.Core.Path.{_≡_}
+use Prim.Native.Nat.{ℕ, suc, _+_, _*_, _/_, _^_, _≤_, _<_}
+use native.Mathlib.Nat.{mul-le-mul, mul-le-mul-left, mul-le-mul-right, le-of-suc-le-suc, lt-of-not-le}
+use native.Mathlib.Omega.{arith}
+
+pub square-le : (r : ℕ) → r ≤ 2 ^ 26 → r * r ≤ 2 ^ 52
+square-le r h = mul-le-mul h h
+
+-- a root that is too large is not zero
+pub some : (n r : ℕ) → 0 < n → n + r ≤ r * r → 0 < r
+some n r p t = lt-of-not-le (λ (g : r ≤ 0). let q : r * r ≤ 0 * r = mul-le-mul-right r g in omega arith)
+
+pub capped : (n r : ℕ) → n < 2 ^ 48 → r * r < n + r → r ≤ 2 ^ 24
+capped n r h t = le-of-suc-le-suc (lt-of-not-le (λ (g : suc (2 ^ 24) ≤ r). let q : suc (2 ^ 24) * r ≤ r * r = mul-le-mul-right r g in omega arith))
+
+pub next : (r : ℕ) → (r + 1) * (r + 1) ≡ r * r + r + r + 1
+next r = omega arith

@@ -1,0 +1,37 @@
+-- `sqrt::search`: the first loop leaves r with r * r < n + r, which the second keeps. Assumes nothing.
+use borrow.Author.Needs.{needs}
+use Prim.Native.Nat.{ℕ, _+_, _-_, _*_, _^_, _≤_, _<_}
+use native.Mathlib.Omega.{arith}
+use Rattle.relay_math.proofs.Squares.{square-le, some, capped, next}
+use Rattle.relay_math.proofs.sqrt.search.Statement.{statement}
+use Rattle.relay_math.proofs.sqrt.search.Tie as tie
+
+abbrev Inv-loop : tie.InvT-loop
+Inv-loop n from r₀ r = r ≤ 2 ^ 26
+
+abbrev μ-loop : tie.MeasureT-loop
+μ-loop n from r₀ r = r
+
+abbrev Inv-loop2 : tie.InvT-loop2
+Inv-loop2 n from r₀ r = (r ≤ 2 ^ 26) × (r * r < n + r)
+
+abbrev μ-loop2 : tie.MeasureT-loop2
+μ-loop2 n from r₀ r = 2 ^ 26 - r
+
+pub search-spec : {M : Type 1} → statement M
+search-spec =
+    tie.close
+    (tie.spec Inv-loop μ-loop Inv-loop2 μ-loop2
+    (λ c. omega arith)
+    (λ c. omega arith)
+    (λ c. omega (arith, square-le (c .loop .r) (c .loop .inv)))
+    (λ c. omega (arith, some (c .before .before .args .n) (c .before .loop .r) (omega arith) (c .loop-test .taken)))
+    (λ c. omega (arith, some (c .before .before .args .n) (c .before .loop .r) (omega arith) (c .loop-test .taken)))
+    (λ c. omega arith)
+    (λ c. omega arith)
+    (λ c. omega (arith, square-le (c .loop2 .r) (c .loop2 .inv .0)))
+    (λ c. omega (arith, square-le (c .loop2 .r) (c .loop2 .inv .0)))
+    (λ c. omega arith)
+    (λ c. omega (arith, capped _ (c .before .loop2 .r) (omega arith) (c .before .loop2 .inv .1)))
+    (λ c. omega (arith, capped _ (c .before .loop2 .r) (omega arith) (c .before .loop2 .inv .1), next (c .before .loop2 .r)))
+    (λ c. omega (arith, capped _ (c .before .loop2 .r) (omega arith) (c .before .loop2 .inv .1))))

@@ -1,0 +1,58 @@
+-- f32 as the Rust writes it. Definitions only.
+use Prim.Native.Nat.{ℕ, _*_, _/_, _^_}
+use mathlib.Core.Bool.{Bool, true, false, cond}
+use lib.Ieee.{Float, nan, inf, fin, binary32, up, down, ofBits, add, sub, mul, div}
+
+-- Rust's + - * / on f32: each rounds once, and groups to the left as Rust's do
+infixl 65 _⊕_
+infixl 65 _⊖_
+infixl 70 _⊗_
+infixl 70 _⊘_
+abbrev pub _⊕_ : Float → Float → Float
+a ⊕ b = add binary32 a b
+
+abbrev pub _⊖_ : Float → Float → Float
+a ⊖ b = sub binary32 a b
+
+abbrev pub _⊗_ : Float → Float → Float
+a ⊗ b = mul binary32 a b
+
+abbrev pub _⊘_ : Float → Float → Float
+a ⊘ b = div binary32 a b
+
+-- the f32 of a bit pattern, and Rust's literals by theirs
+abbrev pub f32 : ℕ → Float
+f32 b = ofBits binary32 b
+
+abbrev pub 0·0 : Float
+0·0 = f32 0x0000_0000
+
+abbrev pub 0·5 : Float
+0·5 = f32 0x3f00_0000
+
+abbrev pub 1·0 : Float
+1·0 = f32 0x3f80_0000
+
+abbrev pub 2·0 : Float
+2·0 = f32 0x4000_0000
+
+unfoldable pub isFinite : Float → Bool
+isFinite nan = false
+isFinite (inf s) = false
+isFinite (fin s m e) = true
+
+-- x where it is finite, else d
+abbrev pub finiteOr : Float → Float → Float
+finiteOr x d = cond (isFinite x) x d
+
+-- the sign dropped
+unfoldable pub fabsf : Float → Float
+fabsf nan = nan
+fabsf (inf s) = inf false
+fabsf (fin s m e) = fin false m e
+
+-- Every finite f32 is a whole number of grains of 2 ^ -149, the least f32 above zero: how many, the sign dropped
+unfoldable pub grains : Float → ℕ
+grains nan = 0
+grains (inf s) = 0
+grains (fin s m e) = m * up e * 2 ^ 149 / down e

@@ -1,0 +1,89 @@
+-- The square root of IEEE 754 at binary32, rounded to nearest. Definitions only.
+use Prim.Native.Nat.{ℕ, zero, suc, _+_, _*_, _/_, _%_, _-_, _^_, _≤_, _<_}
+use mathlib.Core.Path.{_≡_}
+use mathlib.Core.Bool.{Bool, true, false, cond}
+use lib.Dec.{T, leb}
+use lib.Ieee.{Float, nan, inf, fin, binary32, fits, size, odd}
+use Rattle.relay_math.specs.F32.{grains}
+
+-- finite, and not below zero (-0 is left out)
+abbrev pub natural : Float → Bool
+natural nan = false
+natural (inf s) = false
+natural (fin true m e) = false
+natural (fin false m e) = true
+
+abbrev pub square : ℕ → ℕ
+square a = a * a
+
+-- r is an f32, and no other f32 y lies as near the root of x. r is nearer than a larger y where √x is below their middle, 4 x < (r + y) ^ 2,
+-- and nearer than a smaller y where √x is above it. With x = X, r = R and y = Y grains that is 4 * (X * 2 ^ 149) against (R + Y) ^ 2.
+-- (A y below zero is further off than zero is.) Both are strict: a tie never occurs, so the rule for ties has nothing to decide.
+pub record Nearest (x r : Float) : Type 0 where
+  pub holds : T (fits binary32 r)
+  pub number : T (natural r)
+  pub above : (y : Float) → T (fits binary32 y) → T (natural y) → grains r < grains y → 4 * (grains x * 2 ^ 149) < square (grains r + grains y)
+  pub below : (y : Float) → T (fits binary32 y) → T (natural y) → grains y < grains r → square (grains r + grains y) < 4 * (grains x * 2 ^ 149)
+
+-- r is the square root of x
+abbrev pub IsRoot : Float → Float → Type 0
+IsRoot nan r = r ≡ nan
+IsRoot (inf true) r = r ≡ nan
+IsRoot (inf false) r = r ≡ inf false
+IsRoot (fin s zero e) r = r ≡ fin s zero e
+IsRoot (fin true (suc m) e) r = r ≡ nan
+IsRoot (fin false (suc m) e) r = Nearest (fin false (suc m) e) r
+
+-- ---- the root as a function: it computes, and `proofs/Root.antt` proves `IsRoot x (sqrtf x)` of every f32 x
+
+-- the whole part of the root of n, for an n below 4 ^ d
+unfoldable pub isqrt : ℕ → ℕ → ℕ
+isqrt zero n = 0
+isqrt (suc d) n = let r = isqrt d (n / 4) in cond (leb (square (suc (2 * r))) n) (suc (2 * r)) (2 * r)
+
+-- the whole number nearest to the root of an n below 2 ^ 48. No whole number is the square of q + 1 / 2, which is q * q + q + 1 / 4.
+unfoldable pub nearestRoot : ℕ → ℕ
+unfolding isqrt
+nearestRoot n = let q = isqrt 24 n in cond (leb n (q * q + q)) q (suc q)
+
+-- The root of an x of X grains is √N grains, with N = X * 2 ^ 149. N without its last 2 k digits, which are zeros, has 47 or 48 digits, and the root of those has the 24 that an f32 keeps.
+unfoldable pub rootGrains : ℕ → Float
+unfolding nearestRoot size odd
+rootGrains N = let k = (size N - 47) / 2 in odd 25 false (nearestRoot (N / (2 ^ k * 2 ^ k))) k 149
+
+unfoldable pub sqrtf : Float → Float
+unfolding rootGrains
+sqrtf nan = nan
+sqrtf (inf true) = nan
+sqrtf (inf false) = inf false
+sqrtf (fin s zero e) = fin s zero e
+sqrtf (fin true (suc m) e) = nan
+sqrtf (fin false (suc m) e) = rootGrains (grains (fin false (suc m) e) * 2 ^ 149)
+
+-- ---- for the functions below `sqrtf`
+
+-- r * 2 ^ k grains is the rounded root of X grains, r having 24 digits or being 2 ^ 24: X * 2 ^ 149 is n with 2 k zeros after it, and r is the whole number nearest to the root of n.
+pub record Rounds (X k r n : ℕ) : Type 0 where
+  pub low : 2 ^ 23 ≤ r
+  pub from : X * 2 ^ 149 ≡ n * (2 ^ k * 2 ^ k)
+  pub least : 2 ^ 46 ≤ n
+  pub under : r * r < n + r
+  pub over : n ≤ r * r + r
+
+-- the pattern `out` is that of the rounded root of X grains
+pub record Rooted (X out : ℕ) : Type 0 where
+  pub k : ℕ
+  pub r : ℕ
+  pub n : ℕ
+  pub bits : out ≡ k * 2 ^ 23 + r
+  pub small : k < 254
+  pub high : r < 2 ^ 24
+  pub rounds : Rounds X k r n
+
+-- the pattern b's number of grains, times 2 ^ 23, is m * 2 ^ e with an m of 24 digits
+pub record DigitsOf (b m e : ℕ) : Type 0 where
+  pub low : 2 ^ 23 ≤ m
+  pub high : m < 2 ^ 24
+  pub few : e < 300
+  pub small : b < 2 ^ 23 → b * 2 ^ 23 ≡ m * 2 ^ e
+  pub normal : 2 ^ 23 ≤ b → (b % 2 ^ 23 + 2 ^ 23) * 2 ^ (b / 2 ^ 23 - 1) * 2 ^ 23 ≡ m * 2 ^ e

@@ -1,0 +1,48 @@
+// Numbers (004): square root, sine, cosine, absolute value and finiteness of an f32, for every bit pattern.
+// Vectors, body rates and torques are declared here too, so that every crate above has one kind of each.
+ghost use mathlib.Core.Path.{_≡_};
+ghost use Rattle.relay_math.specs.F32.{isFinite, finiteOr, fabsf};
+
+mod angles; // angles.rt: sine and cosine
+mod reciprocal; // reciprocal.rt: a table for the root's first guess
+mod sqrt; // sqrt.rt: the square root
+
+pub use angles::SineCosine;
+pub use angles::cosf;
+pub use angles::sincos;
+pub use angles::sinf;
+pub use sqrt::sqrtf;
+
+// Three numbers with no meaning of their own: the Rust's `[f32; 3]`, and `v.0`, `v.1`, `v.2` for its `v[0]`, `v[1]`, `v[2]`.
+pub struct Vec3(pub f32, pub f32, pub f32);
+
+// An angular velocity in the body's axes, rad/s.
+pub struct BodyRate(pub Vec3);
+
+// A torque about the body's axes.
+pub struct Torque(pub Vec3);
+
+// The size of x: its sign dropped.
+pub fn fabsf(x: f32) -> f32
+    ensures { λ r. ⌜ r ≡ fabsf x ⌝ }
+{
+    if x < 0.0 {
+        -x
+    } else {
+        if x == 0.0 { 0.0 } else { x }
+    }
+}
+
+// Rust's `x.is_finite()`: x less itself is a zero, and a NaN where x is an infinity or a NaN.
+pub fn is_finite(x: f32) -> bool
+    ensures { λ r. ⌜ r ≡ isFinite x ⌝ }
+{
+    x - x == 0.0
+}
+
+// x where it is finite, else d.
+pub fn finite_or(x: f32, d: f32) -> f32
+    ensures { λ r. ⌜ r ≡ finiteOr x d ⌝ }
+{
+    if is_finite(x) { x } else { d }
+}

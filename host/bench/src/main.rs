@@ -1,0 +1,83 @@
+//! `make bench`: each of our calls beside what it is measured against, through the same kind of call, in one run.
+
+use std::hint::black_box;
+use std::time::Instant;
+
+/// The other side's calls, kept out of line as ours are.
+mod theirs {
+    #[inline(never)]
+    pub extern "C" fn sqrtf(x: f32) -> f32 {
+        x.sqrt()
+    }
+
+    #[inline(never)]
+    pub extern "C" fn sincos(x: f32, sine: &mut f32) -> f32 {
+        *sine = relay_math_published::sinf(x);
+        relay_math_published::cosf(x)
+    }
+}
+
+const CALLS: usize = 4096;
+const ROUNDS: usize = 400;
+const TRIES: usize = 15;
+
+/// The median over several tries of the nanoseconds that one call takes, the two sides taking turns.
+fn pair(ours: impl Fn(f32) -> f32, theirs: impl Fn(f32) -> f32, inputs: &[f32]) -> (f64, f64) {
+    let once = |f: &dyn Fn(&[f32]) -> f32| {
+        let start = Instant::now();
+        for _ in 0..ROUNDS {
+            black_box(f(black_box(inputs)));
+        }
+        start.elapsed().as_nanos() as f64 / (ROUNDS * inputs.len()) as f64
+    };
+    // independent calls: no call waits for the answer of the one before it
+    let a = |xs: &[f32]| xs.iter().fold(0.0f32, |last, &x| if ours(x) == -7.0 { x } else { last });
+    let b = |xs: &[f32]| xs.iter().fold(0.0f32, |last, &x| if theirs(x) == -7.0 { x } else { last });
+    let (mut ta, mut tb) = (Vec::new(), Vec::new());
+    for _ in 0..TRIES {
+        ta.push(once(&a));
+        tb.push(once(&b));
+    }
+    ta.sort_by(f64::total_cmp);
+    tb.sort_by(f64::total_cmp);
+    (ta[TRIES / 2], tb[TRIES / 2])
+}
+
+/// Numbers in 0..1, the same every time.
+struct Rng(u64);
+
+impl Rng {
+    fn next(&mut self) -> f64 {
+        self.0 = self.0.wrapping_mul(6_364_136_223_846_793_005).wrapping_add(1_442_695_040_888_963_407);
+        (self.0 >> 11) as f64 / (1u64 << 53) as f64
+    }
+}
+
+fn line(name: &str, (ours, theirs): (f64, f64), bar: f64) -> bool {
+    let ratio = ours / theirs;
+    let verdict = if ratio <= bar { "within" } else { "OVER" };
+    println!("{name:44} ours {ours:6.2} ns  other {theirs:6.2} ns  ratio {ratio:5.2}  ({verdict} the bar of {bar})");
+    ratio <= bar
+}
+
+fn main() {
+    let mut rng = Rng(1);
+    let positive: Vec<f32> = (0..CALLS).map(|_| (rng.next() * 1000.0) as f32).collect();
+    let headings: Vec<f32> = (0..CALLS).map(|_| ((rng.next() - 0.5) * 2.0 * std::f64::consts::PI) as f32).collect();
+    let wide: Vec<f32> = (0..CALLS).map(|_| ((rng.next() - 0.5) * 256.0) as f32).collect();
+    let ours = |x| {
+        let (s, c) = faces::sincos(x);
+        s + c
+    };
+    let theirs = |x| {
+        let mut s = 0.0;
+        let c = theirs::sincos(x, &mut s);
+        s + c
+    };
+    let mut good = line("root, against the hardware's", pair(faces::sqrtf, |x| theirs::sqrtf(x), &positive), 2.5);
+    good &= line("sine and cosine, against relay's kernels, ±pi", pair(ours, theirs, &headings), 1.0);
+    good &= line("sine and cosine, against relay's kernels, ±128", pair(ours, theirs, &wide), 1.0);
+    if !good {
+        std::process::exit(1);
+    }
+}

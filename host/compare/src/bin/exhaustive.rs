@@ -1,0 +1,29 @@
+//! Every f32: the root, the size and finiteness against the hardware, sine and cosine against the true value.
+
+use compare::numbers;
+
+fn report(name: &str, found: numbers::Found) -> bool {
+    print!("{name}: {} patterns", found.cases);
+    if found.distance > 0.0 {
+        print!(", worst distance {:.3e} at {:08x}", found.distance, found.at.to_bits());
+    }
+    if found.ulps > 0.0 {
+        print!(", worst {:.3} units in the last place at {:08x} (where the value is at least 1e-3)", found.ulps, found.ulps_at.to_bits());
+    }
+    match &found.wrong {
+        None => println!(", none wrong"),
+        Some(text) => println!(", WRONG: {text}"),
+    }
+    found.wrong.is_none()
+}
+
+fn main() {
+    let mut good = report("root, size, finiteness against the hardware", numbers::hardware(1));
+    good &= report("sine and cosine up to 128 against the true value", numbers::angles(1));
+    good &= report("sine and cosine beyond 128", numbers::far(1));
+    good &= report("sine and cosine up to 128 against document 01", numbers::document(7));
+    report("the published kernels up to 128, for the record", numbers::published(7));
+    if !good {
+        std::process::exit(1);
+    }
+}

@@ -1,0 +1,10 @@
+//! Comparisons of the proved routines with what they are to equal.
+
+pub mod exact;
+pub mod numbers;
+pub mod progress;
+
+/// Equal bits, all NaNs counted alike.
+pub fn same(a: f32, b: f32) -> bool {
+    a.to_bits() == b.to_bits() || (a.is_nan() && b.is_nan())
+}

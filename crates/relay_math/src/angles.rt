@@ -17,6 +17,7 @@ const P: u64 = 0x1921FB54442D1;
 // 1 in units of 2^-32.
 const ONE: u64 = 4294967296;
 
+#[repr(C)]
 pub struct SineCosine {
     pub sine: f32,
     pub cosine: f32,

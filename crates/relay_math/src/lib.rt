@@ -14,12 +14,15 @@ pub use angles::sinf;
 pub use sqrt::sqrtf;
 
 // Three numbers with no meaning of their own: the Rust's `[f32; 3]`, and `v.0`, `v.1`, `v.2` for its `v[0]`, `v[1]`, `v[2]`.
+#[repr(C)]
 pub struct Vec3(pub f32, pub f32, pub f32);
 
 // An angular velocity in the body's axes, rad/s.
+#[repr(C)]
 pub struct BodyRate(pub Vec3);
 
 // A torque about the body's axes.
+#[repr(C)]
 pub struct Torque(pub Vec3);
 
 // The size of x: its sign dropped.

@@ -1,0 +1,78 @@
+-- `sanitise3` and what ends in it. Assumes nothing.
+use mathlib.Core.Path.{_≡_, refl, subst}
+use mathlib.Core.Bool.{Bool, true, false, cond}
+use lib.Dec.{T}
+use lib.Ieee.{Float, nan, inf, fin, ofBits}
+use Rattle.relay_math.specs.declared.Vec3.{Vec3}
+use Rattle.relay_math.specs.declared.BodyRate.{BodyRate}
+use Rattle.relay_math.specs.F32.{0·0, isFinite, finiteOr}
+use Rattle.relay_geo.specs.declared.vectors.Mat3.{Mat3}
+use Rattle.relay_geo.specs.declared.vectors.Quat.{Quat}
+use Rattle.relay_geo.specs.declared.attitude.Attitude.{Attitude}
+use Rattle.relay_geo.specs.declared.attitude.Attitude.the-variants.{Matrix, Refused}
+use Rattle.relay_geo.specs.declared.attitude.Feedforward.{Feedforward}
+use Rattle.relay_geo.specs.declared.attitude.Feedforward.the-variants as rate
+use Rattle.relay_geo.specs.declared.controller.GeoGains.{GeoGains}
+use Rattle.relay_geo.specs.Vectors.{norm, over, sanitise3, Finite3}
+use Rattle.relay_geo.specs.Attitude.{quatToRotmat, thrustForce, thrustAttitude, desiredAttitude, tooWeak, bodyRate, rateFrom, flatnessOmegaFf}
+use Rattle.relay_geo.specs.Controller.{rateToward, desiredRate, torqueToward, tick}
+
+mended : (x : Float) → T (isFinite (finiteOr x 0·0))
+unfolding isFinite ofBits
+mended nan = tt
+mended (inf s) = tt
+mended (fin s m e) = tt
+
+kept : (x : Float) → T (isFinite x) → finiteOr x 0·0 ≡ x
+unfolding isFinite
+kept nan h = absurd h
+kept (inf s) h = absurd h
+kept (fin s m e) h = refl
+
+pub sanitise3-finite : (v : Vec3) → Finite3 (sanitise3 v)
+sanitise3-finite v = record { x = mended (v .0); y = mended (v .1); z = mended (v .2) }
+
+pub sanitise3-keeps : (v : Vec3) → Finite3 v → sanitise3 v ≡ v
+sanitise3-keeps v h = rw (kept (v .0) (h .x), kept (v .1) (h .y), kept (v .2) (h .z))
+
+-- ---- `desired_rate`, `tick` and the feedforward answer finite numbers, whatever the bits
+
+zeros-finite : Finite3 (0·0, 0·0, 0·0)
+unfolding isFinite ofBits
+zeros-finite = record { x = tt; y = tt; z = tt }
+
+rate-finite : (g : GeoGains) (r : Mat3) (d : Attitude) → Finite3 (rateToward g r d .0)
+rate-finite g r (Matrix m) = sanitise3-finite _
+rate-finite g r Refused = zeros-finite
+
+pub desired-rate-finite : (g : GeoGains) (q : Quat) (a : Vec3) (yaw : Float) → Finite3 (desiredRate g q a yaw .0)
+unfolding desiredRate
+desired-rate-finite g q a yaw = rate-finite g (quatToRotmat q) (thrustAttitude (sanitise3 a) yaw)
+
+torque-finite : (g : GeoGains) (r : Mat3) (w : BodyRate) (d : Attitude) → Finite3 (torqueToward g r w d .0)
+torque-finite g r w (Matrix m) = sanitise3-finite _
+torque-finite g r w Refused = sanitise3-finite _
+
+pub tick-finite : (g : GeoGains) (q : Quat) (w : BodyRate) (a : Vec3) (yaw : Float) → Finite3 (tick g q w a yaw .0)
+unfolding tick
+tick-finite g q w a yaw = torque-finite g (quatToRotmat q) record { 0 = sanitise3 (w .0) } (thrustAttitude (sanitise3 a) yaw)
+
+abbrev FiniteRate : Feedforward → Type 0
+FiniteRate (rate.Rate w) = Finite3 (w .0)
+FiniteRate rate.Refused = Unit
+
+from-finite : (c : Float) (b3 j : Vec3) (yawRate : Float) (d : Attitude) → FiniteRate (rateFrom c b3 j yawRate d)
+unfolding bodyRate
+from-finite c b3 j yawRate (Matrix r) = sanitise3-finite _
+from-finite c b3 j yawRate Refused = tt
+
+unless : (b : Bool) (x : Feedforward) → FiniteRate x → FiniteRate (cond b rate.Refused x)
+unless true x h = tt
+unless false x h = h
+
+pub feedforward-finite : (a j : Vec3) (yaw yawRate : Float) (w : BodyRate) → flatnessOmegaFf a j yaw yawRate ≡ rate.Rate w → Finite3 (w .0)
+unfolding flatnessOmegaFf
+feedforward-finite a j yaw yawRate w e =
+    let c = norm (thrustForce a) in
+    let b3 = over (thrustForce a) c in
+    subst FiniteRate e (unless (tooWeak c) _ (from-finite c b3 j yawRate (desiredAttitude b3 yaw)))

@@ -1,0 +1,10 @@
+pub mod Blank
+pub mod Accepts
+pub mod NoAttitude
+pub mod Finite
+pub mod Figures
+pub mod Order
+pub mod MarginRange
+pub mod SetUp
+pub mod Steps
+pub mod LatchFlies

@@ -1,0 +1,73 @@
+-- No desired attitude: in free fall, and at a heading that is no number, infinite or beyond the limit. Assumes nothing.
+use mathlib.Core.Path.{_≡_, refl}
+use mathlib.Core.Bool.{false, not}
+use lib.Dec.{T}
+use lib.IntN.{pos}
+use lib.Ieee.{Float, fin, binary32, fits, ofBits, sub}
+use Rattle.relay_math.specs.declared.Vec3.{Vec3}
+use Rattle.relay_math.specs.declared.BodyRate.{BodyRate}
+use Rattle.relay_math.specs.F32.{0·0, isFinite}
+use Rattle.relay_math.specs.Exact.{inRange}
+use Rattle.relay_math.specs.Steps.{sinf, cosf}
+use Rattle.relay_math.proofs.AngleBound.{sincos-near}
+use Rattle.relay_geo.specs.declared.vectors.Quat.{Quat}
+use Rattle.relay_geo.specs.declared.vectors.Unit.{Unit}
+use Rattle.relay_geo.specs.declared.vectors.Unit.the-variants as unit
+use Rattle.relay_geo.specs.declared.attitude.Attitude.the-variants.{Refused}
+use Rattle.relay_geo.specs.declared.controller.GeoGains.{GeoGains}
+use Rattle.relay_geo.specs.Vectors.{GRAVITY-NED, normalize, sanitise3}
+use Rattle.relay_geo.specs.Attitude.{heading, attitudeOf, desiredAttitude, alongAxis, thrustForce, thrustAxisNed, thrustAttitude}
+use Rattle.relay_geo.specs.Controller.{against, desiredRate, tick}
+use Rattle.relay_geo.proofs.Blank.{none, cross-blank, blank-refused}
+
+-- with no attitude `desired_rate` gives zeros and `tick` rate damping alone
+pub no-attitude-rate : (g : GeoGains) (q : Quat) (a : Vec3) (yaw : Float) → thrustAttitude (sanitise3 a) yaw ≡ Refused → desiredRate g q a yaw ≡ record { 0 = (0·0, 0·0, 0·0) }
+unfolding desiredRate
+no-attitude-rate g q a yaw n = rw n
+
+pub no-attitude-tick : (g : GeoGains) (q : Quat) (w : BodyRate) (a : Vec3) (yaw : Float)
+    → thrustAttitude (sanitise3 a) yaw ≡ Refused
+    → tick g q w a yaw ≡ record { 0 = sanitise3 (against (g .«k_omega») (sanitise3 (w .0))) }
+unfolding tick
+no-attitude-tick g q w a yaw n = rw n
+
+-- "Acceleration [0,0,9.81]: damping only."
+free-fall : thrustAxisNed GRAVITY-NED ≡ unit.Refused
+unfolding thrustAxisNed thrustForce ofBits sub
+free-fall = blank-refused (thrustForce GRAVITY-NED) record { x = none false (pos 0); y = none false (pos 0); z = none false (pos 0) }
+
+clean : sanitise3 GRAVITY-NED ≡ GRAVITY-NED
+unfolding isFinite ofBits
+clean = refl
+
+pub free-fall-damps : (g : GeoGains) (q : Quat) (w : BodyRate) (yaw : Float) → tick g q w GRAVITY-NED yaw ≡ record { 0 = sanitise3 (against (g .«k_omega») (sanitise3 (w .0))) }
+unfolding thrustAttitude
+free-fall-damps g q w yaw = no-attitude-tick g q w GRAVITY-NED yaw (rw (clean, free-fall))
+
+-- "A non-finite yaw makes the heading vector zero, so `desired_attitude` refuses", and so does one beyond the limit.
+module _ (yaw : Float) (F : T (fits binary32 yaw)) (far : T (not (inRange yaw))) where
+  zero-heading : heading yaw ≡ (fin false 0 (pos 0), fin false 0 (pos 0), fin false 0 (pos 0))
+  unfolding heading sinf cosf ofBits
+  zero-heading = let z = sincos-near yaw F .far far in rw (z .0, z .1)
+
+  no-columns : (u : Unit) → attitudeOf u yaw ≡ Refused
+  no-columns (unit.Axis b) = rw (zero-heading, blank-refused _ (cross-blank b))
+  no-columns unit.Refused = refl
+
+  pub bad-heading-refused : (b : Vec3) → desiredAttitude b yaw ≡ Refused
+  unfolding desiredAttitude
+  bad-heading-refused b = no-columns (normalize b)
+
+  along : (u : Unit) → alongAxis u yaw ≡ Refused
+  along (unit.Axis b) = bad-heading-refused b
+  along unit.Refused = refl
+
+  pub bad-heading-none : (a : Vec3) → thrustAttitude a yaw ≡ Refused
+  unfolding thrustAttitude
+  bad-heading-none a = along (thrustAxisNed a)
+
+  pub bad-heading-rate : (g : GeoGains) (q : Quat) (a : Vec3) → desiredRate g q a yaw ≡ record { 0 = (0·0, 0·0, 0·0) }
+  bad-heading-rate g q a = no-attitude-rate g q a yaw (bad-heading-none (sanitise3 a))
+
+  pub bad-heading-tick : (g : GeoGains) (q : Quat) (w : BodyRate) (a : Vec3) → tick g q w a yaw ≡ record { 0 = sanitise3 (against (g .«k_omega») (sanitise3 (w .0))) }
+  bad-heading-tick g q w a = no-attitude-tick g q w a yaw (bad-heading-none (sanitise3 a))

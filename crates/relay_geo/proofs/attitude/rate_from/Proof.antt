@@ -1,0 +1,16 @@
+use borrow.Author.Needs.{needs}
+use Rattle.relay_geo.specs.Attitude.{bodyRate}
+use Rattle.relay_geo.proofs.attitude.rate_from.Statement.{statement}
+use Rattle.relay_geo.proofs.attitude.rate_from.Tie as tie
+
+returns-2 : tie.Need-returns-2
+unfolding bodyRate
+returns-2 c =
+    let w = c .before .before in
+    let x = w .before .before .before .before in
+    simp (c .sanitise3 .ensures, w .transposed-times .ensures, x .cross .ensures, x .before .before .r-d .given .1)
+
+pub rate-from-spec : {M : Type 1} → statement M
+rate-from-spec =
+    tie.close
+    (tie.spec (λ c. search needs) (λ c. search needs) (λ c. search needs) (λ c κs. search needs) (λ c κs. search needs) (λ c κs. search needs) returns-2)

@@ -1,0 +1,12 @@
+use borrow.Author.Needs.{needs}
+use Rattle.relay_geo.proofs.set.unknown.Statement.{statement}
+use Rattle.relay_geo.proofs.set.unknown.Tie as tie
+
+pub unknown-spec : {M : Type 1} → statement M
+unknown-spec = tie.close (tie.spec (λ c κs. search needs)
+    (λ c. simp (← c .before .is-finite .ensures, c .if1 .taken))
+    (λ c κs. search needs)
+    (λ c. simp (← c .before .before .before .is-finite .ensures, ← c .before .is-finite2 .ensures, c .before .before .if1 .left, c .if2 .taken))
+    (λ c κs. search needs)
+    (λ c. simp (← c .before .before .before .before .before .is-finite .ensures, ← c .before .before .before .is-finite2 .ensures, ← c .before .is-finite3 .ensures, c .before .before .before .before .if1 .left, c .before .before .if2 .left, c .if3 .taken))
+    (λ c. simp (← c .before .before .before .before .before .is-finite .ensures, ← c .before .before .before .is-finite2 .ensures, ← c .before .is-finite3 .ensures, c .before .before .before .before .if1 .left, c .before .before .if2 .left, c .if3 .left)))

@@ -1,0 +1,11 @@
+use borrow.Author.Needs.{needs}
+use Rattle.relay_geo.specs.Latch.{latch}
+use Rattle.relay_geo.proofs.shield.latch.Statement.{statement}
+use Rattle.relay_geo.proofs.shield.latch.Tie as tie
+
+pub latch-spec : {M : Type 1} → statement M
+unfolding latch
+latch-spec =
+    tie.close (tie.spec (λ c κs. search needs) (λ c κs. search needs)
+    (λ c. simp (c .finite-above .ensures, c .before .if1 .taken))
+    (λ c. simp (c .engages .ensures, c .before .if1 .left)))

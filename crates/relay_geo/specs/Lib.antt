@@ -1,0 +1,6 @@
+pub mod Vectors
+pub mod Attitude
+pub mod Controller
+pub mod Set
+pub mod Latch
+pub mod Shield

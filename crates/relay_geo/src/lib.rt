@@ -1,0 +1,40 @@
+// The geometric attitude controller on SO(3) and the simplex shield (000). The files stand in the order of the Rust's sections:
+// vectors, attitude, controller, set, shield.
+mod attitude; // attitude.rt: attitudes from quaternions, axes and headings
+mod controller; // controller.rt: errors, torques and rates
+mod set; // set.rt: the recoverable set and its margin
+mod shield; // shield.rt: the simplex shield, which picks the planner's command or the fallback
+mod vectors; // vectors.rt: vectors and 3x3 matrices
+
+pub use attitude::Attitude;
+pub use attitude::Feedforward;
+pub use attitude::desired_attitude;
+pub use attitude::feedforward_from;
+pub use attitude::flatness_omega_ff;
+pub use attitude::quat_to_rotmat;
+pub use attitude::thrust_attitude;
+pub use attitude::thrust_axis_ned;
+pub use controller::GeoAtt;
+pub use controller::GeoGains;
+pub use set::RecoverableSet;
+pub use shield::Shielded;
+pub use shield::SimplexShield;
+pub use shield::Thresholds;
+pub use shield::engages;
+pub use shield::finite_above;
+pub use shield::latch;
+pub use shield::mend;
+pub use shield::pick;
+pub use vectors::GRAVITY_NED;
+pub use vectors::Mat3;
+pub use vectors::Quat;
+pub use vectors::Unit;
+pub use vectors::cross;
+pub use vectors::dot;
+pub use vectors::identity3;
+pub use vectors::matmul3;
+pub use vectors::norm;
+pub use vectors::normalize;
+pub use vectors::sanitise3;
+pub use vectors::transpose3;
+pub use vectors::vee;

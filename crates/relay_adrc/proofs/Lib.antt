@@ -1,0 +1,7 @@
+pub mod Tests
+pub mod Order
+pub mod Mended
+pub mod Tick
+pub mod Lowpass
+pub mod Limits
+pub mod Three

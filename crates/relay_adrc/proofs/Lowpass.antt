@@ -1,0 +1,92 @@
+-- The biquad. Assumes nothing.
+use mathlib.Core.Path.{_≡_, refl, sym, ap, _∙_}
+use mathlib.Core.Bool.{Bool, true, false, cond, not, _&&_, _||_}
+use lib.Dec.{T, ltb}
+use Prim.Native.Nat.{ℕ, zero, suc, _+_, _*_, _^_}
+use lib.Ieee.{Float, nan, inf, fin, binary32, lt, le, neg, add, sub, mul, div, round, units, odd, up, down, isNan, ofBits}
+use lib.Ieee.Fits.{round-is}
+use Rattle.relay_math.specs.F32.{_⊗_, _⊘_, f32, 0·0, 0·5, 1·0, 2·0, isFinite}
+use Rattle.relay_math.specs.Steps.{sinf, cosf, sincos}
+use Rattle.relay_math.proofs.Tests.{no}
+use Rattle.relay_adrc.specs.declared.biquad.Biquad.{Biquad}
+use Rattle.relay_adrc.specs.Biquad.{PI, passesThrough, passthrough, filterAt, lowpass, biquadFilter}
+use Rattle.relay_adrc.proofs.Tick.{sanitised}
+use Rattle.relay_adrc.proofs.Order.{le-is-not-above}
+
+-- the output, and the input and output that are kept, are finite for all bits of everything
+pub output-finite : (f : Biquad) (x : Float) → T (isFinite (biquadFilter f x .y))
+unfolding biquadFilter
+output-finite f x = sanitised _
+
+pub kept-input-finite : (f : Biquad) (x : Float) → T (isFinite (biquadFilter f x .biquad .x1))
+unfolding biquadFilter
+kept-input-finite f x = sanitised x
+
+pub kept-output : (f : Biquad) (x : Float) → biquadFilter f x .biquad .y1 ≡ biquadFilter f x .y
+unfolding biquadFilter
+kept-output f x = refl
+
+-- `lowpass` is the pass-through exactly where `passesThrough` says so: elsewhere b0 and b2 are the same number, and a pass-through has 1 and 0.
+pub passes : (fc fs : Float) → passesThrough fc fs ≡ true → lowpass fc fs ≡ passthrough
+unfolding lowpass
+passes fc fs e = rw e
+
+pub filters : (fc fs : Float) → passesThrough fc fs ≡ false → lowpass fc fs ≡ filterAt (2·0 ⊗ PI ⊗ fc ⊘ fs)
+unfolding lowpass
+filters fc fs e = rw e
+
+pub only-then : (fc fs : Float) → lowpass fc fs ≡ passthrough → passesThrough fc fs ≡ true
+unfolding lowpass filterAt lt ofBits
+only-then fc fs q = by (passesThrough fc fs) q
+  where
+    by : (t : Bool) → cond t passthrough (filterAt (2·0 ⊗ PI ⊗ fc ⊘ fs)) ≡ passthrough → t ≡ true
+    by true q = refl
+    by false q = no (ap (lt 0·0) (sym (ap (λ (b : Biquad). b .b2) q) ∙ ap (λ (b : Biquad). b .b0) q))
+
+-- what is rounded is no NaN, so half of a number above zero is none
+units-number : (s : Bool) (q k : ℕ) → isNan (units binary32 s q k) ≡ false
+unfolding units odd isNan
+units-number s q k = by (ltb (q * 2 ^ k) (2 ^ (149 + 128))) q
+  where
+    by : (t : Bool) (n : ℕ) → isNan (cond t (odd 25 s n k 149) (inf s)) ≡ false
+    by false n = refl
+    by true zero = refl
+    by true (suc n) = refl
+
+rounded : (s : Bool) (n d : ℕ) → isNan (round binary32 s n d) ≡ false
+rounded s n d = rw (round-is binary32 s n d) (units-number s _ _)
+
+half : (fs : Float) → lt 0·0 fs ≡ true → isNan (0·5 ⊗ fs) ≡ false
+unfolding lt mul isNan ofBits
+half nan p = no p
+half (inf true) p = no p
+half (inf false) p = refl
+half (fin s m e) p = rounded (not (not s)) (1 * 1 * (m * up e)) (2 * down e)
+
+above-zero : (x : Float) → lt 0·0 x ≡ true → isNan x ≡ false
+unfolding lt isNan ofBits
+above-zero nan p = no p
+above-zero (inf s) p = refl
+above-zero (fin s m e) p = refl
+
+-- "passes through unless fc > 0, fs > 0 and fc < 0.5 fs": where the first two hold no NaN is left, so that `fc >= 0.5 fs` is the rest's denial
+pub passes-unless : (fc fs : Float) → passesThrough fc fs ≡ not (lt 0·0 fc && lt 0·0 fs && lt fc (0·5 ⊗ fs))
+passes-unless fc fs = by (lt 0·0 fc) (lt 0·0 fs) refl refl
+  where
+    by : (a b : Bool) → lt 0·0 fc ≡ a → lt 0·0 fs ≡ b → (not a || not b || le (0·5 ⊗ fs) fc) ≡ not (a && b && lt fc (0·5 ⊗ fs))
+    by true true p q = le-is-not-above fc (0·5 ⊗ fs) (above-zero fc p) (half fs q)
+    by true false p q = refl
+    by false true p q = refl
+    by false false p q = refl
+
+-- the Rust's constant 2 PI, rounded before fc comes in
+pub two-pi : 2·0 ⊗ PI ≡ f32 0x40c9_0fdb
+unfolding ofBits mul
+two-pi = refl
+
+-- "With fc = 1e38 and fs = 3e38 the angle overflows: b 0.5, 1, 0.5, a1 negative zero, a2 1."
+pub overflow :
+    lowpass (f32 0x7e96_7699) (f32 0x7f61_b1e6) ≡
+    record { b0 = 0·5; b1 = 1·0; b2 = 0·5; a1 = f32 0x8000_0000; a2 = 1·0; x1 = 0·0; x2 = 0·0; y1 = 0·0; y2 = 0·0 }
+unfolding lowpass filterAt sinf cosf sincos ofBits neg add sub mul div lt le
+overflow = refl

@@ -1,0 +1,59 @@
+-- One tick of one axis, for all bits of everything. Assumes nothing.
+use mathlib.Core.Path.{_≡_, refl}
+use mathlib.Core.Bool.{Bool, true, false, cond}
+use lib.Dec.{T}
+use lib.Ieee.{Float, ofBits}
+use Rattle.relay_math.specs.F32.{_⊕_, _⊖_, _⊗_, 0·0, 2·0, isFinite, finiteOr}
+use Rattle.relay_math.proofs.Tests.{held}
+use Rattle.relay_adrc.specs.declared.axis.AdrcAxis.{AdrcAxis}
+use Rattle.relay_adrc.specs.declared.axis.AxisTick.{AxisTick}
+use Rattle.relay_adrc.specs.Axis.{10·0, mendDt, positiveOr, mendB0, lag, deliveredFraction, axisTick, axisSetDeliveredFraction}
+
+-- what was made 0 where it is not finite is finite
+pub sanitised : (x : Float) → T (isFinite (finiteOr x 0·0))
+unfolding isFinite ofBits
+sanitised x = by (isFinite x) refl
+  where
+    by : (t : Bool) → isFinite x ≡ t → T (isFinite (cond t x 0·0))
+    by true e = held e
+    by false e = tt
+
+pub record Finite (t : AxisTick) : Type 0 where
+  pub z1 : T (isFinite (t .axis .z1))
+  pub z2 : T (isFinite (t .axis .z2))
+  pub u-prev : T (isFinite (t .axis .«u_prev»))
+  pub u-act : T (isFinite (t .axis .«u_act»))
+  pub u : T (isFinite (t .u))
+
+module _ (a : AdrcAxis) (omegaMeas omegaD dt : Float) where
+  pub tick-finite : Finite (axisTick a omegaMeas omegaD dt)
+  unfolding axisTick
+  tick-finite = record { z1 = sanitised _; z2 = sanitised _; u-prev = sanitised _; u-act = sanitised _; u = sanitised _ }
+
+  -- The command is kept whole for the next tick, and the fraction and the gains stay.
+  pub command-kept : axisTick a omegaMeas omegaD dt .axis .«u_prev» ≡ axisTick a omegaMeas omegaD dt .u
+  unfolding axisTick
+  command-kept = refl
+
+  pub fraction-kept : axisTick a omegaMeas omegaD dt .axis .«u_delivered_frac» ≡ a .«u_delivered_frac»
+  unfolding axisTick
+  fraction-kept = refl
+
+  pub gains-kept : axisTick a omegaMeas omegaD dt .axis .g ≡ a .g
+  unfolding axisTick
+  gains-kept = refl
+
+  -- "The delivered fraction set after one tick is used in the next": there it scales the command of the first, and what drives the observer is the lag of that product.
+  pub fraction-scales-the-command-before :
+      (frac omegaMeas' omegaD' dt' : Float) →
+      axisTick (axisSetDeliveredFraction (axisTick a omegaMeas omegaD dt .axis) frac) omegaMeas' omegaD' dt' .axis .«u_act» ≡
+      finiteOr (lag (axisTick a omegaMeas omegaD dt .axis .«u_act») (axisTick a omegaMeas omegaD dt .u ⊗ deliveredFraction frac) (a .g .tau) (mendDt dt')) 0·0
+  unfolding axisTick
+  fraction-scales-the-command-before frac omegaMeas' omegaD' dt' = refl
+
+  -- what the observer takes for its input is that delivered command
+  pub observer-sees-the-delivered :
+      axisTick a omegaMeas omegaD dt .axis .z1 ≡
+      finiteOr (a .z1 ⊕ mendDt dt ⊗ (a .z2 ⊕ mendB0 (a .g .b0) ⊗ axisTick a omegaMeas omegaD dt .axis .«u_act» ⊕ 2·0 ⊗ positiveOr (a .g .«omega_o») 10·0 ⊗ (finiteOr omegaMeas 0·0 ⊖ a .z1))) 0·0
+  unfolding axisTick
+  observer-sees-the-delivered = refl

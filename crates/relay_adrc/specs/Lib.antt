@@ -1,0 +1,5 @@
+pub mod Gains
+pub mod Axis
+pub mod Biquad
+pub mod Rate
+pub mod Filter

@@ -1,0 +1,112 @@
+-- The governed time, tick by tick and over any run, for all bits. Assumes nothing.
+use mathlib.Core.Path.{_≡_, refl, sym, ap, _∙_, subst}
+use mathlib.Core.Bool.{Bool, true, false, not, _&&_, cond}
+use mathlib.Core.List.{List, [], _∷_, _++_}
+use lib.Dec.{T}
+use lib.IntN.{pos}
+use lib.Ieee.{Float, nan, inf, fin, binary32, fits, add, lt, le, eq, isNan, ofBits}
+use lib.Ieee.Fits.{and-l, and-r, add-fits}
+use Rattle.relay_math.specs.F32.{_⊕_, _⊗_, 0·0, 1·0, isFinite}
+use Rattle.relay_traj.specs.declared.governor.RefGovernor.{RefGovernor}
+use Rattle.relay_traj.specs.Governor.{gate, movedBy, advance, Running, unsigned, Tick, run}
+use Rattle.relay_traj.proofs.Order.{le-trans, le-refl-of, le-of-lt, le-right, pick}
+use Rattle.relay_traj.proofs.Sums.{product-not-below, sum-grows}
+use Rattle.relay_traj.proofs.Zero.{zero-times, zero-adds-nothing, zero-keeps-number}
+use Rattle.relay_traj.proofs.Gate.{gate-in-unit}
+
+-- ---- what a tick adds
+
+zero-good : T (isFinite 0·0) × T (le 0·0 0·0)
+unfolding isFinite le ofBits
+zero-good = (tt, tt)
+
+moved-good : (dt : Float) → T (isFinite (movedBy dt)) × T (le 0·0 (movedBy dt))
+moved-good dt =
+    let a = isFinite dt in
+    let b = lt 0·0 dt in
+    pick (λ (d : Float). T (isFinite d) × T (le 0·0 d)) (a && b) dt 0·0 (λ (t : T (a && b)). (and-l a b t, le-of-lt 0·0 dt (and-r a b t))) (λ (t : T (not (a && b))). zero-good)
+
+finite-up-to-one : (x : Float) → T (le 0·0 x) → T (le x 1·0) → T (isFinite x)
+unfolding isFinite le ofBits
+finite-up-to-one nan p q = p
+finite-up-to-one (inf true) p q = p
+finite-up-to-one (inf false) p q = q
+finite-up-to-one (fin s m e) p q = tt
+
+step-not-below : (g : RefGovernor) (err dt : Float) → T (le 0·0 (gate g err ⊗ movedBy dt))
+step-not-below g err dt =
+    let u = gate-in-unit g err in
+    let d = moved-good dt in
+    product-not-below (gate g err) (movedBy dt) (finite-up-to-one (gate g err) (u .0) (u .1)) (d .0) (u .0) (d .1)
+
+-- ---- one tick
+
+pub never-nan : {s : Float} → Running s → T (not (isNan s))
+never-nan {s} r = le-right 0·0 s (r .from-zero)
+
+-- "A dt not finite and above 0 adds nothing": the Rust adds the gate times +0.0, so the time stays as it is to the bit, but for a -0.0, which may become +0.0
+no-dt : (g : RefGovernor) (err dt : Float) → (isFinite dt && lt 0·0 dt) ≡ false → (b : Bool) × (advance g err dt .time ≡ g .s ⊕ fin b 0 (pos 0))
+unfolding advance
+no-dt g err dt h =
+    let u = gate-in-unit g err in
+    let z = zero-times (gate g err) (finite-up-to-one (gate g err) (u .0) (u .1)) in
+    (z .0, ap (λ (c : Bool). g .s ⊕ gate g err ⊗ cond c dt 0·0) h ∙ ap (λ (y : Float). g .s ⊕ y) (z .1))
+
+pub no-dt-adds-nothing : (g : RefGovernor) (err dt : Float) → (isFinite dt && lt 0·0 dt) ≡ false → T (fits binary32 (g .s)) → T (unsigned (g .s)) → advance g err dt .time ≡ g .s
+no-dt-adds-nothing g err dt h f u =
+    let n = no-dt g err dt h in
+    n .1 ∙ zero-adds-nothing (g .s) (n .0) f u
+
+pub no-dt-keeps-number : (g : RefGovernor) (err dt : Float) → (isFinite dt && lt 0·0 dt) ≡ false → Running (g .s) → T (eq (g .s) (advance g err dt .time))
+no-dt-keeps-number g err dt h r =
+    let n = no-dt g err dt h in
+    subst (λ (t : Float). T (eq (g .s) t)) (sym (n .1)) (zero-keeps-number (g .s) (n .0) (r .holds) (r .from-zero))
+
+-- "Its time never decreases between resets and is never NaN; it may reach +infinity."
+pub clock-never-back : (g : RefGovernor) (err dt : Float) → Running (g .s) → T (le (g .s) (advance g err dt .time)) × Running (advance g err dt .time)
+unfolding advance
+clock-never-back g err dt r =
+    let a = gate g err ⊗ movedBy dt in
+    let up = sum-grows (g .s) a (r .holds) (r .from-zero) (step-not-below g err dt) in
+    (up, record { holds = add-fits binary32 (g .s) a; from-zero = le-trans 0·0 (g .s) (g .s ⊕ a) (r .from-zero) up })
+
+-- ---- any number of ticks, with any errors and any dt
+
+pub clock-over-any-run : (g : RefGovernor) (ks : List Tick) → Running (g .s) → T (le (g .s) (run g ks .s)) × Running (run g ks .s)
+unfolding run advance
+clock-over-any-run g [] r = (le-refl-of (g .s) (never-nan r), r)
+clock-over-any-run g (k ∷ ks) r =
+    let one = clock-never-back g (k .error) (k .dt) r in
+    let g' = advance g (k .error) (k .dt) .governor in
+    let rest = clock-over-any-run g' ks (one .1) in
+    (le-trans (g .s) (g' .s) (run g' ks .s) (one .0) (rest .0), rest .1)
+
+run-joins : (g : RefGovernor) (ks ls : List Tick) → run g (ks ++ ls) ≡ run (run g ks) ls
+unfolding run
+run-joins g [] ls = refl
+run-joins g (k ∷ ks) ls = run-joins (advance g (k .error) (k .dt) .governor) ks ls
+
+-- a later time of a run is no less than an earlier one
+pub clock-along-a-run : (g : RefGovernor) (ks ls : List Tick) → Running (g .s) → T (le (run g ks .s) (run g (ks ++ ls) .s))
+clock-along-a-run g ks ls r = subst (λ (h : RefGovernor). T (le (run g ks .s) (h .s))) (sym (run-joins g ks ls)) (clock-over-any-run (run g ks) ls (clock-over-any-run g ks r .1) .0)
+
+-- ---- +infinity
+
+kept-infinite : (y : Float) → T (le 0·0 y) → inf false ⊕ y ≡ inf false
+unfolding add le ofBits
+kept-infinite nan h = absurd h
+kept-infinite (inf true) h = absurd h
+kept-infinite (inf false) h = refl
+kept-infinite (fin s m e) h = refl
+
+pub infinity-stays : (g : RefGovernor) (ks : List Tick) → g .s ≡ inf false → run g ks .s ≡ inf false
+unfolding run advance
+infinity-stays g [] h = h
+infinity-stays g (k ∷ ks) h =
+    infinity-stays (advance g (k .error) (k .dt) .governor) ks (ap (λ (s : Float). s ⊕ gate g (k .error) ⊗ movedBy (k .dt)) h ∙ kept-infinite (gate g (k .error) ⊗ movedBy (k .dt)) (step-not-below g (k .error) (k .dt)))
+
+-- ---- where a governor starts
+
+pub starts-at-zero : Running 0·0
+unfolding fits ofBits
+starts-at-zero = record { holds = tt; from-zero = zero-good .1 }

@@ -1,0 +1,7 @@
+pub mod Order
+pub mod Sums
+pub mod Zero
+pub mod Gate
+pub mod Clock
+pub mod Leg
+pub mod Figures

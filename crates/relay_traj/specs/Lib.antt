@@ -1,0 +1,3 @@
+pub mod Quintic
+pub mod Segment
+pub mod Governor

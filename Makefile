@@ -1,8 +1,9 @@
 # make table       build the proved archives, and print roots, sines and cosines beside the hardware's and document 01's
 # make test        the gate: proofs, must-fail edits, programs, the host's comparisons; its last line is `N passed, 0 failed`
 # make exhaustive  every f32 (some minutes)
+# make routines    every routine beside the Rust's, ROWS rows of input each: `make routines ROWS=100000000` (without it, the gate's million)
 # make bench       times, as ratios to the other side in one run
-.PHONY: table test archives exhaustive bench clean
+.PHONY: table test archives exhaustive routines bench clean
 
 HOST = cd host && cargo
 
@@ -17,6 +18,9 @@ archives:
 
 exhaustive: archives
 	@$(HOST) run --release --offline --quiet --bin exhaustive
+
+routines: archives
+	@$(HOST) run --release --offline --quiet --bin routines $(ROWS)
 
 bench: archives
 	@$(HOST) run --release --offline --quiet --bin bench

@@ -1,6 +1,8 @@
 // The C face: what a simulator links. Exported wrappers over the proved crates, and nothing else; include/fosavalo.h declares them.
 ghost use mathlib.Core.Path.{_≡_};
+ghost use mathlib.Core.List.{[]};
 ghost use Rattle.relay_math.specs.Steps.{sinf, cosf};
+ghost use Rattle.fosavalo.specs.Numbers.{numbered, setUpNumbered, tickNumbered};
 
 #[no_mangle]
 pub extern "C" fn fosavalo_sinf(x: f32) -> f32
@@ -14,4 +16,20 @@ pub extern "C" fn fosavalo_cosf(x: f32) -> f32
     ensures { λ r. ⌜ r ≡ cosf x ⌝ }
 {
     relay_math::cosf(x)
+}
+
+// Set-up: the number of its outcome, and the image as `flight::setup` leaves it.
+#[no_mangle]
+pub extern "C" fn fosavalo_setup(image: &mut [u8], input: &[u8]) -> u32
+    ensures { λ r. ⌜ numbered r (now (image .exit)) [] ≡ setUpNumbered (now (image .entry)) (now (input .entry)) ⌝ }
+{
+    flight::number(flight::setup(image, input))
+}
+
+// A tick: the number of its outcome, and the image and the answer as `flight::tick` leaves them.
+#[no_mangle]
+pub extern "C" fn fosavalo_tick(image: &mut [u8], input: &[u8], answer: &mut [u8]) -> u32
+    ensures { λ r. ⌜ numbered r (now (image .exit)) (now (answer .exit)) ≡ tickNumbered (now (image .entry)) (now (input .entry)) (now (answer .entry)) ⌝ }
+{
+    flight::number(flight::tick(image, input, answer))
 }

@@ -17,7 +17,7 @@ use Rattle.relay_geo.specs.declared.attitude.Attitude.{Attitude}
 use Rattle.relay_geo.specs.declared.attitude.Attitude.the-variants.{Matrix, Refused}
 use Rattle.relay_geo.specs.declared.attitude.Feedforward.the-variants as rate
 use Rattle.relay_geo.specs.Vectors.{1e-9, norm, long, over, normalize, givesAxis}
-use Rattle.relay_geo.specs.Attitude.{1e-3, thrustForce, thrustAxisNed, thrustAttitude, tooWeak, rateFrom, flatnessOmegaFf, feedforwardFrom, givesMatrix, givesRate}
+use Rattle.relay_geo.specs.Attitude.{1e-3, thrustForce, thrustAxisNed, thrustAttitude, tooWeak, rateFrom, flatnessOmegaFf, feedforwardFrom, thrustOf, attitudeOn, feedforwardOn, givesMatrix, givesRate}
 
 -- "`normalize` refuses unless the norm is finite and above 1e-9."
 pub normalize-accepts : (a : Vec3) → givesAxis (normalize a) ≡ (isFinite (norm a) && lt 1e-9 (norm a))
@@ -86,6 +86,15 @@ feedforward-shares a j yaw yawRate = go (tooWeak (norm (thrustForce a))) refl
     go : (w : Bool) → tooWeak (norm (thrustForce a)) ≡ w → flatnessOmegaFf a j yaw yawRate ≡ feedforwardFrom a j yawRate (thrustAttitude a yaw)
     go true w = rw w
     go false w = rw (w, same-axis a w)
+
+-- Both from one force and one norm.
+pub shared-attitude : (a : Vec3) (yaw : Float) → attitudeOn (thrustOf a) yaw ≡ thrustAttitude a yaw
+unfolding thrustOf attitudeOn thrustAttitude thrustAxisNed normalize
+shared-attitude a yaw = refl
+
+pub shared-feedforward : (a j : Vec3) (yaw yawRate : Float) → feedforwardOn (thrustOf a) j yawRate (thrustAttitude a yaw) ≡ flatnessOmegaFf a j yaw yawRate
+unfolding thrustOf feedforwardOn feedforwardFrom
+shared-feedforward a j yaw yawRate = sym (feedforward-shares a j yaw yawRate)
 
 given : (s : Bool) (c : Float) (b3 j : Vec3) (yawRate : Float) (r : Attitude) → givesRate (cond (not s) rate.Refused (rateFrom c b3 j yawRate r)) ≡ (s && givesMatrix r)
 given true c b3 j yawRate (Matrix r) = refl

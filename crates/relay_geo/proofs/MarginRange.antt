@@ -9,10 +9,14 @@ use borrow.Author.Tests.{ltb-true, ltb-false, le-ltb, eq-eqb, ne-eqb}
 use lib.Dec.{ltb, eqb}
 use lib.Ieee.{Float, nan, inf, fin, up, down, sub, mul, div, lt, le, eq, ofBits}
 use Rattle.relay_math.specs.F32.{_⊖_, f32, 0·0, 1·0, 0·5, isFinite, finiteOr}
-use Rattle.relay_math.proofs.Tests.{no, first}
+use Rattle.relay_math.proofs.Tests.{no}
 use Rattle.relay_geo.specs.declared.set.RecoverableSet.{RecoverableSet}
 use Rattle.relay_geo.specs.Latch.{finiteAbove}
 use Rattle.relay_geo.specs.Set.{newSet, minusInfinity, unknown, psiMargin, rateMargin, smaller, margin}
+
+first : (x y : Bool) → (x && y) ≡ true → x ≡ true
+first true y e = refl
+first false y e = no e
 
 -- ---- finite or minus infinity, and nothing else
 

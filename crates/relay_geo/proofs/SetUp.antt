@@ -15,7 +15,7 @@ use lib.Ieee.Exact.{HasValue, round-exact}
 use lib.Ieee.Order.{round-mono}
 use Rattle.relay_math.specs.F32.{_⊗_, f32, 0·0, 2·0, isFinite}
 use Rattle.relay_math.proofs.Tests.{no}
-use Rattle.relay_math.proofs.RootNear.{pow-le-back}
+use Rattle.relay_math.proofs.Grains.{pow-le-back}
 use Rattle.relay_geo.specs.declared.set.RecoverableSet.{RecoverableSet}
 use Rattle.relay_geo.specs.Latch.{finiteAbove}
 use Rattle.relay_geo.specs.Shield.{0·1, mendEnter, mend, newShield}

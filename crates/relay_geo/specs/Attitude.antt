@@ -13,7 +13,8 @@ use Rattle.relay_geo.specs.declared.attitude.Attitude.{Attitude}
 use Rattle.relay_geo.specs.declared.attitude.Attitude.the-variants.{Matrix, Refused}
 use Rattle.relay_geo.specs.declared.attitude.Feedforward.{Feedforward}
 use Rattle.relay_geo.specs.declared.attitude.Feedforward.the-variants as rate
-use Rattle.relay_geo.specs.Vectors.{GRAVITY-NED, cross, norm, over, normalize, sanitise3, transposedTimes}
+use Rattle.relay_geo.specs.declared.attitude.Thrust.{Thrust}
+use Rattle.relay_geo.specs.Vectors.{GRAVITY-NED, cross, norm, over, unitOf, normalize, sanitise3, transposedTimes}
 
 unfoldable pub quatToRotmat : Quat → Mat3
 quatToRotmat q =
@@ -95,6 +96,19 @@ feedforwardFrom a j yawRate attitude =
     let t = thrustForce a in
     let c = norm t in
     cond (tooWeak c) rate.Refused (rateFrom c (over t c) j yawRate attitude)
+
+-- ---- the thrust's force and its norm, for a caller that wants the attitude and the feedforward of one acceleration
+
+unfoldable pub thrustOf : Vec3 → Thrust
+thrustOf a = let t = thrustForce a in record { force = t; norm = norm t }
+
+unfoldable pub attitudeOn : Thrust → Float → Attitude
+attitudeOn t yaw = alongAxis (unitOf (t .force) (t .norm)) yaw
+
+unfoldable pub feedforwardOn : Thrust → Vec3 → Float → Attitude → Feedforward
+feedforwardOn t j yawRate attitude =
+    let c = t .norm in
+    cond (tooWeak c) rate.Refused (rateFrom c (over (t .force) c) j yawRate attitude)
 
 -- ---- for what is proved of them
 

@@ -35,6 +35,10 @@ long n = isFinite n && lt 1e-9 n
 abbrev pub over : Vec3 → Float → Vec3
 over a n = (a .0 ⊘ n, a .1 ⊘ n, a .2 ⊘ n)
 
+-- the direction of a, n being its norm
+abbrev pub unitOf : Vec3 → Float → Unit
+unitOf a n = cond (long n) (Axis (over a n)) Refused
+
 unfoldable pub normalize : Vec3 → Unit
 normalize a = let n = norm a in cond (long n) (Axis (over a n)) Refused
 

@@ -8,12 +8,13 @@ use super::vectors::norm;
 use super::vectors::normalize;
 use super::vectors::sanitise3;
 use super::vectors::transposed_times;
+use super::vectors::unit_of;
 use relay_math::BodyRate;
 use relay_math::Vec3;
 use relay_math::is_finite;
 use relay_math::sincos;
 ghost use mathlib.Core.Path.{_≡_};
-ghost use Rattle.relay_geo.specs.Attitude.{quatToRotmat, heading, desiredAttitude, thrustForce, thrustAxisNed, thrustAttitude, tooWeak, rateFrom, feedforwardFrom, flatnessOmegaFf};
+ghost use Rattle.relay_geo.specs.Attitude.{quatToRotmat, heading, desiredAttitude, thrustForce, thrustAxisNed, thrustAttitude, tooWeak, rateFrom, feedforwardFrom, flatnessOmegaFf, thrustOf, attitudeOn, feedforwardOn};
 
 // A rotation from body to NED, or a plain refusal that carries no number.
 pub enum Attitude {
@@ -25,6 +26,13 @@ pub enum Attitude {
 pub enum Feedforward {
     Rate(BodyRate),
     Refused,
+}
+
+// g - a and its length: what the attitude and the feedforward of one acceleration share, so that its root is taken once.
+#[repr(C)]
+pub struct Thrust {
+    pub force: Vec3,
+    pub norm: f32,
 }
 
 // Body to NED, from a unit quaternion (Hamilton, w first). One that is no unit is not mended: the zero quaternion gives the identity.
@@ -156,4 +164,38 @@ pub fn flatness_omega_ff(a_cmd: Vec3, j_cmd: Vec3, yaw: f32, yaw_rate: f32) -> F
     }
     let b3 = Vec3(tf.0 / c, tf.1 / c, tf.2 / c);
     rate_from(c, b3, j_cmd, yaw_rate, desired_attitude(b3, yaw))
+}
+
+pub fn thrust_of(a_cmd: Vec3) -> Thrust
+    ensures { λ r. ⌜ r ≡ thrustOf «a_cmd» ⌝ }
+{
+    let tf = thrust_force(a_cmd);
+    Thrust {
+        force: tf,
+        norm: norm(tf),
+    }
+}
+
+// `thrust_attitude` of the acceleration whose thrust this is (`shared-attitude` of proofs/Accepts.antt).
+pub fn attitude_on(t: Thrust, yaw: f32) -> Attitude
+    ensures { λ r. ⌜ r ≡ attitudeOn t yaw ⌝ }
+{
+    let tf = t.force;
+    match unit_of(tf, t.norm) {
+        Unit::Axis(b3) => desired_attitude(b3, yaw),
+        Unit::Refused => Attitude::Refused,
+    }
+}
+
+// `feedforward_from` of the acceleration whose thrust this is (`shared-feedforward`).
+pub fn feedforward_on(t: Thrust, j_cmd: Vec3, yaw_rate: f32, r_d: Attitude) -> Feedforward
+    ensures { λ r. ⌜ r ≡ feedforwardOn t «j_cmd» «yaw_rate» «r_d» ⌝ }
+{
+    let tf = t.force;
+    let c = t.norm;
+    if too_weak(c) {
+        return Feedforward::Refused;
+    }
+    let b3 = Vec3(tf.0 / c, tf.1 / c, tf.2 / c);
+    rate_from(c, b3, j_cmd, yaw_rate, r_d)
 }

@@ -8,12 +8,16 @@ mod vectors; // vectors.rt: vectors and 3x3 matrices
 
 pub use attitude::Attitude;
 pub use attitude::Feedforward;
+pub use attitude::Thrust;
+pub use attitude::attitude_on;
 pub use attitude::desired_attitude;
 pub use attitude::feedforward_from;
+pub use attitude::feedforward_on;
 pub use attitude::flatness_omega_ff;
 pub use attitude::quat_to_rotmat;
 pub use attitude::thrust_attitude;
 pub use attitude::thrust_axis_ned;
+pub use attitude::thrust_of;
 pub use controller::GeoAtt;
 pub use controller::GeoGains;
 pub use set::RecoverableSet;
@@ -37,4 +41,5 @@ pub use vectors::norm;
 pub use vectors::normalize;
 pub use vectors::sanitise3;
 pub use vectors::transpose3;
+pub use vectors::unit_of;
 pub use vectors::vee;

@@ -4,7 +4,7 @@ use relay_math::finite_or;
 use relay_math::is_finite;
 use relay_math::sqrtf;
 ghost use mathlib.Core.Path.{_≡_};
-ghost use Rattle.relay_geo.specs.Vectors.{cross, dot, norm, normalize, identity3, transpose3, prod3, matmul3, transposedTimes, vee, sanitise3};
+ghost use Rattle.relay_geo.specs.Vectors.{cross, dot, norm, unitOf, normalize, identity3, transpose3, prod3, matmul3, transposedTimes, vee, sanitise3};
 
 // Row-major: the Rust's `m[2][1]` is `m.2.1`.
 #[repr(C)]
@@ -45,15 +45,21 @@ pub fn norm(a: Vec3) -> f32
     sqrtf(dot(a, a))
 }
 
-pub fn normalize(a: Vec3) -> Unit
-    ensures { λ r. ⌜ r ≡ normalize a ⌝ }
+// The direction of a vector whose length n is there already.
+pub fn unit_of(a: Vec3, n: f32) -> Unit
+    ensures { λ r. ⌜ r ≡ unitOf a n ⌝ }
 {
-    let n = norm(a);
     if is_finite(n) && n > 1e-9 {
         Unit::Axis(Vec3(a.0 / n, a.1 / n, a.2 / n))
     } else {
         Unit::Refused
     }
+}
+
+pub fn normalize(a: Vec3) -> Unit
+    ensures { λ r. ⌜ r ≡ normalize a ⌝ }
+{
+    unit_of(a, norm(a))
 }
 
 pub fn identity3() -> Mat3

@@ -1,174 +1,123 @@
--- The theorem: for every f32 the steps meet document 01's rule. Assumes nothing.
-use mathlib.Core.Path.{_≡_, refl, sym, ap, subst, _∙_}
-use mathlib.Core.Logic.{inl, inr}
-use mathlib.Core.Bool.{Bool, true, false, not, cond, _&&_, _||_, true≢false}
-use Prim.Native.Nat.{ℕ, zero, suc, _+_, _*_, _-_, _/_, _%_, _^_, _≤_, _<_}
-use native.Mathlib.Nat.{le-of-lt, sub-le, lt-of-le-of-lt, lt-of-not-le, lt-irrefl, lt-of-lt-of-le, mul-le-mul-right, mul-pos, mul-div-cancel, mul-one, eq-zero-or-pos, mod-lt}
+-- The theorem on sine and cosine: for every f32 the steps meet document 01's rule. Assumes nothing.
+use mathlib.Core.Path.{_≡_, refl, sym, subst}
+use mathlib.Core.Bool.{Bool, true, false, not, cond}
+use Prim.Native.Nat.{ℕ, zero, suc, _*_, _^_, _≤_, _<_}
+use native.Mathlib.Nat.{le-of-lt, lt-of-not-le, not-le-of-lt, mul-one, one-mul}
 use native.Mathlib.Omega.{arith}
 use lib.IntN.{ℤ, pos, negsuc}
-use lib.Dec.{T, leb, ltb, eqb, lit<, lit≤, leb→le, nleb→lt, lt→ltb, not-T}
-use lib.Ieee.{Float, nan, inf, fin, up, down, fits, binary32, lt, le, eq, neg, unlike}
-use lib.Ieee.Exact.{HasValue}
-use lib.Ieee.Fits.{down-pos, up-pos}
+use lib.Dec.{T, leb, lit<, lit≤, leb→le, nleb→lt}
+use lib.Ieee.{Float, nan, inf, fin, up, down, fits, binary32, lt, le, eq, neg}
+use lib.Ieee.Fits.{down-pos}
 use lib.Ieee.Bits.{is-true, is-false}
-use lib.Ieee.Positive.{positive, between, le→cross, cross→le}
-use borrow.Author.Tests.{lt-ltb, le-ltb, ne-eqb}
+use borrow.Author.Tests.{leb-true, leb-false}
 use Rattle.relay_math.specs.declared.angles.SineCosine.{SineCosine}
-use Rattle.relay_math.specs.Exact.{limit, gap, Near, Rule, inRange, isMinus, exactSine, exactCosine, sineBy, cosineBy}
+use Rattle.relay_math.specs.Exact.{P, limitPower, limit, Near, sinAt, cosAt, Rule, inRange, isMinus, exactSine, exactCosine}
 use Rattle.relay_math.specs.F32.{grains}
-use Rattle.relay_math.specs.Steps.{P48, square, sinPoly, cosPoly, toFloat, signed, fixed, reduceOf, quadrant, large, sincos, Zero, One, Tiny, Limit, Most}
-use Rattle.relay_math.proofs.AngleParts.{Parts, parts}
-use Rattle.relay_math.proofs.AngleCases.{up-to-most, case-large, case-tiny, case-far}
-use Rattle.relay_math.proofs.AngleNear.{sin-near, cos-near, wider}
-use Rattle.relay_math.proofs.Quadrant.{all}
-use Rattle.relay_math.proofs.Reduction.{reduced-is, small, rest-units, back-units, quarter-units}
-use Rattle.relay_math.proofs.Tiny.{tiny}
+use Rattle.relay_math.specs.Steps.{square, sinPoly, cosPoly, toFloat, signed, fixed, reduceOf, quadrant, large, sincos, Zero, One}
+use Rattle.relay_math.proofs.Tests.{ordered, zero-is, is-below}
+use Rattle.relay_math.proofs.Grains.{grains-exact}
+use Rattle.relay_math.proofs.Horner.{sinExact, cosExact}
+use Rattle.relay_math.proofs.Fixed.{tiny-sin, tiny-cos}
+use Rattle.relay_math.proofs.AngleNear.{near-of, wider, quarters, sin-near, cos-near}
+use Rattle.relay_math.proofs.AngleReduction.{at-least, parts, Turn, few, small, turn, no-turn}
 
-sin-most : (R z : ℕ) → R < 281474976710656 → sinPoly R z ≤ 281474976710656
-unfolding sinPoly
-sin-most R z h = omega (arith, sub-le R (R / 65536 * (z * (4294967296 - z * (4294967296 - z * (4294967296 - z / 72) / 4294967296 / 42) / 4294967296 / 20) / 4294967296 / 6) / 65536))
-
-cos-most : (z : ℕ) → cosPoly z ≤ 281474976710656
-unfolding cosPoly
-cos-most z = mul-le-mul-right 65536 (sub-le 4294967296 _)
-
--- ---- from 2 ^ -12 on
-large-near : (s : Bool) (a : Float)
-    → Near 22 (large s a .sine) (exactSine s (fixed a * 2 ^ 101)) × Near 22 (large s a .cosine) (exactCosine s (fixed a * 2 ^ 101))
-unfolding large exactSine exactCosine
-large-near s a =
-    let X = fixed a in
-    let d = reduceOf X in
-    let R = d .r in
-    let S : R < 281474976710656 = rw (reduced-is X .r-is) (small X) in
-    let K : d .n < 4 = rw (reduced-is X .n-is) (mod-lt _ (lit< tt)) in
-    let p = sin-most R (square R) S in
-    let q = cos-most (square R) in
-    rw (quarter-units X s, back-units X, rest-units X) (all 22 (toFloat (sinPoly R (square R))) (toFloat (cosPoly (square R))) (R * 2 ^ 101) (sin-near R S p q) (cos-near R S p q) s (d .back) (d .n) K)
-
--- ---- |x|, and the tests
-units-is : (s t : Bool) (m : ℕ) (e : ℤ) (N : ℕ) → HasValue (fin t m e) false N (2 ^ 149) → grains (fin s m e) ≡ N
-unfolding grains
-units-is s t m e N h = ap (λ (x : ℕ). x / down e) (h .1) ∙ mul-div-cancel N (down-pos e)
-
-fits-either : (s t : Bool) (m : ℕ) (e : ℤ) → T (fits binary32 (fin s m e)) → T (fits binary32 (fin t m e))
-unfolding fits
-fits-either s t zero e h = h
-fits-either s t (suc m) e h = h
-
-sign-test : (s : Bool) (m : ℕ) (e : ℤ) → 0 < m → lt (fin s m e) Zero ≡ s
-unfolding lt
-sign-test true m e h =
-    let p : 0 < m * up e = mul-pos h (up-pos e) in
-    lt-ltb 0 (m * up e * 1 + 0 * down e) (omega arith)
-sign-test false m e h = le-ltb (m * up e * 1) (0 * down e) (omega arith)
-
-own-sign : (s : Bool) (m : ℕ) (e : ℤ) → fin false m e ≡ signed s (fin s m e)
-unfolding neg
-own-sign true m e = refl
-own-sign false m e = refl
-
-size-is : (s : Bool) (m : ℕ) (e : ℤ) → 0 < m → fin false m e ≡ signed (lt (fin s m e) Zero) (fin s m e)
-size-is s m e h = rw (sign-test s m e h) (own-sign s m e)
-
-module _ (m : ℕ) (e : ℤ) (M : 0 < m) where
-  limit-holds : m * up e ≤ limit * down e → le (fin false m e) Limit ≡ true
-  limit-holds h = is-true _ (cross→le (fin false m e) Limit (lt→ltb 0 m M) tt (omega arith))
-
-  limit-fails : limit * down e < m * up e → le (fin false m e) Limit ≡ false
-  limit-fails h =
-      is-false (le (fin false m e) Limit) (not-T (le (fin false m e) Limit) (λ (t : T (le (fin false m e) Limit)).
-      let c : m * up e * 1 ≤ limit * down e = le→cross (fin false m e) Limit (lt→ltb 0 m M) tt t in
-      absurd (omega (arith, c))))
-
-  tiny-holds : le Tiny (fin false m e) ≡ false → m * up e * 4096 < down e
-  tiny-holds t =
-      lt-of-not-le (λ (g : down e ≤ m * up e * 4096).
-      let c : 1 * down e ≤ m * up e * 4096 = omega arith in
-      true≢false (sym (is-true _ (cross→le Tiny (fin false m e) tt (lt→ltb 0 m M) c)) ∙ t))
-
--- ---- zero
-zero-size : (s : Bool) (e : ℤ) → fin s 0 e ≡ signed (lt (fin s 0 e) Zero) (fin s 0 e)
-unfolding lt
-zero-size true e = rw (le-ltb 0 (0 * up e * 1 + 0 * down e) (omega arith))
-zero-size false e = rw (le-ltb (0 * up e * 1) (0 * down e) (omega arith))
-
-zero-limit : (s : Bool) (e : ℤ) → le (fin s 0 e) Limit ≡ true
-unfolding le lt
-zero-limit true e = rw (lt-ltb 0 (0 * up e * 1 + limit * down e) (omega (arith, down-pos e)))
-zero-limit false e = rw (lt-ltb (0 * up e * 1) (limit * down e) (omega (arith, down-pos e)))
-
-zero-tiny : (s : Bool) (e : ℤ) → le Tiny (fin s 0 e) ≡ false
-unfolding le lt eq
-zero-tiny true e = rw (ne-eqb (1 * down e) (0 * up e * 4096) (λ p. omega (arith, down-pos e, p)))
-zero-tiny false e = rw (le-ltb (1 * down e) (0 * up e * 4096) (omega arith), ne-eqb (1 * down e) (0 * up e * 4096) (λ p. omega (arith, down-pos e, p)))
-
-zero-case : (s : Bool) (e : ℤ) → sincos (fin s 0 e) ≡ record { sine = fin s 0 e; cosine = One }
-zero-case s e = sym (case-tiny (fin s 0 e) (fin s 0 e) record { sine = fin s 0 e; cosine = One } (zero-size s e) (zero-limit s e) (zero-tiny s e) refl)
-
--- ---- the theorem
 abbrev Both : Bool → ℕ → SineCosine → Type 0
 Both s u r = Near 22 (r .sine) (exactSine s u) × Near 22 (r .cosine) (exactCosine s u)
 
-module _ (s : Bool) (m : ℕ) (e : ℤ) (F : T (fits binary32 (fin s m e))) (M : 0 < m) (L : m * up e ≤ limit * down e) where
-  positive-near : Both s (grains (fin s m e)) (sincos (fin s m e))
-  positive-near = go (le Tiny (fin false m e)) refl
-    where
-      go : (t : Bool) → le Tiny (fin false m e) ≡ t → Both s (grains (fin s m e)) (sincos (fin s m e))
-      go true t =
-          let k : T (le Tiny (fin false m e)) = subst (λ (b : Bool). T b) (sym t) tt in
-          let l : T (le (fin false m e) Limit) = subst (λ (b : Bool). T b) (sym (limit-holds m e M L)) tt in
-          let p : Parts (fin false m e) = parts (fin false m e) (fits-either s false m e F) k (up-to-most (fin false m e) k l) in
-          let u : grains (fin s m e) ≡ fixed (fin false m e) * 2 ^ 101 = units-is s false m e _ (p .value) in
-          let r : large s (fin false m e) ≡ sincos (fin s m e) =
-          case-large (fin s m e) (fin false m e) (large s (fin false m e)) (size-is s m e M) (limit-holds m e M L) t (ap (λ (b : Bool). large b (fin false m e)) (sym (sign-test s m e M))) in
-          rw (u, ← r) (large-near s (fin false m e))
-      go false t =
-          let r : record { sine = fin s m e; cosine = One } ≡ sincos (fin s m e) =
-          case-tiny (fin s m e) (fin false m e) record { sine = fin s m e; cosine = One } (size-is s m e M) (limit-holds m e M L) t refl in
-          rw (← r) (tiny s m e F (tiny-holds m e M t))
+by-turn : (s b : Bool) (u n R : ℕ) (S C : Float) → Turn u n R b → n < 4 → Near 22 S (sinAt false R) → Near 22 C (cosAt R) → Both s u (quadrant s n (signed b S) C)
+unfolding exactSine exactCosine
+by-turn s b u n R S C t l hs hc = rw (t .quarter-is s, t .back-is, t .rest-is) (quarters S C R hs hc s b n l)
 
--- m = 0
-zero-near : (s : Bool) (e : ℤ) → T (fits binary32 (fin s 0 e)) → Both s (grains (fin s 0 e)) (sincos (fin s 0 e))
-zero-near s e F = rw (zero-case s e) (tiny s 0 e F (omega (arith, down-pos e)))
+-- ---- from 2 ^ -12 on
+large-near : (s : Bool) (a : Float) → Both s (fixed a * 2 ^ 101) (large s a)
+unfolding large
+large-near s a =
+    let d = reduceOf (fixed a) in
+    by-turn s (d .back) (fixed a * 2 ^ 101) (d .n) (d .r * 2 ^ 101) (toFloat (sinPoly (d .r) (square (d .r)))) (toFloat (cosPoly (square (d .r))))
+    (turn (fixed a)) (few (fixed a)) (sin-near (d .r) (small (fixed a))) (cos-near (d .r) (small (fixed a)))
 
-finite-near : (s : Bool) (m : ℕ) (e : ℤ) → T (fits binary32 (fin s m e)) → m * up e ≤ limit * down e → Both s (grains (fin s m e)) (sincos (fin s m e))
-finite-near s zero e F L = zero-near s e F
-finite-near s (suc m) e F L = positive-near s (suc m) e F (omega arith) L
+-- ---- below 2 ^ -12 nothing is taken off
+own-size : (s : Bool) (m : ℕ) (e : ℤ) → quadrant s 0 (fin false m e) One ≡ record { sine = fin s m e; cosine = One }
+unfolding quadrant neg
+own-size true m e = refl
+own-size false m e = refl
 
-abbrev Zeros : SineCosine → Type 0
-Zeros r = (r .sine ≡ fin false 0 (pos 0)) × (r .cosine ≡ fin false 0 (pos 0))
+half-below : (u L Q : ℕ) → u * 4096 < L → L ≤ Q → 2 * u ≤ Q
+half-below u L Q h k = omega arith
 
-finite-far : (s : Bool) (m : ℕ) (e : ℤ) → limit * down e < m * up e → Zeros (sincos (fin s m e))
-finite-far s zero e h = absurd (omega arith)
-finite-far s (suc m) e h =
-    rw (← case-far (fin s (suc m) e) (fin false (suc m) e) record { sine = Zero; cosine = Zero } (size-is s (suc m) e (omega arith)) (limit-fails (suc m) e (omega arith) h) refl) (refl, refl)
+tiny-near : (s : Bool) (m : ℕ) (e : ℤ) → T (fits binary32 (fin s m e)) → m * up e * 4096 < down e → Both s (grains (fin s m e)) record { sine = fin s m e; cosine = One }
+tiny-near s m e F K =
+    let u = grains (fin s m e) in
+    let E = grains-exact s m e F in
+    let S : u * 4096 < 2 ^ 149 = lt-of-not-le (λ (g : 2 ^ 149 ≤ u * 4096). not-le-of-lt K (at-least u (2 ^ 149) (m * up e) (down e) 4096 (lit< tt) (sym E) g)) in
+    subst (Both s u) (own-size s m e)
+    (by-turn s false u 0 u (fin false m e) One (no-turn u (half-below u (2 ^ 149) P S (lit≤ tt))) (lit< tt)
+    (near-of (fin false m e) u (2 ^ 125) (sinExact u (2 ^ 149)) (refl, E) (lit≤ tt) (tiny-sin u (2 ^ 149) (2 ^ 125) (le-of-lt S) (lit< tt) (lit≤ tt)))
+    (near-of One (2 ^ 149) (2 ^ 125) (cosExact u (2 ^ 149)) (refl, refl) (lit≤ tt) (tiny-cos u (2 ^ 149) (2 ^ 125) (le-of-lt S) (lit< tt) (lit≤ tt))))
 
-far-case : (x : Float) → T (not (inRange x)) → Zeros (sincos x)
-unfolding inRange sincos lt le eq neg
-far-case nan h = (refl, refl)
-far-case (inf true) h = (refl, refl)
-far-case (inf false) h = (refl, refl)
-far-case (fin s m e) h = finite-far s m e (nleb→lt (m * up e) (limit * down e) h)
+-- ---- the tests of `sincos` on a number that is not zero
+le-is : (m : ℕ) (e : ℤ) (n : ℕ) (d : ℤ) → le (fin false m e) (fin false n d) ≡ leb (m * up e * down d) (n * up d * down e)
+unfolding le lt eq
+le-is m e n d = ordered (m * up e * down d) (n * up d * down e)
+
+abbrev zeros : SineCosine
+zeros = record { sine = Zero; cosine = Zero }
+
+abbrev within : Bool → Bool → ℕ → ℤ → SineCosine
+within t s m e = cond t (large s (fin false m e)) record { sine = fin s m e; cosine = One }
+
+by-range : (s : Bool) (m : ℕ) (e : ℤ) → sincos (fin s (suc m) e) ≡ cond (leb (suc m * up e) (limit * down e)) (within (leb (down e) (suc m * up e * 4096)) s (suc m) e) zeros
+unfolding sincos neg
+by-range true m e = rw (is-below m e true, le-is (suc m) e 1 (pos limitPower), le-is 1 (negsuc 11) (suc m) e, mul-one (suc m * up e), one-mul (down e))
+by-range false m e = rw (is-below m e false, le-is (suc m) e 1 (pos limitPower), le-is 1 (negsuc 11) (suc m) e, mul-one (suc m * up e), one-mul (down e))
+
+zero-case : (s : Bool) (e : ℤ) → T (fits binary32 (fin s 0 e)) → sincos (fin s 0 e) ≡ record { sine = fin s 0 e; cosine = One }
+unfolding sincos lt le eq neg
+zero-case true e F = subst (λ (x : Float). sincos x ≡ record { sine = x; cosine = One }) (sym (zero-is true e F)) refl
+zero-case false e F = subst (λ (x : Float). sincos x ≡ record { sine = x; cosine = One }) (sym (zero-is false e F)) refl
+
+-- ---- the theorem
+-- the sign is in neither the grains nor the digits
+signless : (s : Bool) (m : ℕ) (e : ℤ) → T (fits binary32 (fin s (suc m) e)) → T (fits binary32 (fin false (suc m) e)) × (grains (fin s (suc m) e) ≡ grains (fin false (suc m) e))
+unfolding fits grains
+signless s m e F = (F, refl)
+
+number-near : (s : Bool) (m : ℕ) (e : ℤ) → T (fits binary32 (fin s (suc m) e)) → T (leb (suc m * up e) (limit * down e)) → Both s (grains (fin s (suc m) e)) (sincos (fin s (suc m) e))
+number-near s m e F h = rw (by-range s m e, is-true (leb (suc m * up e) (limit * down e)) h) (go (leb (down e) (suc m * up e * 4096)) refl)
+  where
+    go : (t : Bool) → leb (down e) (suc m * up e * 4096) ≡ t → Both s (grains (fin s (suc m) e)) (within t s (suc m) e)
+    go true t =
+        let p = parts (suc m) e (signless s m e F .0) (leb-true _ _ t) (omega (arith, leb→le (suc m * up e) (limit * down e) h)) in
+        rw (signless s m e F .1, p .is) (large-near s (fin false (suc m) e))
+    go false t = tiny-near s (suc m) e F (leb-false _ _ t)
 
 near-case : (x : Float) → T (fits binary32 x) → T (inRange x) → Both (isMinus x) (grains x) (sincos x)
 unfolding inRange
 near-case nan F h = absurd h
 near-case (inf s) F h = absurd h
-near-case (fin s m e) F h = finite-near s m e F (leb→le (m * up e) (limit * down e) h)
+near-case (fin s zero e) F h = rw (zero-case s e F) (tiny-near s 0 e F (omega (arith, down-pos e)))
+near-case (fin s (suc m) e) F h = number-near s m e F h
 
-zero-kept' : (x : Float) (s : Bool) → x ≡ fin s 0 (pos 0) → (sincos x .sine ≡ x) × (sincos x .cosine ≡ fin false 1 (pos 0))
-zero-kept' x s e = rw (e, zero-case s (pos 0)) (refl, refl)
+abbrev Zeros : SineCosine → Type 0
+Zeros r = (r .sine ≡ fin false 0 (pos 0)) × (r .cosine ≡ fin false 0 (pos 0))
+
+number-far : (s : Bool) (m : ℕ) (e : ℤ) → T (not (leb (m * up e) (limit * down e))) → Zeros (sincos (fin s m e))
+number-far s zero e h = absurd (omega (arith, nleb→lt (zero * up e) (limit * down e) h))
+number-far s (suc m) e h = rw (by-range s m e, is-false (leb (suc m * up e) (limit * down e)) h) (refl, refl)
+
+pub far-case : (x : Float) → T (not (inRange x)) → Zeros (sincos x)
+unfolding inRange sincos lt le eq neg
+far-case nan h = (refl, refl)
+far-case (inf true) h = (refl, refl)
+far-case (inf false) h = (refl, refl)
+far-case (fin s m e) h = number-far s m e h
 
 -- within 2 ^ -22
 pub sincos-near : (x : Float) → T (fits binary32 x) → Rule 22 x (sincos x .sine) (sincos x .cosine)
-sincos-near x F = record { far = far-case x; near = near-case x F; zero-kept = zero-kept' x }
+sincos-near x F = record { far = far-case x; near = near-case x F; zero-kept = λ s e. rw (e, zero-case s (pos 0) (rw e at F)) (refl, refl) }
 
 -- document 01's own bound, 2 ^ -20
 pub sincos-rule : (x : Float) → T (fits binary32 x) → Rule 20 x (sincos x .sine) (sincos x .cosine)
 sincos-rule x F =
-    let r = sincos-near x F in record {
-      far = r .far;
-      near = λ h. (wider 20 (sincos x .sine) _ (r .near h .0), wider 20 (sincos x .cosine) _ (r .near h .1));
-      zero-kept = r .zero-kept;
-    }
+    let r = sincos-near x F in
+    record { far = r .far; near = λ h. (wider 20 (sincos x .sine) _ (r .near h .0), wider 20 (sincos x .cosine) _ (r .near h .1)); zero-kept = r .zero-kept }

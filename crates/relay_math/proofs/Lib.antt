@@ -1,20 +1,13 @@
+-- The proofs: tests and grains of floats, the root, sine and cosine, laws for callers. What a function owes stands in the folder of its name.
 pub mod Tests
-pub mod Squares
 pub mod Grains
 pub mod RootNear
-pub mod RootRead
-pub mod RootUnique
 pub mod Root
-pub mod RootExamples
-pub mod Sizes
 pub mod Round
 pub mod Horner
-pub mod Taylor
 pub mod Fixed
 pub mod AngleNear
-pub mod AngleParts
-pub mod AngleCases
-pub mod Tiny
-pub mod Quadrant
-pub mod Reduction
+pub mod AngleReduction
 pub mod AngleBound
+pub mod Finite
+pub mod Squares

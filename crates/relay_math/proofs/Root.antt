@@ -1,149 +1,225 @@
--- `root` computes the root: `IsRoot x (sqrtf x)` of every f32 x, and so the answer of `sqrtf` is `sqrtf x`. Assumes nothing.
+-- The definition `sqrtf` is the root: `IsRoot x (sqrtf x)` for every f32 x, and of nothing else; and its bit pattern is what the code puts together. Assumes nothing.
 use mathlib.Core.Path.{_≡_, refl, sym, ap, _∙_, subst}
+use mathlib.Core.Logic.{inl, inr}
 use Prim.Native.Nat.{ℕ, zero, suc, _+_, _-_, _*_, _/_, _%_, _^_, _≤_, _<_}
-use native.Mathlib.Nat.{le-trans, le-of-eq, le-of-lt, lt-of-lt-of-le, lt-of-le-of-lt, lt-of-not-le, mul-comm, mul-assoc, mul-mul-mul-comm, mul-le-mul, mul-le-mul-right, mul-lt-mul-of-pos-right, mul-right-comm, le-of-mul-le-mul-right, lt-of-mul-lt-mul-right, mul-div-cancel, mul-pos, suc-mul, mul-suc, one-mul, zero-mul, zero-lt-suc, lt-irrefl, le-add-left, pow-suc, div-lt-iff-lt-mul}
+use native.Mathlib.Nat.{le-trans, le-of-eq, lt-of-lt-of-le, lt-of-not-le, lt-trans, lt-irrefl, not-le-of-lt, eq-zero-or-pos, eq-or-lt-of-le, add-comm, mul-one, mul-assoc, mul-pos, mul-le-mul-right, mul-div-cancel, zero-lt-suc}
 use native.Mathlib.Omega.{arith}
-use mathlib.Core.Bool.{Bool, true, false, not, _&&_, cond}
-use lib.IntN.{ℤ, pos, negsuc}
-use lib.Dec.{T, leb, ltb, eqb, leb→le, nleb→lt, ltb→lt}
+use mathlib.Core.Bool.{true, false, cond}
+use lib.IntN.{ℤ}
+use lib.Dec.{T, ltb, lt→ltb}
+use borrow.Author.Tests.{lt-ltb}
 use lib.Pow.{pow-add, pow-pos, pow-mono, shl-lt}
-use lib.Ieee.{Float, nan, inf, fin, binary32, up, down, size, odd, fits}
-use lib.Ieee.Fits.{and-l, and-r, down-pos, odd-fits}
-use lib.Ieee.Digits.{size-lt, size-le, size-reaches, back}
-use lib.Ieee.Exact.{odd-sign}
+use lib.Count.{leadingZeros, leading-top}
+use lib.Ieee.{Float, nan, inf, fin, binary32, down, size, odd, fits, toBits, ofBits, lt, eq}
+use lib.Ieee.Bits.{ofBits-toBits}
+use lib.Ieee.Fits.{odd-fits}
+use lib.Ieee.Exact.{HasValue, odd-sign}
+use lib.Ieee.Positive.{positive, first-pos}
 use Rattle.relay_math.specs.F32.{grains}
-use Rattle.relay_math.specs.Sqrt.{square, Nearest, Rounds, IsRoot, isqrt, nearestRoot, rootGrains, sqrtf}
-use Rattle.relay_math.proofs.RootNear.{near, digits-low, placed}
-use Rattle.relay_math.proofs.RootRead.{steps-of}
-use Rattle.relay_math.proofs.RootUnique.{unique}
+use Rattle.relay_math.specs.Steps.{Zero}
+use Rattle.relay_math.specs.Sqrt.{natural, square, Nearest, IsRoot, nearestRoot, rootGrains, sqrtf}
+use Rattle.relay_math.proofs.Tests.{no, le-or-lt, of-natural, of-value, zero-is, size-pos, is-above, not-zero}
+use Rattle.relay_math.proofs.Grains.{shift, grains-of, grains-exact, size-of, writes, reads, Digits}
+use Rattle.relay_math.proofs.RootNear.{Closest, closest, digits, near}
 
--- ---- the whole part of a sqrtf
+-- ---- X grains as m * 2 ^ (e - 23), with an m of 24 digits
+pub record Scaled (X m e : ℕ) : Type 0 where
+  pub is : X * 2 ^ 23 ≡ m * 2 ^ e
+  pub low : 2 ^ 23 ≤ m
+  pub high : m < 2 ^ 24
+  pub under : e < 300
 
-abbrev Floor : ℕ → ℕ → Type 0
-Floor n r = (r * r ≤ n) × (n < suc r * suc r)
+-- a pattern b from 2 ^ 23 on has the digits' field and the exponent's
+pub scaled-normal : {n b : ℕ} → Digits n b → 2 ^ 23 ≤ b → Scaled n (b % 2 ^ 23 + 2 ^ 23) (b / 2 ^ 23 + 22)
+scaled-normal {n} {b} w h =
+    let l : 2 ^ 23 ≤ w .q = elim (eq-zero-or-pos (w .k)) [ inl z ↦ omega (arith, w .bits, z) | inr p ↦ w .full p ] in
+    let q : b % 2 ^ 23 + 2 ^ 23 ≡ w .q = omega (arith, w .bits, w .few) in
+    let e : b / 2 ^ 23 + 22 ≡ w .k + 23 = omega (arith, w .bits, w .few) in
+    rw (q, e)
+    record {
+      is = ap (λ (x : ℕ). x * 2 ^ 23) (w .is) ∙ mul-assoc (w .q) (2 ^ w .k) (2 ^ 23) ∙ ap (λ (x : ℕ). w .q * x) (sym (pow-add 2 (w .k) 23));
+      low = l;
+      high = w .few;
+      under = omega (arith, w .under);
+    }
 
-doubled : (a : ℕ) → 2 * a * (2 * a) ≡ 4 * (a * a)
-doubled a = mul-mul-mul-comm 2 a 2 a
+-- one below 2 ^ 23 is the grains themselves, which are shifted up to 24 digits
+pub small-is : {n b : ℕ} → Digits n b → b < 2 ^ 23 → n ≡ b
+small-is {n} {b} w h = let z : w .k ≡ 0 = omega (arith, w .bits) in (rw (z, mul-one (w .q)) at (w .is)) ∙ omega (arith, w .bits, z)
 
-step : (n r : ℕ) → Floor (n / 4) r → Floor n (cond (leb (square (suc (2 * r))) n) (suc (2 * r)) (2 * r))
-step n r (l, h) = go (leb (square (suc (2 * r))) n) (leb→le (square (suc (2 * r))) n) (nleb→lt (square (suc (2 * r))) n)
-  where
-    e : suc (suc (2 * r)) ≡ 2 * suc r
-    e = omega arith
+module _ (b : ℕ) (p : 0 < b) (h : b < 2 ^ 23) where
+  pub zeros : (8 < leadingZeros 32 b) × (leadingZeros 32 b < 32)
+  zeros =
+      let t = leading-top 32 b p (omega arith) in
+      let s : t .0 < 23 = lt-of-not-le (λ (g : 23 ≤ t .0). not-le-of-lt h (le-trans (pow-mono g) (t .2))) in
+      omega arith
 
-    top : suc (suc (2 * r)) * suc (suc (2 * r)) ≡ 4 * (suc r * suc r)
-    top = ap (λ (x : ℕ). x * x) e ∙ doubled (suc r)
-
-    go : (b : Bool) → (T b → square (suc (2 * r)) ≤ n) → (T (not b) → n < square (suc (2 * r))) → Floor n (cond b (suc (2 * r)) (2 * r))
-    go true f g = (f tt, omega (arith, top))
-    go false f g = (omega (arith, doubled r), g tt)
-
-pub floor : (d n : ℕ) → n < 4 ^ d → Floor n (isqrt d n)
-unfolding isqrt
-floor zero n h = omega arith
-floor (suc d) n h = step n (isqrt d (n / 4)) (floor d (n / 4) (div-lt-iff-lt-mul (zero-lt-suc 3) .1 (lt-of-lt-of-le h (le-of-eq (pow-suc 4 d)))))
-
-abbrev Closest : ℕ → ℕ → Type 0
-Closest n r = (r * r < n + r) × (n ≤ r * r + r) × (r ≤ 2 ^ 24)
-
-pub closest : (n : ℕ) → 0 < n → n < 2 ^ 48 → Closest n (nearestRoot n)
-unfolding nearestRoot
-closest n p h = let q = isqrt 24 n in go q (floor 24 n h) (leb n (q * q + q)) (leb→le n (q * q + q)) (nleb→lt n (q * q + q))
-  where
-    go : (q : ℕ) → Floor n q → (b : Bool) → (T b → n ≤ q * q + q) → (T (not b) → q * q + q < n) → Closest n (cond b q (suc q))
-    go q (l, u) true f g =
-        let a : 0 < q = lt-of-not-le (λ (z : q ≤ 0). let y : q * q ≤ 0 * q = mul-le-mul-right q z in omega (arith, zero-mul q, f tt)) in
-        let b : q < 2 ^ 24 = lt-of-not-le (λ (z : 2 ^ 24 ≤ q). let y : 2 ^ 24 * 2 ^ 24 ≤ q * q = mul-le-mul z z in omega arith) in
-        (omega arith, f tt, le-of-lt b)
-    go q (l, u) false f g =
-        let b : q < 2 ^ 24 = lt-of-not-le (λ (z : 2 ^ 24 ≤ q). let y : 2 ^ 24 * 2 ^ 24 ≤ q * q = mul-le-mul z z in omega arith) in
-        let w : suc q * suc q ≡ q * q + q + q + 1 = suc-mul q (suc q) ∙ ap (λ (x : ℕ). x + suc q) (mul-suc q q) ∙ sum (q * q) q in
-        (omega (arith, g tt), omega arith, b)
-      where
-        sum : (a b : ℕ) → a + b + suc b ≡ a + b + b + 1
-        sum a b = omega arith
-
--- ---- N = M * 2 ^ J, cut to 47 or 48 digits
-
-pow-lt-back : (i p : ℕ) → 2 ^ i < 2 ^ p → i < p
-pow-lt-back i p h = lt-of-not-le (λ (g : p ≤ i). lt-irrefl (2 ^ i) (lt-of-lt-of-le h (pow-mono g)))
-
-abbrev cut : ℕ → ℕ
-cut N = (size N - 47) / 2
-
-pub record Cut (N n : ℕ) : Type 0 where
-  pub is : N / (2 ^ cut N * 2 ^ cut N) ≡ n
-  pub from : N ≡ n * (2 ^ cut N * 2 ^ cut N)
-  pub least : 2 ^ 46 ≤ n
-  pub most : n < 2 ^ 48
-  pub few : cut N < 190
-
-module _ (N M J : ℕ) (e : N ≡ M * 2 ^ J) (some : 0 < M) (m : M < 2 ^ 24) (j : 149 ≤ J) (top : N < 2 ^ 426) where
-  big : 149 < size N
-  big = pow-lt-back 149 (size N) (lt-of-le-of-lt (le-trans (pow-mono j) (le-trans (le-of-eq (sym (one-mul (2 ^ J)))) (le-trans (mul-le-mul-right (2 ^ J) some) (le-of-eq (sym e))))) (size-lt N))
-
-  wide : size N ≤ 24 + J
-  wide = size-le N (24 + J) (lt-of-le-of-lt (le-of-eq e) (shl-lt 24 J m))
-
-  whole : (a : ℕ) → 2 ^ a * (2 ^ cut N * 2 ^ cut N) ≡ 2 ^ (a + (cut N + cut N))
-  whole a = ap (λ (x : ℕ). 2 ^ a * x) (sym (pow-add 2 (cut N) (cut N))) ∙ sym (pow-add 2 a (cut N + cut N))
-
-  pos-cut : 0 < 2 ^ cut N * 2 ^ cut N
-  pos-cut = mul-pos (pow-pos (cut N)) (pow-pos (cut N))
-
-  from : N ≡ M * 2 ^ (J - (cut N + cut N)) * (2 ^ cut N * 2 ^ cut N)
-  from =
-      let l : J ≡ J - (cut N + cut N) + (cut N + cut N) = omega (arith, big, wide) in
-      e ∙ ap (λ (x : ℕ). M * 2 ^ x) l ∙ ap (λ (x : ℕ). M * x) (sym (whole (J - (cut N + cut N)))) ∙ sym (mul-assoc M (2 ^ (J - (cut N + cut N))) (2 ^ cut N * 2 ^ cut N))
-
-  pub cut-to : Cut N (M * 2 ^ (J - (cut N + cut N)))
-  cut-to =
-      let lo : 46 + (cut N + cut N) < size N = omega (arith, big) in
-      let hi : size N ≤ 48 + (cut N + cut N) = omega (arith, big) in
-      let cap : size N ≤ 426 = size-le N 426 top in record {
-        is = ap (λ (x : ℕ). x / (2 ^ cut N * 2 ^ cut N)) from ∙ mul-div-cancel (M * 2 ^ (J - (cut N + cut N))) pos-cut;
-        from = from;
-        least = le-of-mul-le-mul-right (le-trans (le-of-eq (whole 46)) (le-trans (size-reaches N (46 + (cut N + cut N)) lo) (le-of-eq from))) pos-cut;
-        most = lt-of-mul-lt-mul-right (2 ^ cut N * 2 ^ cut N) (lt-of-le-of-lt (le-of-eq (sym from)) (lt-of-lt-of-le (size-lt N) (le-trans (pow-mono hi) (le-of-eq (sym (whole 48))))));
-        few = omega arith;
+  pub scaled-small : Scaled b (b * 2 ^ (leadingZeros 32 b - 8)) (31 - leadingZeros 32 b)
+  scaled-small =
+      let t = leading-top 32 b p (omega arith) in
+      let j = t .0 in
+      let i : leadingZeros 32 b - 8 ≡ 23 - j = omega (arith, zeros) in
+      let e : 31 - leadingZeros 32 b ≡ j = omega (arith, zeros) in
+      let s : j + (23 - j) ≡ 23 = omega (arith, zeros) in
+      let r : suc j + (23 - j) ≡ 24 = omega (arith, zeros) in
+      rw (i, e)
+      record {
+        is = shift b 23 j (omega (arith, zeros));
+        low = le-trans (le-of-eq (ap (λ (x : ℕ). 2 ^ x) (sym s) ∙ pow-add 2 j (23 - j))) (mul-le-mul-right (2 ^ (23 - j)) (t .2));
+        high = lt-of-lt-of-le (shl-lt (suc j) (23 - j) (t .3)) (le-of-eq (ap (λ (x : ℕ). 2 ^ x) r));
+        under = omega (arith, zeros);
       }
 
--- ---- the sqrtf of a positive number
+-- ---- the root of X * 2 ^ 149 = n * 4 ^ k, with an n of 47 or 48 digits
+abbrev pub half : ℕ → ℕ
+half e = (e + 103) / 2
 
-root-near : (x : Float) (N n : ℕ) → grains x * 2 ^ 149 ≡ N → Cut N n → Nearest x (rootGrains N)
-unfolding rootGrains
-root-near x N n e c =
-    let k = cut N in
-    let q = nearestRoot n in
-    let p : 0 < n = omega (arith, c .least) in
-    let w = closest n p (c .most) in
-    let q' = nearestRoot (N / (2 ^ k * 2 ^ k)) in
-    let s : q' ≡ q = ap nearestRoot (c .is) in
-    let f : q < 2 ^ 25 = omega (arith, w .2) in
-    let v = steps-of (odd 25 false q k 149) (q * 2 ^ k) (odd-sign 25 false q k 149) in
-    let g : 25 + k ≤ 277 = omega (arith, c .few) in
-    subst (λ (a : ℕ). Nearest x (odd 25 false a k 149)) (sym s)
-    (near (grains x) k q n x (odd 25 false q k 149)
-    (record { low = digits-low n q (c .least) (w .1); from = e ∙ c .from; least = c .least; under = w .0; over = w .1 })
-    refl (v .0)
-    (odd-fits binary32 25 false q k f (w .2) (lt-of-lt-of-le (shl-lt 25 k f) (pow-mono g)))
-    (v .1))
+abbrev pub under : ℕ → ℕ → ℕ
+under m e = m * 2 ^ (23 + (e + 103) % 2)
 
-pub root-is : (x : Float) → T (fits binary32 x) → IsRoot x (sqrtf x)
+pub under-size : (m c : ℕ) → 2 ^ 23 ≤ m → m < 2 ^ 24 → c < 2 → (2 ^ 46 ≤ m * 2 ^ (23 + c)) × (m * 2 ^ (23 + c) ≤ 2 ^ 48 - 2 ^ 24)
+under-size m zero l h s = omega arith
+under-size m (suc zero) l h s = omega arith
+under-size m (suc (suc c)) l h s = omega arith
+
+module _ (X m e : ℕ) (w : Scaled X m e) where
+  whole : X * 2 ^ 149 ≡ m * 2 ^ (e + 126)
+  whole = sym (mul-assoc X (2 ^ 23) (2 ^ 126)) ∙ ap (λ (x : ℕ). x * 2 ^ 126) (w .is) ∙ mul-assoc m (2 ^ e) (2 ^ 126) ∙ ap (λ (x : ℕ). m * x) (sym (pow-add 2 e 126))
+
+  from : X * 2 ^ 149 ≡ under m e * (2 ^ half e * 2 ^ half e)
+  from =
+      let s : e + 126 ≡ 23 + (e + 103) % 2 + (half e + half e) = omega arith in
+      whole ∙ ap (λ (x : ℕ). m * 2 ^ x) s ∙ rw (pow-add, pow-add 2 (half e) (half e)) (sym (mul-assoc m (2 ^ (23 + (e + 103) % 2)) (2 ^ half e * 2 ^ half e)))
+
+  bounds : (2 ^ 46 ≤ under m e) × (under m e ≤ 2 ^ 48 - 2 ^ 24)
+  bounds = under-size m ((e + 103) % 2) (w .low) (w .high) (omega arith)
+
+  pub near-root : Closest (under m e) (nearestRoot (under m e))
+  near-root = closest (under m e) (omega (arith, bounds)) (omega (arith, bounds))
+
+  ends : (2 ^ 23 ≤ nearestRoot (under m e)) × (nearestRoot (under m e) < 2 ^ 24)
+  ends = digits (under m e) (nearestRoot (under m e)) (bounds .0) (bounds .1) near-root
+
+  root-is : rootGrains (X * 2 ^ 149) ≡ odd 25 false (nearestRoot (under m e)) (half e) 149
+  unfolding rootGrains
+  root-is =
+      let s : size (X * 2 ^ 149) ≡ 24 + (e + 126) = ap size whole ∙ size-of m (e + 126) (w .low) (w .high) in
+      let k : (size (X * 2 ^ 149) - 47) / 2 ≡ half e = rw s (omega arith) in
+      rw k (ap (λ (x : ℕ). odd 25 false (nearestRoot (x / (2 ^ half e * 2 ^ half e))) (half e) 149) from
+      ∙ ap (λ (x : ℕ). odd 25 false (nearestRoot x) (half e) 149) (mul-div-cancel (under m e) (mul-pos (pow-pos (half e)) (pow-pos (half e)))))
+
+  value : HasValue (rootGrains (X * 2 ^ 149)) false (nearestRoot (under m e) * 2 ^ half e) (2 ^ 149)
+  value = rw root-is (odd-sign 25 false (nearestRoot (under m e)) (half e) 149)
+
+  root-fits : T (fits binary32 (rootGrains (X * 2 ^ 149)))
+  root-fits =
+      let k = half e in
+      let q = nearestRoot (under m e) in
+      let f : q < 2 ^ 25 = omega (arith, ends) in
+      rw root-is (odd-fits binary32 25 false q k f (omega (arith, ends)) (lt-of-lt-of-le (shl-lt 25 k f) (pow-mono {i = 25 + k} {j = 277} (omega (arith, w .under)))))
+
+  pub root-read : ofBits binary32 (half e * 2 ^ 23 + nearestRoot (under m e)) ≡ rootGrains (X * 2 ^ 149)
+  root-read = rw (← writes (rootGrains (X * 2 ^ 149)) (nearestRoot (under m e)) (half e) value (ends .0) (ends .1)) (ofBits-toBits binary32 (rootGrains (X * 2 ^ 149)) root-fits)
+
+  pub root-near : (x : Float) → grains x ≡ X → Nearest x (rootGrains (X * 2 ^ 149))
+  root-near x g =
+      near x (rootGrains (X * 2 ^ 149)) (half e) (nearestRoot (under m e)) (under m e) (rw g from) (bounds .0) (bounds .1) near-root (grains-of _ false (nearestRoot (under m e) * 2 ^ half e) value) root-fits
+      (of-value (λ (r : Float). T (natural r)) (nearestRoot (under m e) * 2 ^ half e) (2 ^ 149) (λ i j v. tt) (rootGrains (X * 2 ^ 149)) value)
+
+-- ---- every f32
+pub bits-pos : (m : ℕ) (e : ℤ) → T (fits binary32 (fin false (suc m) e)) → 0 < toBits binary32 (fin false (suc m) e)
+bits-pos m e f =
+    let d = reads (suc m) e f in
+    let p : 0 < grains (fin false (suc m) e) = first-pos _ (down e) (rw (grains-exact false (suc m) e f) at (mul-pos (size-pos m e) (pow-pos 149))) in
+    let q : 0 < d .q = first-pos (d .q) (2 ^ d .k) (rw (d .is) at p) in
+    omega (arith, d .bits)
+
+scaled : (m : ℕ) (e : ℤ) → T (fits binary32 (fin false (suc m) e)) → (M : ℕ) × (E : ℕ) × Scaled (grains (fin false (suc m) e)) M E
+scaled m e f =
+    let b = toBits binary32 (fin false (suc m) e) in
+    let d = reads (suc m) e f in
+    elim (le-or-lt (2 ^ 23) b) [
+      | inl h ↦ (b % 2 ^ 23 + 2 ^ 23, b / 2 ^ 23 + 22, scaled-normal d h)
+      | inr h ↦ (b * 2 ^ (leadingZeros 32 b - 8), 31 - leadingZeros 32 b, rw (small-is d h) (scaled-small b (bits-pos m e f) h))
+    ]
+
+pub is-root : (x : Float) → T (fits binary32 x) → IsRoot x (sqrtf x)
 unfolding sqrtf
-root-is nan t = refl
-root-is (inf true) t = refl
-root-is (inf false) t = refl
-root-is (fin s zero e) t = refl
-root-is (fin true (suc m) e) t = refl
-root-is (fin false (suc m) e) t =
-    let g = placed m e t in
-    let X = grains (fin false (suc m) e) in
-    let j = g .0 in
-    let N : X * 2 ^ 149 ≡ suc m * 2 ^ (j + 149) = ap (λ (a : ℕ). a * 2 ^ 149) (g .2) ∙ mul-assoc (suc m) (2 ^ j) (2 ^ 149) ∙ ap (λ (a : ℕ). suc m * a) (sym (pow-add 2 j 149)) in
-    let top : X * 2 ^ 149 < 2 ^ 426 = shl-lt 277 149 (g .3) in
-    root-near (fin false (suc m) e) (X * 2 ^ 149) _ refl (cut-to (X * 2 ^ 149) (suc m) (j + 149) N (zero-lt-suc m) (g .1) (le-add-left 149 j) top)
+is-root nan f = refl
+is-root (inf true) f = refl
+is-root (inf false) f = refl
+is-root (fin s zero e) f = refl
+is-root (fin true (suc m) e) f = refl
+is-root (fin false (suc m) e) f = let t = scaled m e f in root-near (grains (fin false (suc m) e)) (t .0) (t .1) (t .2) (fin false (suc m) e) refl
 
--- so what `IsRoot` says is one value
-pub is-root : (x r : Float) → T (fits binary32 x) → IsRoot x r → r ≡ sqrtf x
-is-root x r t h = unique x r (sqrtf x) h (root-is x t)
+-- ---- and no other value is. The bits of a number that is not below zero are made of its grains.
+same-bits : (r t : Float) → T (natural r) → T (natural t) → grains r ≡ grains t → toBits binary32 r ≡ toBits binary32 t
+unfolding toBits grains
+same-bits r t p q =
+    of-natural (λ (r : Float). grains r ≡ grains t → toBits binary32 r ≡ toBits binary32 t)
+    (λ m d. of-natural (λ (t : Float). grains (fin false m d) ≡ grains t → toBits binary32 (fin false m d) ≡ toBits binary32 t) (λ n c e. rw e) t q) r p
+
+-- of two nearest values the smaller would have √x below the middle of both and above it
+apart : (x r t : Float) → Nearest x r → Nearest x t → grains r < grains t → ⊥
+apart x r t a b h = lt-irrefl _ (lt-trans (a .above t (b .holds) (b .number) h) (rw (add-comm (grains t) (grains r)) at (b .below r (a .holds) (a .number) h)))
+
+nearest-unique : (x r t : Float) → Nearest x r → Nearest x t → r ≡ t
+nearest-unique x r t a b =
+    let i : grains t < suc (grains r) = lt-of-not-le (apart x r t a b) in
+    let j : grains r < suc (grains t) = lt-of-not-le (apart x t r b a) in
+    sym (ofBits-toBits binary32 r (a .holds)) ∙ ap (ofBits binary32) (same-bits r t (a .number) (b .number) (omega arith)) ∙ ofBits-toBits binary32 t (b .holds)
+
+pub unique : (x r t : Float) → IsRoot x r → IsRoot x t → r ≡ t
+unique nan r t a b = a ∙ sym b
+unique (inf true) r t a b = a ∙ sym b
+unique (inf false) r t a b = a ∙ sym b
+unique (fin s zero e) r t a b = a ∙ sym b
+unique (fin true (suc m) e) r t a b = a ∙ sym b
+unique (fin false (suc m) e) r t a b = nearest-unique (fin false (suc m) e) r t a b
+
+-- document 01: "ties to even". √x is never the middle of the nearest r and another f32 y, so the rule has nothing to decide.
+pub ties-never-occur : (x r y : Float) → Nearest x r → T (fits binary32 y) → T (natural y) → (grains r ≡ grains y → ⊥) → square (grains r + grains y) ≡ 4 * (grains x * 2 ^ 149) → ⊥
+ties-never-occur x r y a f p d e = elim (le-or-lt (grains r) (grains y)) [
+  | inl h ↦ elim (eq-or-lt-of-le h) [ inl i ↦ d i | inr i ↦ lt-irrefl _ (rw e at (a .above y f p i)) ]
+  | inr h ↦ lt-irrefl _ (rw e at (a .below y f p h))
+]
+
+-- ---- by the tests of the code
+pub bits-under : (m : ℕ) (e : ℤ) → T (fits binary32 (fin false m e)) → toBits binary32 (fin false m e) < 255 * 2 ^ 23
+bits-under m e f = let d = reads m e f in omega (arith, d .bits, d .few, d .under)
+
+inf-bits : toBits binary32 (inf false) ≡ 255 * 2 ^ 23
+unfolding toBits
+inf-bits = refl
+
+abbrev pub byTests : Float → Float
+byTests x = cond (lt Zero x) (cond (ltb (toBits binary32 x) (255 * 2 ^ 23)) (sqrtf x) x) (cond (eq x Zero) x nan)
+
+pub by-tests : (x : Float) → T (fits binary32 x) → byTests x ≡ sqrtf x
+unfolding lt eq sqrtf
+by-tests nan f = refl
+by-tests (inf true) f = refl
+by-tests (inf false) f = rw inf-bits
+by-tests (fin true zero e) f = subst (λ (x : Float). byTests x ≡ sqrtf x) (sym (zero-is true e f)) refl
+by-tests (fin false zero e) f = subst (λ (x : Float). byTests x ≡ sqrtf x) (sym (zero-is false e f)) refl
+by-tests (fin true (suc m) e) f = rw (not-zero m e true)
+by-tests (fin false (suc m) e) f = rw (is-above m e false, lt-ltb _ _ (bits-under (suc m) e f))
+
+-- `x > 0.0` and a pattern below the infinity's: x is positive, and the pattern not 0
+pub above : (x : Float) → T (fits binary32 x) → lt Zero x ≡ true → toBits binary32 x < 255 * 2 ^ 23 → T (positive x) × (0 < toBits binary32 x)
+unfolding lt
+above nan f t h = no t
+above (inf true) f t h = no t
+above (inf false) f t h = absurd (lt-irrefl _ (rw inf-bits at h))
+above (fin true m e) f t h = no t
+above (fin false zero e) f t h = no (subst (λ (x : Float). lt Zero x ≡ true) (zero-is false e f) t)
+above (fin false (suc m) e) f t h = (lt→ltb 0 (suc m) (zero-lt-suc m), bits-pos m e f)
+
+-- ---- roots that the definition computes, as bit patterns: of 2, 4, the least and the largest f32, -0 and -1
+abbrev root : ℕ → ℕ
+root b = toBits binary32 (sqrtf (ofBits binary32 b))
+
+pub roots : (root 0x4000_0000 ≡ 0x3fb5_04f3) × (root 0x4080_0000 ≡ 0x4000_0000) × (root 0x0000_0001 ≡ 0x1a35_04f3)
+    × (root 0x7f7f_ffff ≡ 0x5f7f_ffff) × (root 0x8000_0000 ≡ 0x8000_0000) × (root 0xbf80_0000 ≡ 0x7fc0_0000)
+unfolding sqrtf ofBits toBits grains
+roots = (refl, refl, refl, refl, refl, refl)

@@ -1,14 +1,87 @@
--- Small steps with tests: a false one proves anything, and what owning an f32 tells. Assumes nothing.
+-- Tests as facts: a true one, a false one, an order of two numbers, and the tests of a float against zero. Assumes nothing.
 use mathlib.Core.Path.{_≡_, refl, sym, subst}
-use mathlib.Core.Bool.{Bool, true, false, _&&_, true≢false}
-use lib.Dec.{T}
-
-pub no : {X : Type 0} → false ≡ true → X
-no e = absurd (true≢false (sym e))
+use mathlib.Core.Logic.{_⊎_, inl, inr}
+use mathlib.Core.Bool.{Bool, true, false, not, _&&_, _||_, true≢false}
+use Prim.Native.Nat.{ℕ, zero, suc, _+_, _*_, _≤_, _<_}
+use native.Mathlib.Nat.{le-of-eq, le-of-lt, eq-or-lt-of-le, mul-pos, zero-lt-suc}
+use native.Mathlib.Omega.{arith}
+use borrow.Author.Tests.{leb-true, leb-false, le-leb, lt-leb, lt-ltb, le-ltb, eq-eqb, ne-eqb}
+use lib.IntN.{ℤ, pos}
+use lib.Dec.{T, leb, ltb, eqb}
+use lib.Ieee.{Float, nan, inf, fin, binary32, fits, isNan, up, down, lt, eq}
+use lib.Ieee.Back.{whole-unique}
+use lib.Ieee.Exact.{HasValue}
+use lib.Ieee.Fits.{up-pos}
+use lib.Ieee.Positive.{positive}
+use Rattle.relay_math.specs.Sqrt.{natural}
+use Rattle.relay_math.specs.Steps.{Zero}
 
 pub held : {b : Bool} → b ≡ true → T b
 held e = subst T (sym e) tt
 
-pub first : (x y : Bool) → (x && y) ≡ true → x ≡ true
-first true y e = refl
-first false y e = no e
+pub no : {X : Type 0} → false ≡ true → X
+no e = absurd (true≢false (sym e))
+
+pub le-or-lt : (a b : ℕ) → (a ≤ b) ⊎ (b < a)
+le-or-lt a b = go (leb a b) refl
+  where
+    go : (t : Bool) → leb a b ≡ t → (a ≤ b) ⊎ (b < a)
+    go true e = inl (leb-true a b e)
+    go false e = inr (leb-false a b e)
+
+-- `<` or `==`, as `le` has them
+pub ordered : (a b : ℕ) → (ltb a b || (eqb a b && true)) ≡ leb a b
+ordered a b = elim (le-or-lt a b) [
+  | inl h ↦ elim (eq-or-lt-of-le h) [ inl e ↦ rw (le-ltb a b (le-of-eq (sym e)), eq-eqb a b e, le-leb a b h) | inr l ↦ rw (lt-ltb a b l, le-leb a b h) ]
+  | inr h ↦ rw (le-ltb a b (le-of-lt h), ne-eqb a b (λ e. omega (arith, h, e)), lt-leb a b h)
+]
+
+-- ---- a float against zero: a zero is written in one way, and another number is on the side of its sign
+
+pub zero-is : (s : Bool) (e : ℤ) → T (fits binary32 (fin s 0 e)) → fin s 0 e ≡ fin s 0 (pos 0)
+unfolding fits
+zero-is s e f = whole-unique binary32 (fin s 0 e) (fin s 0 (pos 0)) s 0 f tt (refl, omega arith) (refl, refl)
+
+module _ (m : ℕ) (e : ℤ) where
+  pub size-pos : 0 < suc m * up e
+  size-pos = mul-pos (zero-lt-suc m) (up-pos e)
+
+  pub is-below : (s : Bool) → lt (fin s (suc m) e) Zero ≡ s
+  unfolding lt
+  is-below true = lt-ltb 0 (suc m * up e * 1 + 0 * down e) (omega (arith, size-pos))
+  is-below false = le-ltb (suc m * up e * 1) (0 * down e) (omega arith)
+
+  pub is-above : (s : Bool) → lt Zero (fin s (suc m) e) ≡ not s
+  unfolding lt
+  is-above true = refl
+  is-above false = lt-ltb (0 * down e) (suc m * up e * 1) (omega (arith, size-pos))
+
+  pub not-zero : (s : Bool) → eq (fin s (suc m) e) Zero ≡ false
+  unfolding eq
+  not-zero s = rw (ne-eqb (suc m * up e * 1) (0 * down e) (λ z. omega (arith, size-pos, z)))
+
+pub not-nan : (x : Float) → lt Zero x ≡ true → T (not (isNan x))
+unfolding lt isNan
+not-nan nan t = no t
+not-nan (inf s) t = tt
+not-nan (fin s m e) t = tt
+
+-- ---- what a float is written as: one that is not below zero, one of the value a / c, a positive one
+pub of-natural : (P : Float → Type 0) → ((m : ℕ) (e : ℤ) → P (fin false m e)) → (x : Float) → T (natural x) → P x
+of-natural P h nan p = absurd p
+of-natural P h (inf s) p = absurd p
+of-natural P h (fin true m e) p = absurd p
+of-natural P h (fin false m e) p = h m e
+
+pub of-positive : (P : Float → Type 0) → ((m : ℕ) (e : ℤ) → T (fits binary32 (fin false (suc m) e)) → P (fin false (suc m) e)) → (x : Float) → T (fits binary32 x) → T (positive x) → P x
+of-positive P h nan f p = absurd p
+of-positive P h (inf s) f p = absurd p
+of-positive P h (fin true m e) f p = absurd p
+of-positive P h (fin false zero e) f p = absurd p
+of-positive P h (fin false (suc m) e) f p = h m e f
+
+pub of-value : (P : Float → Type 0) (a c : ℕ) → ((m : ℕ) (e : ℤ) → HasValue (fin false m e) false a c → P (fin false m e)) → (x : Float) → HasValue x false a c → P x
+of-value P a c h nan v = absurd v
+of-value P a c h (inf s) v = absurd v
+of-value P a c h (fin true m e) v = absurd (true≢false (v .0))
+of-value P a c h (fin false m e) v = h m e v

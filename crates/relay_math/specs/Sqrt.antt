@@ -1,5 +1,5 @@
 -- The square root of IEEE 754 at binary32, rounded to nearest. Definitions only.
-use Prim.Native.Nat.{ℕ, zero, suc, _+_, _*_, _/_, _%_, _-_, _^_, _≤_, _<_}
+use Prim.Native.Nat.{ℕ, zero, suc, _+_, _*_, _/_, _-_, _^_, _<_}
 use mathlib.Core.Path.{_≡_}
 use mathlib.Core.Bool.{Bool, true, false, cond}
 use lib.Dec.{T, leb}
@@ -59,31 +59,3 @@ sqrtf (inf false) = inf false
 sqrtf (fin s zero e) = fin s zero e
 sqrtf (fin true (suc m) e) = nan
 sqrtf (fin false (suc m) e) = rootGrains (grains (fin false (suc m) e) * 2 ^ 149)
-
--- ---- for the functions below `sqrtf`
-
--- r * 2 ^ k grains is the rounded root of X grains, r having 24 digits or being 2 ^ 24: X * 2 ^ 149 is n with 2 k zeros after it, and r is the whole number nearest to the root of n.
-pub record Rounds (X k r n : ℕ) : Type 0 where
-  pub low : 2 ^ 23 ≤ r
-  pub from : X * 2 ^ 149 ≡ n * (2 ^ k * 2 ^ k)
-  pub least : 2 ^ 46 ≤ n
-  pub under : r * r < n + r
-  pub over : n ≤ r * r + r
-
--- the pattern `out` is that of the rounded root of X grains
-pub record Rooted (X out : ℕ) : Type 0 where
-  pub k : ℕ
-  pub r : ℕ
-  pub n : ℕ
-  pub bits : out ≡ k * 2 ^ 23 + r
-  pub small : k < 254
-  pub high : r < 2 ^ 24
-  pub rounds : Rounds X k r n
-
--- the pattern b's number of grains, times 2 ^ 23, is m * 2 ^ e with an m of 24 digits
-pub record DigitsOf (b m e : ℕ) : Type 0 where
-  pub low : 2 ^ 23 ≤ m
-  pub high : m < 2 ^ 24
-  pub few : e < 300
-  pub small : b < 2 ^ 23 → b * 2 ^ 23 ≡ m * 2 ^ e
-  pub normal : 2 ^ 23 ≤ b → (b % 2 ^ 23 + 2 ^ 23) * 2 ^ (b / 2 ^ 23 - 1) * 2 ^ 23 ≡ m * 2 ^ e

@@ -1,7 +1,11 @@
 // The square root of an f32, as IEEE 754 has it.
-ghost use Prim.Native.Nat.{ℕ, _+_, _-_, _*_, _/_, _%_, _^_, _<_, _≤_};
+ghost use Prim.Native.Nat.{ℕ, _+_, _*_, _^_, _<_, _≤_};
 ghost use mathlib.Core.Path.{_≡_};
-ghost use Rattle.relay_math.specs.Sqrt.{IsRoot, sqrtf, Rooted, DigitsOf};
+ghost use lib.Dec.{T};
+ghost use lib.Ieee.{Float, binary32, fits, ofBits, toBits};
+ghost use lib.Ieee.Positive.{positive};
+ghost use Rattle.relay_math.specs.Sqrt.{IsRoot, rootGrains, sqrtf};
+ghost use Rattle.relay_math.specs.F32.{grains};
 use crate::angles::part_of;
 use crate::reciprocal::line;
 
@@ -53,10 +57,11 @@ fn nearest_root(n: u64) -> u64
     search(n, r)
 }
 
-// The pattern of the root of m * 2^(e - 172), for an m of 24 digits.
+// The pattern of the root of m * 2^(e - 172), for an m of 24 digits: of x grains, where x * 2^23 is m * 2^e.
 fn root_bits(m: u64, e: u32) -> u32
     requires { ⌜ (2 ^ 23 ≤ m) × (m < 2 ^ 24) × (e < 300) ⌝ }
-    ensures { λ r. ⌜ ((x : ℕ) → x * 2 ^ 23 ≡ m * 2 ^ e → Rooted x r) ⌝ }
+    ensures is { λ r. ⌜ ((x : ℕ) → x * 2 ^ 23 ≡ m * 2 ^ e → ofBits binary32 r ≡ rootGrains (x * 2 ^ 149)) ⌝ }
+    ensures finite { λ r. ⌜ r < 255 * 2 ^ 23 ⌝ }
 {
     let h = e + 103;
     h / 2 * 8388608 + (nearest_root(m << (23 + h % 2)) as u32)
@@ -71,7 +76,8 @@ struct Parts {
 // The number that the pattern b has, with an m of 24 digits: a subnormal one is shifted up.
 fn digits(b: u32) -> Parts
     requires { ⌜ (0 < b) × (b < 255 * 2 ^ 23) ⌝ }
-    ensures { λ d. ⌜ DigitsOf b (d .m) (d .e) ⌝ }
+    ensures sized { λ d. ⌜ (2 ^ 23 ≤ d .m) × (d .m < 2 ^ 24) × (d .e < 300) ⌝ }
+    ensures is { λ d. ⌜ ((x : Float) → T (fits binary32 x) → T (positive x) → toBits binary32 x ≡ b → grains x * 2 ^ 23 ≡ d .m * 2 ^ d .e) ⌝ }
 {
     if b < 8388608 {
         let z = u32::leading_zeros(b);
@@ -90,7 +96,8 @@ fn digits(b: u32) -> Parts
 // The pattern of the root of the number that the pattern b has.
 fn positive_root(b: u32) -> u32
     requires { ⌜ (0 < b) × (b < 255 * 2 ^ 23) ⌝ }
-    ensures { λ r. ⌜ (b < 2 ^ 23 → Rooted b r) × (2 ^ 23 ≤ b → Rooted ((b % 2 ^ 23 + 2 ^ 23) * 2 ^ (b / 2 ^ 23 - 1)) r) ⌝ }
+    ensures is { λ r. ⌜ ((x : Float) → T (fits binary32 x) → T (positive x) → toBits binary32 x ≡ b → ofBits binary32 r ≡ sqrtf x) ⌝ }
+    ensures finite { λ r. ⌜ r < 255 * 2 ^ 23 ⌝ }
 {
     let d = digits(b);
     root_bits(d.m, d.e)

@@ -11,8 +11,7 @@ use lib.Ieee.Fits.{down-pos, up-pos}
 use lib.Ieee.Exact.{HasValue, round-exact}
 use lib.Ieee.Order.{round-mono, le-of-values}
 use Rattle.relay_math.specs.F32.{_⊕_, _⊗_, 0·0, isFinite}
-use Rattle.relay_math.proofs.RootNear.{placed}
-use Rattle.relay_math.proofs.Grains.{steps-exact}
+use Rattle.relay_math.proofs.Grains.{grains-of, placed, grains-under}
 use Rattle.relay_traj.proofs.Order.{le-trans, both-zero, first-zero, nothing-of, signs-apart, pick}
 
 near : (u : ℕ) → nearest 0 (compare 0 u) ≡ 0
@@ -34,8 +33,9 @@ round-not-below a c C =
 pub own : (m : ℕ) (e : ℤ) → T (fits binary32 (fin false m e)) → HasValue (round binary32 false (m * up e) (down e)) false (m * up e) (down e)
 own zero e f = round-exact binary32 false (0 * up e) (down e) 0 0 (down-pos e) (lit< tt) (lit< tt) (ap (λ (x : ℕ). x * 2 ^ 149) (zero-mul (up e)) ∙ sym (zero-mul (down e)))
 own (suc m) e f =
-    let p = placed m e f in
-    round-exact binary32 false (suc m * up e) (down e) (suc m) (p .0) (down-pos e) (p .1) (subst (λ (g : ℕ). g < 2 ^ 277) (p .2) (p .3)) (steps-exact false (suc m) e f .1 ∙ ap (λ (g : ℕ). g * down e) (p .2))
+    let p = placed false (suc m) e f in
+    let g = grains-of (fin false (suc m) e) false (suc m * 2 ^ p .0) (refl, p .2) in
+    round-exact binary32 false (suc m * up e) (down e) (suc m) (p .0) (down-pos e) (p .1) (subst (λ (x : ℕ). x < 2 ^ 277) g (grains-under false (suc m) e f)) (p .2)
 
 -- so a fraction that is no less rounds to no less
 pub round-above : (m : ℕ) (e : ℤ) (a c : ℕ) → T (fits binary32 (fin false m e)) → 0 < c → m * up e * c ≤ a * down e → T (le (fin false m e) (round binary32 false a c))

@@ -12,7 +12,7 @@ use lib.Ieee.Fits.{down-pos, round-fits, and-i, eq→eqb}
 use lib.Ieee.Bits.{ofBits-toBits}
 use lib.Ieee.Exact.{HasValue}
 use Rattle.relay_math.specs.F32.{_⊕_, _⊗_, 0·0, isFinite, grains}
-use Rattle.relay_math.proofs.Grains.{steps-exact}
+use Rattle.relay_math.proofs.Grains.{grains-exact}
 use Rattle.relay_traj.specs.Governor.{unsigned}
 use Rattle.relay_traj.proofs.Order.{or-r, nothing-of, pick}
 use Rattle.relay_traj.proofs.Sums.{round-zero, own, not-below}
@@ -22,7 +22,7 @@ grains-of : (m : ℕ) (e : ℤ) (a c : ℕ) → T (fits binary32 (fin false m e)
 grains-of m e a c f h =
     let g = grains (fin false m e) in
     eq-of-mul-eq-mul-right (down e) (down-pos e) (g * c) (a * 2 ^ 149)
-    (mul-right-comm g c (down e) ∙ ap (λ (z : ℕ). z * c) (sym (steps-exact false m e f .1)) ∙ mul-right-comm (m * up e) (2 ^ 149) c ∙ ap (λ (z : ℕ). z * 2 ^ 149) h ∙ mul-right-comm a (down e) (2 ^ 149))
+    (mul-right-comm g c (down e) ∙ ap (λ (z : ℕ). z * c) (sym (grains-exact false m e f)) ∙ mul-right-comm (m * up e) (2 ^ 149) c ∙ ap (λ (z : ℕ). z * 2 ^ 149) h ∙ mul-right-comm a (down e) (2 ^ 149))
 
 same-bits : (m : ℕ) (e : ℤ) (n : ℕ) (d : ℤ) → grains (fin false m e) ≡ grains (fin false n d) → toBits binary32 (fin false m e) ≡ toBits binary32 (fin false n d)
 unfolding toBits grains

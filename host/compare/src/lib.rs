@@ -1,8 +1,13 @@
 //! Comparisons of the proved routines with what they are to equal.
 
 pub mod exact;
+pub mod generate;
 pub mod numbers;
 pub mod progress;
+pub mod routine;
+pub mod runs;
+pub mod table;
+pub mod words;
 
 /// Equal bits, all NaNs counted alike.
 pub fn same(a: f32, b: f32) -> bool {

@@ -1,5 +1,62 @@
 //! The proved archives as safe Rust functions: `fosavalo` is what a simulator links, `probe` is the test face.
 //! Nothing checks these declarations against the Rattle source but the tests that call them.
+//!
+//! The numbers of relay_math stand here; `geo`, `traj`, `adrc` and `pos` have the calls of those crates, a method `f` of a
+//! type `T` as `t_f`.
+
+/// Declares calls of the archive `probe`, each with a safe function of its own name without `probe_`.
+macro_rules! calls {
+    ($($symbol:ident = $name:ident($($given:ident: $kind:ty),*) -> $answer:ty;)*) => {
+        mod raw {
+            #[allow(unused_imports)]
+            use super::*;
+            extern "C" {
+                $(pub fn $symbol($($given: $kind),*) -> $answer;)*
+            }
+        }
+        $(
+            #[inline]
+            pub fn $name($($given: $kind),*) -> $answer {
+                // SAFETY: numbers, flags and structs of them go in and out by value; the function is proved total.
+                unsafe { raw::$symbol($($given),*) }
+            }
+        )*
+    };
+}
+
+/// Declares structs as the C face lays them out.
+macro_rules! structs {
+    ($($(#[$note:meta])* $name:ident { $($field:ident: $kind:ty),* $(,)? })*) => {
+        $(
+            $(#[$note])*
+            #[repr(C)]
+            #[derive(Clone, Copy, Debug)]
+            pub struct $name {
+                $(pub $field: $kind,)*
+            }
+        )*
+    };
+}
+
+pub mod adrc;
+pub mod geo;
+pub mod pos;
+pub mod traj;
+
+/// Three numbers with no meaning of their own.
+#[repr(C)]
+#[derive(Clone, Copy, Debug)]
+pub struct Vec3(pub f32, pub f32, pub f32);
+
+/// An angular velocity in the body's axes, rad/s.
+#[repr(C)]
+#[derive(Clone, Copy, Debug)]
+pub struct BodyRate(pub Vec3);
+
+/// A torque about the body's axes.
+#[repr(C)]
+#[derive(Clone, Copy, Debug)]
+pub struct Torque(pub Vec3);
 
 mod raw {
     extern "C" {

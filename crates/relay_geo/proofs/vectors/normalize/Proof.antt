@@ -1,21 +1,8 @@
 use borrow.Author.Needs.{needs}
-use mathlib.Core.Logic.{⊎-elim}
 use Rattle.relay_geo.specs.Vectors.{normalize}
 use Rattle.relay_geo.proofs.vectors.normalize.Statement.{statement}
 use Rattle.relay_geo.proofs.vectors.normalize.Tie as tie
 
-returns : tie.Need-returns
-unfolding normalize
-returns c =
-    let t = c .before .before .before in
-    simp (← t .before .before .before .norm .ensures, ← t .before .before .is-finite .ensures, t .before .if1 .taken, t .if2 .taken)
-
-returns-2 : tie.Need-returns-2
-unfolding normalize
-returns-2 c =
-    ⊎-elim (λ w. simp (← c .before .before .norm .ensures, ← c .before .is-finite .ensures, w .0 .taken, w .1 .left))
-    (λ w. simp (← c .before .before .norm .ensures, ← c .before .is-finite .ensures, w .left))
-    (c .if1 .came)
-
 pub normalize-spec : {M : Type 1} → statement M
-normalize-spec = tie.close (tie.spec (λ c κs. search needs) (λ c κs. search needs) returns returns-2)
+unfolding normalize
+normalize-spec = tie.close (tie.spec (λ c κs. search needs) (λ c κs. search needs) (λ c. simp (c .unit-of .ensures, c .before .norm .ensures)))

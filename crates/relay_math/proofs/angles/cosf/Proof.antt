@@ -1,13 +1,9 @@
-use mathlib.Core.Path.{ap}
+-- `angles::cosf`: a field of `sincos`. Assumes nothing.
 use borrow.Author.Needs.{needs}
 use Rattle.relay_math.specs.Steps.{cosf}
-use Rattle.relay_math.specs.declared.angles.SineCosine.{SineCosine}
 use Rattle.relay_math.proofs.angles.cosf.Statement.{statement}
 use Rattle.relay_math.proofs.angles.cosf.Tie as tie
 
-returns : tie.Need-returns
-unfolding cosf
-returns c = ap (λ (p : SineCosine). p .cosine) (c .sincos .ensures)
-
 pub cosf-spec : {M : Type 1} → statement M
-cosf-spec = tie.close (tie.spec (λ c κs. search needs) returns)
+unfolding cosf
+cosf-spec = tie.close (tie.spec (λ c κs. search needs) (λ c. rw (c .sincos .ensures)))

@@ -1,39 +1,29 @@
+-- `angles::fixed_of`: the fields of a float from 2^-12 to 2^13 are in range. Assumes nothing.
 use borrow.Author.Needs.{needs}
-use mathlib.Core.Path.{_≡_, _∙_, sym}
-use Prim.Native.Nat.{_<_, _+_, _-_, _%_, _/_}
-use lib.Dec.{T}
-use lib.Ieee.{fits, binary32, toBits}
+use Prim.Native.Nat.{_+_, _-_, _%_, _/_, _≤_}
+use native.Mathlib.Nat.{lt-of-lt-of-le}
 use native.Mathlib.Omega.{arith}
+use lib.Pow.{shl-exact, shl-lt, pow-mono}
+use lib.Ieee.{binary32, toBits}
 use Rattle.relay_math.specs.Steps.{fixed}
-use Rattle.relay_math.proofs.AngleParts.{Parts, parts, is-positive}
-use Rattle.relay_math.proofs.AngleCases.{as-true, not-nan, shifted}
+use Rattle.relay_math.proofs.Tests.{held}
+use Rattle.relay_math.proofs.AngleReduction.{Parts, known}
 use Rattle.relay_math.proofs.angles.fixed_of.Statement.{statement}
 use Rattle.relay_math.proofs.angles.fixed_of.Tie as tie
 
-fit : (c : tie.Start) → T (fits binary32 (c .args .a))
-fit c = as-true (c .good .0 .1)
-
-known : (c : tie.Start) → Parts (c .args .a)
-known c = parts (c .args .a) (fit c) (c .pre .0) (c .pre .1)
-
-float-to-bits-b : tie.Need-float-to-bits-b
-float-to-bits-b c = not-nan _ (is-positive (c .args .a) (fit c) (c .pre .0) (c .pre .1))
-
-sub-result : tie.Need-sub-result
-sub-result c = omega (arith, known c .low)
-
-cast-result : tie.Need-cast-result
-cast-result c = omega (arith, known c .high)
-
-shl-result : tie.Need-shl-result
-shl-result c = omega (arith, known c .high)
+parts : (c : tie.Start) → Parts (c .args .a)
+parts c = known (c .args .a) (held (c .good .0 .1)) (c .pre .0) (c .pre .1)
 
 returns : tie.Need-returns
 unfolding fixed
 returns c =
-    let s = shifted (toBits binary32 (c .args .a) % 8388608 + 8388608) (toBits binary32 (c .args .a) / 8388608 - 102) (omega arith) (omega (arith, known c .high)) in
-    (s .0, rw (s .0) (s .1))
+    let b = toBits binary32 (c .args .a) in
+    let k = b / 8388608 - 102 in
+    let h : k ≤ 38 = omega (arith, parts c .high) in
+    let e = shl-exact {a = b % 8388608 + 8388608} 24 k 64 (omega arith) (omega arith) in
+    (e, rw e (lt-of-lt-of-le (shl-lt 24 k (omega arith)) (pow-mono {i = 24 + k} {j = 62} (omega arith))))
 
 pub fixed-of-spec : {M : Type 1} → statement M
 fixed-of-spec =
-    tie.close (tie.spec float-to-bits-b (λ c. search needs) (λ c. search needs) sub-result cast-result shl-result returns)
+    tie.close
+    (tie.spec (λ c. parts c .number) (λ c. search needs) (λ c. search needs) (λ c. omega (arith, parts c .low)) (λ c. omega (arith, parts c .high)) (λ c. omega (arith, parts c .high)) returns)

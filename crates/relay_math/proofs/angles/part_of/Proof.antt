@@ -1,15 +1,8 @@
-use borrow.Author.Needs.{needs}
-use mathlib.Core.Path.{_≡_, refl}
-use native.Mathlib.Omega.{arith}
+-- `angles::part_of`: the product fits, and the part is below 1. Assumes nothing.
+use mathlib.Core.Path.{refl}
+use Rattle.relay_math.proofs.Fixed.{product-fits, part-small}
 use Rattle.relay_math.proofs.angles.part_of.Statement.{statement}
 use Rattle.relay_math.proofs.angles.part_of.Tie as tie
-use Rattle.relay_math.proofs.Sizes.{product-fits, part-small}
-
-mul-result : tie.Need-mul-result
-mul-result c = product-fits _ _ (c .pre .0) (c .pre .1)
-
-returns : tie.Need-returns
-returns c = (refl, part-small _ _ (c .pre .0) (c .pre .1))
 
 pub part-of-spec : {M : Type 1} → statement M
-part-of-spec = tie.close (tie.spec mul-result returns)
+part-of-spec = tie.close (tie.spec (λ c. product-fits _ _ (c .pre .0) (c .pre .1)) (λ c. (refl, part-small _ _ (c .pre .0) (c .pre .1))))

@@ -1,3 +1,4 @@
+-- `angles::reduce`: each arm is a case of the definition. Assumes nothing.
 use borrow.Author.Needs.{needs}
 use borrow.Author.Tests.{lt-ltb, le-ltb}
 use native.Mathlib.Omega.{arith}
@@ -5,13 +6,9 @@ use Rattle.relay_math.specs.Steps.{reduceOf}
 use Rattle.relay_math.proofs.angles.reduce.Statement.{statement}
 use Rattle.relay_math.proofs.angles.reduce.Tie as tie
 
-returns : tie.Need-returns
-unfolding reduceOf
-returns c = (simp (lt-ltb _ _ (c .if1 .taken)), (omega arith, omega arith))
-
-returns-2 : tie.Need-returns-2
-unfolding reduceOf
-returns-2 c = (simp (le-ltb _ _ (c .if1 .left)), (omega arith, omega arith))
-
 pub reduce-spec : {M : Type 1} → statement M
-reduce-spec = tie.close (tie.spec (λ c. search needs) (λ c. search needs) (λ c. search needs) returns returns-2)
+unfolding reduceOf
+reduce-spec =
+    tie.close
+    (tie.spec (λ c. search needs) (λ c. search needs) (λ c. search needs)
+    (λ c. (simp (lt-ltb _ _ (c .if1 .taken)), (omega arith, omega arith))) (λ c. (simp (le-ltb _ _ (c .if1 .left)), (omega arith, omega arith))))

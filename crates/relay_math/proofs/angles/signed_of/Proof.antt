@@ -1,11 +1,6 @@
+-- `angles::signed_of`: each arm is a case of the definition. Assumes nothing.
 use Rattle.relay_math.proofs.angles.signed_of.Statement.{statement}
 use Rattle.relay_math.proofs.angles.signed_of.Tie as tie
 
-returns : tie.Need-returns
-returns c = simp (c .if1 .taken)
-
-returns-2 : tie.Need-returns-2
-returns-2 c = simp (c .if1 .left)
-
 pub signed-of-spec : {M : Type 1} → statement M
-signed-of-spec = tie.close (tie.spec returns returns-2)
+signed-of-spec = tie.close (tie.spec (λ c. simp (c .if1 .taken)) (λ c. simp (c .if1 .left)))

@@ -1,18 +1,12 @@
+-- `angles::sin_poly`: the calls are the definition's steps. Assumes nothing.
 use borrow.Author.Needs.{needs}
-use mathlib.Core.Path.{_≡_, refl}
-use native.Mathlib.Omega.{arith}
+use Rattle.relay_math.specs.Steps.{sinPoly}
 use Rattle.relay_math.proofs.angles.sin_poly.Statement.{statement}
 use Rattle.relay_math.proofs.angles.sin_poly.Tie as tie
-use Rattle.relay_math.specs.Steps.{sinPoly}
-
-returns : tie.Need-returns
-unfolding sinPoly
-returns c = (
-  simp (c .less-part .ensures .0, c .before .part-of3 .ensures .0, c .before .before .part-of2 .ensures .0, c .before .before .before .part-of .ensures .0),
-  c .less-part .ensures .1,
-)
 
 pub sin-poly-spec : {M : Type 1} → statement M
+unfolding sinPoly
 sin-poly-spec =
     tie.close
-    (tie.spec (λ c. search needs) (λ c κs. search needs) (λ c. search needs) (λ c κs. search needs) (λ c. search needs) (λ c κs. search needs) (λ c κs. search needs) returns)
+    (tie.spec (λ c. search needs) (λ c κs. search needs) (λ c. search needs) (λ c κs. search needs) (λ c. search needs) (λ c κs. search needs) (λ c κs. search needs)
+    (λ c. (simp (c .less-part .ensures .0, c .before .part-of3 .ensures .0, c .before .before .part-of2 .ensures .0, c .before .before .before .part-of .ensures .0), c .less-part .ensures .1)))

@@ -1,25 +1,27 @@
+-- `angles::sincos`: each arm is a case of the definition, and LIMIT is below 2^13. Assumes nothing.
 use borrow.Author.Needs.{needs}
-use mathlib.Core.Path.{refl}
-use lib.Ieee.{ofBits}
-use Rattle.relay_math.proofs.AngleCases.{as-true, up-to-most, case-large, case-tiny, case-far}
+use mathlib.Core.Path.{_∙_}
+use lib.Dec.{T}
+use lib.Ieee.{Float, ofBits, le, lt}
+use lib.Ieee.Positive.{between, le-trans-positive}
+use Rattle.relay_math.specs.Steps.{sincos, Tiny, Limit, Most}
+use Rattle.relay_math.proofs.Tests.{held}
 use Rattle.relay_math.proofs.angles.sincos.Statement.{statement}
 use Rattle.relay_math.proofs.angles.sincos.Tie as tie
 
-large-of-requires : tie.Need-large-of-requires
-unfolding ofBits
-large-of-requires c κs = (as-true (c .if2 .taken), up-to-most _ (as-true (c .if2 .taken)) (as-true (c .before .if1 .taken)))
+up-to-most : (a : Float) → T (le Tiny a) → T (le a Limit) → T (le a Most)
+unfolding le lt
+up-to-most a h k = le-trans-positive a Limit Most (between Tiny a Limit tt tt h k) tt tt k tt
 
-returns : tie.Need-returns
-unfolding ofBits
-returns c = case-large _ _ _ (c .before .before .before .signed-of .ensures) (c .before .before .if1 .taken) (c .before .if2 .taken) (c .large-of .ensures)
-
-returns-2 : tie.Need-returns-2
-unfolding ofBits
-returns-2 c = case-tiny _ _ _ (c .before .before .signed-of .ensures) (c .before .if1 .taken) (c .if2 .left) refl
-
-returns-3 : tie.Need-returns-3
-unfolding ofBits
-returns-3 c = case-far _ _ _ (c .before .signed-of .ensures) (c .if1 .left) refl
+beyond : tie.Need-returns-3
+unfolding ofBits sincos
+beyond c = simp (← c .before .signed-of .ensures, c .if1 .left)
 
 pub sincos-spec : {M : Type 1} → statement M
-sincos-spec = tie.close (tie.spec (λ c κs. search needs) large-of-requires returns returns-2 returns-3)
+unfolding ofBits sincos
+sincos-spec =
+    tie.close
+    (tie.spec (λ c κs. search needs)
+    (λ c κs. (held (c .if2 .taken), up-to-most _ (held (c .if2 .taken)) (held (c .before .if1 .taken))))
+    (λ c. c .large-of .ensures ∙ simp (← c .before .before .before .signed-of .ensures, c .before .before .if1 .taken, c .before .if2 .taken))
+    (λ c. simp (← c .before .before .signed-of .ensures, c .before .if1 .taken, c .if2 .left)) beyond)

@@ -1,13 +1,9 @@
-use mathlib.Core.Path.{ap}
+-- `angles::sinf`: a field of `sincos`. Assumes nothing.
 use borrow.Author.Needs.{needs}
 use Rattle.relay_math.specs.Steps.{sinf}
-use Rattle.relay_math.specs.declared.angles.SineCosine.{SineCosine}
 use Rattle.relay_math.proofs.angles.sinf.Statement.{statement}
 use Rattle.relay_math.proofs.angles.sinf.Tie as tie
 
-returns : tie.Need-returns
-unfolding sinf
-returns c = ap (λ (p : SineCosine). p .sine) (c .sincos .ensures)
-
 pub sinf-spec : {M : Type 1} → statement M
-sinf-spec = tie.close (tie.spec (λ c κs. search needs) returns)
+unfolding sinf
+sinf-spec = tie.close (tie.spec (λ c κs. search needs) (λ c. rw (c .sincos .ensures)))

@@ -1,16 +1,9 @@
+-- `angles::square_of`: half of r's digits, times themselves. Assumes nothing.
 use borrow.Author.Needs.{needs}
-use mathlib.Core.Path.{_≡_, refl}
-use native.Mathlib.Omega.{arith}
+use Rattle.relay_math.specs.Steps.{square}
 use Rattle.relay_math.proofs.angles.square_of.Statement.{statement}
 use Rattle.relay_math.proofs.angles.square_of.Tie as tie
-use Rattle.relay_math.specs.Steps.{square}
-
-part-of-requires : tie.Need-part-of-requires
-part-of-requires c κs = search needs
-
-returns : tie.Need-returns
-unfolding square
-returns c = c .part-of .ensures
 
 pub square-of-spec : {M : Type 1} → statement M
-square-of-spec = tie.close (tie.spec part-of-requires returns)
+unfolding square
+square-of-spec = tie.close (tie.spec (λ c κs. search needs) (λ c. c .part-of .ensures))

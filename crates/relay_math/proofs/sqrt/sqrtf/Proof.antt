@@ -1,59 +1,34 @@
--- `root::sqrtf` meets its contract: each case is a fact of `proofs/Read.antt`. Assumes nothing.
-use mathlib.Core.Path.{_≡_, refl, sym, subst}
-use mathlib.Core.Bool.{Bool, not}
+-- `sqrt::sqrtf`: the tests part the cases of the definition, and `positive_root` has the pattern of the root. Assumes nothing.
+use mathlib.Core.Path.{_≡_, refl}
+use Prim.Native.Nat.{_*_, _%_, _^_}
+use native.Mathlib.Omega.{arith}
+use borrow.Author.Tests.{le-ltb}
 use lib.Dec.{T}
 use lib.Ieee.{Float, binary32, fits, ofBits, div}
-use Rattle.relay_math.proofs.RootRead.{not-nan, no-nan, bits-pos, rooted, of-inf, of-zero, of-other}
-use Rattle.relay_math.proofs.Root.{is-root}
+use lib.Ieee.Bits.{nanBits-above}
 use Rattle.relay_math.specs.Sqrt.{IsRoot, sqrtf}
+use Rattle.relay_math.proofs.Tests.{held, not-nan}
+use Rattle.relay_math.proofs.Root.{is-root, by-tests, above}
 use Rattle.relay_math.proofs.sqrt.sqrtf.Statement.{statement}
 use Rattle.relay_math.proofs.sqrt.sqrtf.Tie as tie
 
--- what owning an `f32` tells: the format holds it
-held : (c : tie.Start) → T (fits binary32 (c .args .x))
-held c = subst T (sym (c .good .0 .1)) tt
+fit : (c : tie.Start) → T (fits binary32 (c .args .x))
+fit c = held (c .good .0 .1)
 
-float-to-bits-b : tie.Need-float-to-bits-b
-unfolding ofBits
-float-to-bits-b c = not-nan (c .before .args .x) (c .if1 .taken)
-
-positive-root-requires : tie.Need-positive-root-requires
-unfolding ofBits
-positive-root-requires c κs = (bits-pos (c .before .before .args .x) (held (c .before .before)) (c .before .if1 .taken), c .if2 .taken)
-
-float-from-bits-result : tie.Need-float-from-bits-result
-float-from-bits-result c = subst (λ (b : Bool). T (not b)) (sym (no-nan _ (c .positive-root .result) (c .before .if2 .taken) (c .positive-root .ensures))) tt
-
--- what is the sqrtf of x is `sqrtf x`
-answer : (c : tie.Start) {r : Float} → IsRoot (c .args .x) r → IsRoot (c .args .x) r × (r ≡ sqrtf (c .args .x))
-answer c {r} h = (h, is-root (c .args .x) r (held c) h)
-
-returns : tie.Need-returns
-unfolding ofBits
-returns c =
-    let s = c .before .before .before in
-    answer s (rooted (s .args .x) (c .positive-root .result) (held s) (c .before .before .if1 .taken) (c .before .if2 .taken) (c .positive-root .ensures))
-
-returns-2 : tie.Need-returns-2
-unfolding ofBits
-returns-2 c = let s = c .before .before in answer s (of-inf (s .args .x) (held s) (c .before .if1 .taken) (c .if2 .left))
-
-returns-3 : tie.Need-returns-3
-unfolding ofBits
-returns-3 c = let s = c .before .before in answer s (of-zero (s .args .x) (c .if3 .taken))
-
-returns-4 : tie.Need-returns-4
-unfolding ofBits div
-returns-4 c = let s = c .before .before in answer s (of-other (s .args .x) (c .before .if1 .left) (c .if3 .left))
+-- what is `sqrtf x` is the root of x
+answer : (c : tie.Start) {r : Float} → r ≡ sqrtf (c .args .x) → IsRoot (c .args .x) r × (r ≡ sqrtf (c .args .x))
+answer c {r} e = (rw e (is-root (c .args .x) (fit c)), e)
 
 pub sqrtf-spec : {M : Type 1} → statement M
+unfolding ofBits div
 sqrtf-spec =
     tie.close
-    (tie.spec
-    float-to-bits-b
-    positive-root-requires
-    float-from-bits-result
-    returns
-    returns-2
-    returns-3
-    returns-4)
+    (tie.spec (λ c. not-nan (c .before .args .x) (c .if1 .taken))
+    (λ c κs. (above (c .before .before .args .x) (fit (c .before .before)) (c .before .if1 .taken) (c .if2 .taken) .1, c .if2 .taken))
+    (λ c. rw (nanBits-above, le-ltb (255 * 2 ^ 23) (c .positive-root .result % 2 ^ 31) (omega (arith, c .positive-root .ensures .1))) tt)
+    (λ c.
+    let s = c .before .before .before in
+    answer s (c .positive-root .ensures .0 (s .args .x) (fit s) (above (s .args .x) (fit s) (c .before .before .if1 .taken) (c .before .if2 .taken) .0) refl))
+    (λ c. answer (c .before .before) (simp (c .before .if1 .taken, le-ltb _ _ (c .if2 .left)) at (by-tests (c .before .before .args .x) (fit (c .before .before)))))
+    (λ c. answer (c .before .before) (simp (c .before .if1 .left, c .if3 .taken) at (by-tests (c .before .before .args .x) (fit (c .before .before)))))
+    (λ c. answer (c .before .before) (simp (c .before .if1 .left, c .if3 .left) at (by-tests (c .before .before .args .x) (fit (c .before .before))))))

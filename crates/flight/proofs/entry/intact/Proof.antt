@@ -1,0 +1,43 @@
+-- `flight::entry::intact` meets its contract: what its calls ensure, put together. Assumes nothing.
+use borrow.Author.Needs.{needs}
+use borrow.Author.Tests.{eq-eqb, ne-eqb}
+use Rattle.flight.specs.Entry.{intactWith}
+use Rattle.flight.proofs.entry.intact.Statement.{statement}
+use Rattle.flight.proofs.entry.intact.Tie as tie
+
+pub intact-spec : {M : Type 1} → statement M
+unfolding intactWith
+intact-spec =
+    tie.close (tie.spec
+    (λ c κs. search needs)
+    (λ c κs. search needs)
+    (λ c. search needs)
+    (λ c. simp (
+      ← c .before .word-at2 .ensures,
+      ← c .before .before .word-at .ensures,
+      ne-eqb _ _ (c .if1 .taken),
+    ))
+    (λ c κs. search needs)
+    (λ c. simp (
+      c .good2 .ensures,
+      ← c .before .before .before .word-at2 .ensures,
+      ← c .before .before .before .before .word-at .ensures,
+      eq-eqb _ _ (c .before .if2 .taken),
+      eq-eqb _ _ (c .before .before .if1 .left),
+    ))
+    (λ c κs. search needs)
+    (λ c. simp (
+      c .good3 .ensures,
+      ← c .before .before .before .before .word-at2 .ensures,
+      ← c .before .before .before .before .before .word-at .ensures,
+      eq-eqb _ _ (c .before .if3 .taken),
+      ne-eqb _ _ (c .before .before .if2 .left),
+      eq-eqb _ _ (c .before .before .before .if1 .left),
+    ))
+    (λ c. simp (
+      ← c .before .before .before .word-at2 .ensures,
+      ← c .before .before .before .before .word-at .ensures,
+      ne-eqb _ _ (c .if3 .left),
+      ne-eqb _ _ (c .before .if2 .left),
+      eq-eqb _ _ (c .before .before .if1 .left),
+    )))

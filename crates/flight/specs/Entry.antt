@@ -1,0 +1,74 @@
+-- Set-up and tick on lent bytes: what is refused, and what each call leaves (document 01's table). Definitions only.
+use Prim.Native.Nat.{ℕ}
+use mathlib.Core.Bool.{Bool, _&&_, _||_, cond}
+use mathlib.Core.List.{List}
+use lib.Dec.{eqb}
+use lib.ListN.{length}
+use Rattle.words.specs.Words.{word}
+use Rattle.joint.specs.declared.state.State.{State}
+use Rattle.joint.specs.SetUp.{setUp}
+use Rattle.joint.specs.Tick.{tick}
+use Rattle.joint.specs.Good.{good}
+use Rattle.flight.specs.declared.entry.Outcome.{Outcome}
+use Rattle.flight.specs.declared.entry.Outcome.the-variants.{Done, ImageLength, InputLength, AnswerLength, BrokenImage}
+use Rattle.flight.specs.Layout.{COUNT, ENGAGED, IMAGE-WORDS, IMAGE-BYTES, SETUP-BYTES, INPUT-BYTES, ANSWER-BYTES}
+use Rattle.flight.specs.Image.{stateAt, imageOf}
+use Rattle.flight.specs.Calls.{setupAt, inputAt, answerOf}
+
+-- document 01's number of each outcome
+abbrev pub number : Outcome → ℕ
+number Done = 0
+number ImageLength = 1
+number InputLength = 2
+number AnswerLength = 3
+number BrokenImage = 4
+
+-- ---- what is refused: the lowest number that applies
+
+-- row 4's tests of an image b whose state is s: its count is its own, its flag is 0 or 1, and a tick takes s
+unfoldable pub intactWith : List ℕ → State → Bool
+intactWith b s = eqb (word b COUNT) IMAGE-WORDS && (eqb (word b ENGAGED) 0 || eqb (word b ENGAGED) 1) && good s
+
+unfoldable pub intact : List ℕ → Bool
+unfolding intactWith
+intact b = intactWith b (stateAt b)
+
+unfoldable pub setUpRefusal : ℕ → ℕ → Outcome
+setUpRefusal imageLen inputLen = cond (eqb imageLen IMAGE-BYTES) (cond (eqb inputLen SETUP-BYTES) Done InputLength) ImageLength
+
+unfoldable pub tickRefusal : List ℕ → ℕ → ℕ → Outcome
+unfolding intact
+tickRefusal image inputLen answerLen =
+    cond (eqb (length image) IMAGE-BYTES)
+    (cond (eqb inputLen INPUT-BYTES) (cond (eqb answerLen ANSWER-BYTES) (cond (intact image) Done BrokenImage) AnswerLength) InputLength)
+    ImageLength
+
+-- ---- what a call leaves
+
+-- the outcome, and what the image and the answer hold afterwards
+pub record Called : Type 0 where
+  pub outcome : Outcome
+  pub image : List ℕ
+  pub answer : List ℕ
+
+abbrev pub called : Outcome → List ℕ → List ℕ → Called
+called o image answer = record { outcome = o; image = image; answer = answer }
+
+-- the accepted call's, unless it is refused: then every byte stays
+abbrev pub unless : Outcome → Called → List ℕ → List ℕ → Called
+unless Done accepted image answer = accepted
+unless ImageLength accepted image answer = called ImageLength image answer
+unless InputLength accepted image answer = called InputLength image answer
+unless AnswerLength accepted image answer = called AnswerLength image answer
+unless BrokenImage accepted image answer = called BrokenImage image answer
+
+-- set-up lends no answer: there the third list is empty and stays so
+unfoldable pub setUpCall : List ℕ → List ℕ → List ℕ → Called
+unfolding setUpRefusal
+setUpCall image input none = unless (setUpRefusal (length image) (length input)) (called Done (imageOf (setUp (setupAt input))) none) image none
+
+unfoldable pub tickCall : List ℕ → List ℕ → List ℕ → Called
+unfolding tickRefusal
+tickCall image input answer =
+    let t = tick (stateAt image) (inputAt input) in
+    unless (tickRefusal image (length input) (length answer)) (called Done (imageOf (t .state)) (answerOf (t .answer))) image answer

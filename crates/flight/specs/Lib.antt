@@ -1,0 +1,6 @@
+pub mod Layout
+pub mod Parts
+pub mod Image
+pub mod Calls
+pub mod Fits
+pub mod Entry

@@ -1,0 +1,3 @@
+pub mod SetUp
+pub mod Tick
+pub mod Good

@@ -1,0 +1,156 @@
+-- |x| in units of 2 ^ -48, by the fields of its bits; and n and r: the reduction in those units is the exact one in grains, which takes off the nearest multiple of P. Assumes nothing.
+use mathlib.Core.Path.{_≡_, refl, sym, ap, _∙_}
+use mathlib.Core.Bool.{Bool, true, false, not, cond}
+use Prim.Native.Nat.{ℕ, suc, _+_, _*_, _-_, _/_, _%_, _^_, _≤_, _<_}
+use native.Mathlib.Nat.{lt-of-lt-of-le, lt-of-le-of-lt, lt-of-not-le, not-le-of-lt, zero-lt-suc}
+use native.Mathlib.Nat.{mul-comm, mul-assoc, add-mul, mul-sub, mul-div-mul-right, mul-le-mul-right, le-of-mul-le-mul-right, mul-lt-mul-of-pos-right, add-mul-mod-self-left, mod-lt, mul-pos, div-mul-le-self, lt-div-mul-add}
+use native.Mathlib.Omega.{arith}
+use borrow.Author.Tests.{lt-ltb, le-ltb, le-leb, leb-true, ltb-true, ltb-false}
+use lib.IntN.{ℤ}
+use lib.Dec.{T, leb, ltb, lit<, lt→ltb}
+use lib.Pow.{pow-mono}
+use lib.Ieee.{Float, fin, binary32, up, down, fits, isNan, size, toBits, le}
+use lib.Ieee.Digits.{size-lt, size-le}
+use lib.Ieee.Fits.{down-pos}
+use lib.Ieee.Positive.{positive, between, le→cross}
+use Rattle.relay_math.specs.declared.angles.Reduced.{Reduced}
+use Rattle.relay_math.specs.Exact.{gap, P, turns, rest, back, quarter}
+use Rattle.relay_math.specs.F32.{grains}
+use Rattle.relay_math.specs.Steps.{Tiny, Most, fixed, P48, reduceOf}
+use Rattle.relay_math.proofs.Tests.{of-positive}
+use Rattle.relay_math.proofs.Grains.{shift, grains-exact, reads}
+
+-- ---- a float from 2 ^ -12 to 2 ^ 13
+pub record Parts (a : Float) : Type 0 where
+  pub number : T (not (isNan a))
+  pub low : 115 ≤ toBits binary32 a / 8388608
+  pub high : toBits binary32 a / 8388608 ≤ 140
+  pub is : grains a ≡ fixed a * 2 ^ 101
+
+-- A / D = n / L against 1 / c and c
+pub at-least : (A D n L c : ℕ) → 0 < D → A * L ≡ n * D → D ≤ A * c → L ≤ n * c
+at-least A D n L c Z e h =
+    let i : D * L ≤ A * c * L = mul-le-mul-right L h in
+    let j : A * L * c ≡ n * D * c = ap (λ (x : ℕ). x * c) e in
+    le-of-mul-le-mul-right {k = D} (omega (arith, i, j)) Z
+
+at-most : (A D n L c : ℕ) → 0 < D → A * L ≡ n * D → A ≤ c * D → n ≤ c * L
+at-most A D n L c Z e h = let i : A * L ≤ c * D * L = mul-le-mul-right L h in le-of-mul-le-mul-right {k = D} (omega (arith, i, e)) Z
+
+pub parts : (m : ℕ) (e : ℤ) → T (fits binary32 (fin false m e)) → down e ≤ m * up e * 4096 → m * up e ≤ 8192 * down e → Parts (fin false m e)
+unfolding fixed isNan
+parts m e f h k =
+    let b = toBits binary32 (fin false m e) in
+    let n = grains (fin false m e) in
+    let d = reads m e f in
+    let E = grains-exact false m e f in
+    let l : 2 ^ 137 ≤ n = le-of-mul-le-mul-right {k = 4096} (at-least (m * up e) (down e) n (2 ^ 149) 4096 (down-pos e) E h) (lit< tt) in
+    let v : 137 < size n = lt-of-not-le (λ (g : size n ≤ 137). not-le-of-lt (lt-of-lt-of-le (size-lt n) (pow-mono g)) l) in
+    let u : size n ≤ 163 = size-le n 163 (lt-of-le-of-lt (at-most (m * up e) (down e) n (2 ^ 149) 8192 (down-pos e) E k) (lit< tt)) in
+    let x : (114 ≤ d .k) × (d .k ≤ 139) = omega (arith, d .counted, u, v) in
+    let q : 8388608 ≤ d .q = d .full (omega (arith, x)) in
+    let t : b % 8388608 + 8388608 ≡ d .q = omega (arith, d .bits, d .few, q) in
+    let s : b / 8388608 ≡ d .k + 1 = omega (arith, d .bits, d .few, q) in
+    let w : b / 8388608 - 102 ≡ d .k - 101 = omega (arith, s, x) in
+    record { number = tt; low = omega (arith, s, x); high = omega (arith, s, x); is = rw (t, w) (d .is ∙ shift (d .q) (d .k) 101 (omega (arith, x))) }
+
+pub known : (a : Float) → T (fits binary32 a) → T (le Tiny a) → T (le a Most) → Parts a
+known a f h k =
+    of-positive (λ (a : Float). T (le Tiny a) → T (le a Most) → Parts a)
+    (λ m e f h k.
+    let p : T (positive (fin false (suc m) e)) = lt→ltb 0 (suc m) (zero-lt-suc m) in
+    parts (suc m) e f (omega (arith, le→cross Tiny (fin false (suc m) e) tt p h)) (omega (arith, le→cross (fin false (suc m) e) Most p tt k)))
+    a f (between Tiny a Most tt tt h k) h k
+
+-- ---- what u grains turn to: n modulo 4, the rest, and whether it is negative
+pub record Turn (u n R : ℕ) (b : Bool) : Type 0 where
+  pub quarter-is : (s : Bool) → quarter s u ≡ cond s (3 * n % 4) n
+  pub rest-is : rest u ≡ R
+  pub back-is : back u ≡ b
+
+of-turns : (u n R : ℕ) (b : Bool) → turns u ≡ n → gap u (n * P) ≡ R → ltb u (n * P) ≡ b → Turn u (n % 4) R b
+unfolding quarter rest back
+of-turns u n R b e r c = record { quarter-is = λ s. rw e (go s); rest-is = rw e r; back-is = rw e c }
+  where
+    go : (s : Bool) → cond s (3 * n % 4) (n % 4) ≡ cond s (3 * (n % 4) % 4) (n % 4)
+    go true = let i : 3 * n ≡ 3 * (n % 4) + 4 * (3 * (n / 4)) = omega arith in ap (λ (x : ℕ). x % 4) i ∙ add-mul-mod-self-left (3 * (n % 4)) 4 (3 * (n / 4))
+    go false = refl
+
+-- document 01: "If |x| is at most P/2, n = 0 and r = x"
+at-zero : (u p : ℕ) → (gap u (0 * p) ≡ u) × (ltb u (0 * p) ≡ false)
+at-zero u p = (omega arith, le-ltb u (0 * p) (omega arith))
+
+pub no-turn : (u : ℕ) → 2 * u ≤ P → Turn u 0 u false
+unfolding turns
+no-turn u h = of-turns u 0 u false (rw (le-leb (2 * u) P h)) (at-zero u P .0) (at-zero u P .1)
+
+-- "else n is the whole number nearest x/P": the rest is at most P / 2 for every u
+nearest : (u p : ℕ) → 0 < p → 2 * gap u (cond (leb (2 * u) p) 0 ((2 * u + p) / (2 * p)) * p) ≤ p
+nearest u p h = go (leb (2 * u) p) refl
+  where
+    go : (t : Bool) → leb (2 * u) p ≡ t → 2 * gap u (cond t 0 ((2 * u + p) / (2 * p)) * p) ≤ p
+    go true e = omega (arith, leb-true (2 * u) p e)
+    go false e =
+        let n = (2 * u + p) / (2 * p) in
+        let a : n * (2 * p) ≤ 2 * u + p = div-mul-le-self (2 * u + p) (2 * p) in
+        let b : 2 * u + p < n * (2 * p) + 2 * p = lt-div-mul-add (mul-pos (lit< tt) h) in
+        omega (arith, a, b)
+
+pub turn-is-nearest : (u : ℕ) → 2 * rest u ≤ P
+unfolding rest turns
+turn-is-nearest u = nearest u P (lit< tt)
+
+-- ---- in the code's units of g = 2 ^ 101 grains
+abbrev count : ℕ → ℕ
+count X = (X + P48 / 2) / P48
+
+turns-is : (X g : ℕ) → 0 < g → cond (leb (2 * (X * g)) (P48 * g)) 0 ((2 * (X * g) + P48 * g) / (2 * (P48 * g))) ≡ count X
+turns-is X g G = go (leb (2 * (X * g)) (P48 * g)) refl
+  where
+    go : (b : Bool) → leb (2 * (X * g)) (P48 * g) ≡ b → cond b 0 ((2 * (X * g) + P48 * g) / (2 * (P48 * g))) ≡ count X
+    go true h = let k : 2 * X ≤ P48 = le-of-mul-le-mul-right {k = g} (omega (arith, leb-true (2 * (X * g)) (P48 * g) h)) G in omega arith
+    go false h =
+        let a : 2 * (X * g) + P48 * g ≡ (2 * X + P48) * g = omega arith in
+        let b : 2 * (P48 * g) ≡ 2 * P48 * g = omega arith in
+        rw (a, b) (mul-div-mul-right (2 * X + P48) (2 * P48) G ∙ omega arith)
+
+sub-mul : (a b g : ℕ) → a * g - b * g ≡ (a - b) * g
+sub-mul a b g = sym (mul-comm (a - b) g ∙ mul-sub g a b ∙ rw (mul-comm g a, mul-comm g b))
+
+gap-mul : (a b g : ℕ) → gap (a * g) (b * g) ≡ gap a b * g
+gap-mul a b g = rw (sub-mul a b g, sub-mul b a g) (sym (add-mul (a - b) (b - a) g))
+
+ltb-mul : (a b g : ℕ) → 0 < g → ltb (a * g) (b * g) ≡ ltb a b
+ltb-mul a b g G = go (ltb a b) refl
+  where
+    go : (t : Bool) → ltb a b ≡ t → ltb (a * g) (b * g) ≡ t
+    go true h = lt-ltb _ _ (mul-lt-mul-of-pos-right (ltb-true a b h) G)
+    go false h = le-ltb _ _ (mul-le-mul-right g (ltb-false a b h))
+
+module _ (X : ℕ) where
+  reduced-is : reduceOf X ≡ record { n = count X % 4; r = gap X (count X * P48); back = ltb X (count X * P48) }
+  unfolding reduceOf
+  reduced-is = go (ltb X (count X * P48)) refl
+    where
+      go : (t : Bool) → ltb X (count X * P48) ≡ t
+          → _≡_ {A = Reduced} (cond t record { n = count X % 4; r = count X * P48 - X; back = true } record { n = count X % 4; r = X - count X * P48; back = false })
+          record { n = count X % 4; r = gap X (count X * P48); back = t }
+      go true h = let l : count X * P48 - X ≡ gap X (count X * P48) = omega (arith, ltb-true X (count X * P48) h) in λ i. record { n = count X % 4; r = l i; back = true }
+      go false h = let l : X - count X * P48 ≡ gap X (count X * P48) = omega (arith, ltb-false X (count X * P48) h) in λ i. record { n = count X % 4; r = l i; back = false }
+
+  pub few : reduceOf X .n < 4
+  few = rw reduced-is (mod-lt (count X) (lit< tt))
+
+  pub small : reduceOf X .r < 281474976710656
+  small = rw reduced-is (omega arith)
+
+  turns-units : turns (X * 2 ^ 101) ≡ count X
+  unfolding turns
+  turns-units = turns-is X (2 ^ 101) (lit< tt)
+
+  pub turn : Turn (X * 2 ^ 101) (reduceOf X .n) (reduceOf X .r * 2 ^ 101) (reduceOf X .back)
+  turn =
+      rw reduced-is
+      (of-turns (X * 2 ^ 101) (count X) (gap X (count X * P48) * 2 ^ 101) (ltb X (count X * P48)) turns-units
+      (ap (λ (n : ℕ). gap (X * 2 ^ 101) n) (sym (mul-assoc (count X) P48 (2 ^ 101))) ∙ gap-mul X (count X * P48) (2 ^ 101))
+      (ap (λ (n : ℕ). ltb (X * 2 ^ 101) n) (sym (mul-assoc (count X) P48 (2 ^ 101))) ∙ ltb-mul X (count X * P48) (2 ^ 101) (lit< tt)))

@@ -1,0 +1,39 @@
+-- Laws for callers: what `finiteOr` gives, and that sine and cosine are finite for every f32. Assumes nothing.
+use mathlib.Core.Path.{_≡_, refl, sym, subst}
+use mathlib.Core.Bool.{Bool, true, false, not, cond}
+use lib.Dec.{T}
+use lib.Ieee.{Float, nan, inf, fin, binary32, fits, ofBits}
+use lib.Ieee.Bits.{is-true}
+use Rattle.relay_math.specs.Exact.{Value, Near, inRange}
+use Rattle.relay_math.specs.F32.{0·0, isFinite, finiteOr}
+use Rattle.relay_math.specs.Steps.{sincos, sinf, cosf}
+use Rattle.relay_math.proofs.Tests.{held}
+use Rattle.relay_math.proofs.AngleBound.{far-case, sincos-near}
+
+pub finite-or-keeps : (x d : Float) → T (isFinite x) → finiteOr x d ≡ x
+finite-or-keeps x d h = rw (is-true (isFinite x) h)
+
+pub finite-or-finite : (x d : Float) → T (isFinite d) → T (isFinite (finiteOr x d))
+finite-or-finite x d h = go (isFinite x) refl
+  where
+    go : (t : Bool) → isFinite x ≡ t → T (isFinite (cond t x d))
+    go true e = held e
+    go false e = h
+
+pub sin-cos-far : (x : Float) → T (not (inRange x)) → (sinf x ≡ 0·0) × (cosf x ≡ 0·0)
+unfolding sinf cosf ofBits
+sin-cos-far x h = far-case x h
+
+near-finite : (y : Float) (v : Value) → Near 22 y v → T (isFinite y)
+unfolding isFinite
+near-finite nan v h = absurd h
+near-finite (inf s) v h = absurd h
+near-finite (fin s m e) v h = tt
+
+pub sin-cos-finite : (x : Float) → T (fits binary32 x) → T (isFinite (sinf x)) × T (isFinite (cosf x))
+unfolding sinf cosf isFinite
+sin-cos-finite x f = go (inRange x) refl
+  where
+    go : (t : Bool) → inRange x ≡ t → T (isFinite (sincos x .sine)) × T (isFinite (sincos x .cosine))
+    go true e = let n = sincos-near x f .near (held e) in (near-finite (sincos x .sine) _ (n .0), near-finite (sincos x .cosine) _ (n .1))
+    go false e = let z = far-case x (subst (λ (b : Bool). T (not b)) (sym e) tt) in rw (z .0, z .1) (tt, tt)

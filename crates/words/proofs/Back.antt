@@ -1,0 +1,111 @@
+-- Laws of read words, for callers: what was written is read again, and what is read is written again but for a NaN's other patterns. Assumes nothing.
+use mathlib.Core.Path.{_≡_, refl, sym, ap, subst, _∙_}
+use mathlib.Core.Bool.{Bool, true, false, not}
+use mathlib.Core.List.{List, [], _∷_, _++_}
+use Prim.Native.Nat.{ℕ, zero, suc, _+_, _*_, _/_, _%_, _≤_, _<_}
+use native.Mathlib.Nat.{add-zero, suc-add, mod-lt, mod-eq-of-lt, mod-add-div', div-div-eq-div-mul, add-mul-mod-self-right}
+use native.Mathlib.Omega.{arith}
+use lib.Dec.{T, eqb, ltb, ltb→lt, lt→ltb, lit<}
+use lib.ListN.{length, getD, take, drop}
+use lib.Seq.{getD-take, getD-drop}
+use lib.Ieee.{Float, nan, binary32, isNan, fits, ofBits, toBits}
+use lib.Ieee.Fits.{nan-fits}
+use lib.Ieee.Bits.{ofBits-toBits, toBits-lt, toBits-ofBits, ofBits-fits}
+use Rattle.words.specs.Words.{word, float, floatOf, bits, canon, flag, wordsOf, bytesOf, AllFit}
+
+-- four bytes by weight are the word, below 2 ^ 32
+four : (w : ℕ) → w % 256 + w / 256 % 256 * 256 + w / 65536 % 256 * 65536 + w / 16777216 % 256 * 16777216 ≡ w % 4294967296
+four w =
+    let a = w / 256 in
+    let b = a / 256 in
+    let d = b / 256 in
+    let e : w / 65536 ≡ b = sym (div-div-eq-div-mul w 256 256) in
+    let f : w / 16777216 ≡ d = sym (div-div-eq-div-mul w 256 65536) ∙ sym (div-div-eq-div-mul a 256 256) in
+    rw (e, f) (sum w (w % 256) a (a % 256) b (b % 256) d (d % 256) (d / 256)
+    (mod-add-div' w 256) (mod-add-div' a 256) (mod-add-div' b 256) (mod-add-div' d 256)
+    (mod-lt w (lit< tt)) (mod-lt a (lit< tt)) (mod-lt b (lit< tt)) (mod-lt d (lit< tt)))
+  where
+    sum : (w w₀ a a₀ b b₀ d d₀ e : ℕ) → w₀ + a * 256 ≡ w → a₀ + b * 256 ≡ a → b₀ + d * 256 ≡ b → d₀ + e * 256 ≡ d
+        → w₀ < 256 → a₀ < 256 → b₀ < 256 → d₀ < 256 → w₀ + a₀ * 256 + b₀ * 65536 + d₀ * 16777216 ≡ w % 4294967296
+    sum w w₀ a a₀ b b₀ d d₀ e hw ha hb hd lw la lb ld =
+        let n = w₀ + a₀ * 256 + b₀ * 65536 + d₀ * 16777216 in
+        let all : w ≡ n + e * 4294967296 = omega arith in
+        sym (ap (λ (v : ℕ). v % 4294967296) all ∙ add-mul-mod-self-right n e 4294967296 ∙ mod-eq-of-lt (omega arith))
+
+-- the word at place k of written words is the k-th of them, and 0 past their end
+pub word-bytesOf : (ws : List ℕ) (k : ℕ) → word (bytesOf ws) k ≡ getD ws k 0 % 4294967296
+unfolding word
+word-bytesOf [] k = refl
+word-bytesOf (w ∷ ws) zero = four w
+word-bytesOf (w ∷ ws) (suc k) =
+    let e : 4 * suc k ≡ suc (suc (suc (suc (4 * k)))) = omega arith in
+    simp (e, suc-add) (word-bytesOf ws k)
+
+pub word-back : (ws : List ℕ) (k : ℕ) {w : ℕ} → getD ws k 0 ≡ w → w < 4294967296 → word (bytesOf ws) k ≡ w
+word-back ws k {w} e h = word-bytesOf ws k ∙ rw e (mod-eq-of-lt h)
+
+-- every word of an f32 is one of 32 bits
+pub bits-lt : (x : Float) → T (fits binary32 x) → bits x < 4294967296
+bits-lt x h = toBits-lt binary32 x h
+
+-- a float that was written is read again
+pub float-back : (ws : List ℕ) (k : ℕ) (x : Float) → getD ws k 0 ≡ bits x → T (fits binary32 x) → float (bytesOf ws) k ≡ x
+unfolding float
+float-back ws k x e h = ap floatOf (word-back ws k e (bits-lt x h)) ∙ ofBits-toBits binary32 x h
+
+-- what is read fits
+pub float-fits : (b : List ℕ) (k : ℕ) → T (fits binary32 (float b k))
+unfolding float
+float-fits b k = ofBits-fits binary32 (word b k)
+
+-- a word that is no NaN's pattern is its own canonical word
+pub canon-itself : (w : ℕ) → w < 4294967296 → T (not (isNan (floatOf w))) → canon w ≡ w
+canon-itself w h n = toBits-ofBits binary32 w h n
+
+-- every NaN pattern's is 0x7fc0_0000
+pub canon-nan : (w : ℕ) → floatOf w ≡ nan → canon w ≡ 0x7fc00000
+unfolding toBits
+canon-nan w e = rw e
+
+pub canon-canon : (w : ℕ) → canon (canon w) ≡ canon w
+canon-canon w = ap bits (ofBits-toBits binary32 (floatOf w) (ofBits-fits binary32 w))
+
+-- writing what was read
+pub bits-float : (b : List ℕ) (k : ℕ) → bits (float b k) ≡ canon (word b k)
+unfolding float
+bits-float b k = refl
+
+-- ---- a run of floats
+
+all-fit : (xs : List Float) → AllFit xs → (i : ℕ) → i < length xs → T (fits binary32 (getD xs i nan))
+all-fit [] f i h = nan-fits binary32
+all-fit (x ∷ xs) f zero h = f .0
+all-fit (x ∷ xs) f (suc i) h = all-fit xs (f .1) i (omega arith)
+
+word-of : (xs : List Float) (i : ℕ) → i < length xs → getD (wordsOf xs) i 0 ≡ bits (getD xs i nan)
+word-of [] i h = omega arith
+word-of (x ∷ xs) zero h = refl
+word-of (x ∷ xs) (suc i) h = word-of xs i (omega arith)
+
+module _ (ws : List ℕ) (k : ℕ) where
+  -- floats that were written from word k on are read again, for a run of any length at any place
+  pub floats-back : (xs : List Float) → take (length xs) (drop k ws) ≡ wordsOf xs → AllFit xs
+      → (i : ℕ) → T (ltb i (length xs)) → float (bytesOf ws) (k + i) ≡ getD xs i nan
+  floats-back xs held f i h =
+      let l = ltb→lt i (length xs) h in
+      float-back ws (k + i) (getD xs i nan)
+      (sym (getD-drop k ws i 0) ∙ sym (getD-take (length xs) (drop k ws) i 0 l) ∙ ap (λ (v : List ℕ). getD v i 0) held ∙ word-of xs i l)
+      (all-fit xs f i l)
+
+  -- the first of them
+  pub first-back : (x : Float) (xs : List Float) → take (suc (length xs)) (drop k ws) ≡ bits x ∷ wordsOf xs → AllFit (x ∷ xs) → float (bytesOf ws) k ≡ x
+  first-back x xs held f = rw add-zero at (floats-back (x ∷ xs) held f 0 (lt→ltb 0 (suc (length xs)) (omega arith)))
+
+-- a flag that was written is read again
+pub flag-back : (b : Bool) → eqb (flag b) 1 ≡ b
+flag-back true = refl
+flag-back false = refl
+
+pub flag-lt : (b : Bool) → flag b < 4294967296
+flag-lt true = lit< tt
+flag-lt false = lit< tt

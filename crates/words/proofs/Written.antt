@@ -1,0 +1,93 @@
+-- Laws of written words, for callers: runs join, other bytes stay, and a buffer written whole no longer depends on what it held. Assumes nothing.
+use mathlib.Core.Path.{_≡_, refl, sym, ap, subst, _∙_}
+use mathlib.Core.Logic.{_⊎_, inl, inr, ⊎-elim}
+use mathlib.Core.List.{List, [], _∷_, _++_, append-nil}
+use Prim.Native.Nat.{ℕ, suc, _+_, _*_, _%_, _≤_, _<_}
+use native.Mathlib.Nat.{add-zero, add-assoc}
+use native.Mathlib.Omega.{arith}
+use lib.ListN.{length, getD, set, take, drop, length-append, drop-of-length-le, List·getD-append}
+use lib.Seq.{sets, sets-eq, length-sets, length-take-le, getD-set-other, getD-append-add}
+use Rattle.words.specs.Words.{word, bytesOf, Put}
+use Rattle.words.proofs.Back.{word-bytesOf}
+
+pub length-bytesOf : (ws : List ℕ) → length (bytesOf ws) ≡ 4 * length ws
+length-bytesOf [] = refl
+length-bytesOf (w ∷ ws) = omega (arith, length-bytesOf ws)
+
+pub bytesOf-append : (a b : List ℕ) → bytesOf (a ++ b) ≡ bytesOf a ++ bytesOf b
+bytesOf-append [] b = refl
+bytesOf-append (w ∷ a) b = rw (bytesOf-append a b)
+
+sets-append : (b : List ℕ) (i : ℕ) (u v : List ℕ) → sets (sets b i u) (i + length u) v ≡ sets b i (u ++ v)
+sets-append b i [] v = rw add-zero
+sets-append b i (x ∷ u) v =
+    let e : i + suc (length u) ≡ suc i + length u = omega arith in
+    rw e (sets-append _ (suc i) u v)
+
+-- one run after another is one run
+pub then : {b s t : List ℕ} {k j : ℕ} {u v : List ℕ} → Put b k u s → Put s j v t → j ≡ k + length u → Put b k (u ++ v) t
+then {b} {s} {t} {k} {j} {u} {v} p q h =
+    let e : 4 * j ≡ 4 * k + length (bytesOf u) = omega (arith, length-bytesOf u) in
+    record { is = q .is ∙ rw (p .is, e, bytesOf-append u v) (sets-append b (4 * k) (bytesOf u) (bytesOf v)) }
+
+pub put-length : {b t : List ℕ} {k : ℕ} {ws : List ℕ} → Put b k ws t → length t ≡ length b
+put-length {b} {t} {k} {ws} p = ap length (p .is) ∙ length-sets b (4 * k) (bytesOf ws)
+
+-- what stands before, the words, what stands after
+pub put-splits : {b t : List ℕ} {k : ℕ} {ws : List ℕ} → Put b k ws t → 4 * k + 4 * length ws ≤ length b
+    → t ≡ take (4 * k) b ++ bytesOf ws ++ drop (4 * k + length (bytesOf ws)) b
+put-splits {b} {t} {k} {ws} p h = p .is ∙ sets-eq (bytesOf ws) b (4 * k) (omega (arith, length-bytesOf ws))
+
+-- a buffer written whole no longer depends on what it held
+pub whole : {b t : List ℕ} {ws : List ℕ} → Put b 0 ws t → length b ≡ 4 * length ws → t ≡ bytesOf ws
+whole {b} {t} {ws} p h =
+    let n : length b ≤ 0 + length (bytesOf ws) = omega (arith, length-bytesOf ws) in
+    p .is ∙ sets-eq (bytesOf ws) b 0 (omega (arith, length-bytesOf ws)) ∙ rw (drop-of-length-le b n) (append-nil (bytesOf ws))
+
+-- ---- byte by byte and word by word
+
+sets-other : (vs b : List ℕ) (n i : ℕ) → (i < n) ⊎ (n + length vs ≤ i) → getD (sets b n vs) i 0 ≡ getD b i 0
+sets-other [] b n i h = refl
+sets-other (v ∷ vs) b n i h =
+    sets-other vs (set b n v) (suc n) i (⊎-elim (λ l. inl (omega arith)) (λ r. inr (omega arith)) h)
+    ∙ getD-set-other b n i v 0 (λ e. ⊎-elim (λ l. omega arith) (λ r. omega arith) h)
+
+-- a byte outside the run stays
+pub put-keeps : {b t : List ℕ} {k : ℕ} {ws : List ℕ} → Put b k ws t → (i : ℕ) → (i < 4 * k) ⊎ (4 * k + 4 * length ws ≤ i) → getD t i 0 ≡ getD b i 0
+put-keeps {b} {t} {k} {ws} p i h =
+    ap (λ (l : List ℕ). getD l i 0) (p .is)
+    ∙ sets-other (bytesOf ws) b (4 * k) i (⊎-elim (λ l. inl l) (λ r. inr (omega (arith, length-bytesOf ws))) h)
+
+-- a word outside the run stays
+pub put-keeps-word : {b t : List ℕ} {k : ℕ} {ws : List ℕ} → Put b k ws t → (j : ℕ) → (j < k) ⊎ (k + length ws ≤ j) → word t j ≡ word b j
+unfolding word
+put-keeps-word {b} {t} {k} {ws} p j h =
+    rw (
+      put-keeps p (4 * j) (⊎-elim (λ l. inl (omega arith)) (λ r. inr (omega arith)) h),
+      put-keeps p (4 * j + 1) (⊎-elim (λ l. inl (omega arith)) (λ r. inr (omega arith)) h),
+      put-keeps p (4 * j + 2) (⊎-elim (λ l. inl (omega arith)) (λ r. inr (omega arith)) h),
+      put-keeps p (4 * j + 3) (⊎-elim (λ l. inl (omega arith)) (λ r. inr (omega arith)) h),
+    )
+
+-- byte i of the run is the words'
+put-byte : {b t : List ℕ} {k : ℕ} {ws : List ℕ} → Put b k ws t → 4 * k + 4 * length ws ≤ length b → (i : ℕ) → i < 4 * length ws
+    → getD t (4 * k + i) 0 ≡ getD (bytesOf ws) i 0
+put-byte {b} {t} {k} {ws} p h i l =
+    let front = take (4 * k) b in
+    let e : length front ≡ 4 * k = length-take-le (4 * k) b (omega arith) in
+    let m : 4 * k + i < length (front ++ bytesOf ws) = omega (arith, e, length-append front (bytesOf ws), length-bytesOf ws) in
+    ap (λ (l : List ℕ). getD l (4 * k + i) 0) (put-splits p h)
+    ∙ List·getD-append (front ++ bytesOf ws) (drop (4 * k + length (bytesOf ws)) b) 0 (4 * k + i) m
+    ∙ subst (λ (n : ℕ). getD (front ++ bytesOf ws) (n + i) 0 ≡ getD (bytesOf ws) i 0) e (getD-append-add front (bytesOf ws) i 0)
+
+-- word i of the run is the i-th of the words
+pub put-word : {b t : List ℕ} {k : ℕ} {ws : List ℕ} → Put b k ws t → 4 * k + 4 * length ws ≤ length b → (i : ℕ) → i < length ws
+    → word t (k + i) ≡ getD ws i 0 % 4294967296
+unfolding word
+put-word {b} {t} {k} {ws} p h i l =
+    let at : (j : ℕ) → j < 4 → getD t (4 * k + (4 * i + j)) 0 ≡ getD (bytesOf ws) (4 * i + j) 0 = λ j m. put-byte p h (4 * i + j) (omega arith) in
+    let e : 4 * (k + i) ≡ 4 * k + 4 * i = omega arith in
+    let z : 4 * i + 0 ≡ 4 * i = omega arith in
+    let none : getD t (4 * k + 4 * i) 0 ≡ getD (bytesOf ws) (4 * i) 0 = rw z at (at 0 (omega arith)) in
+    rw (e, add-assoc (4 * k) (4 * i) 1, add-assoc (4 * k) (4 * i) 2, add-assoc (4 * k) (4 * i) 3, none, at 1 (omega arith), at 2 (omega arith), at 3 (omega arith))
+    (word-bytesOf ws i)

@@ -1,0 +1,63 @@
+// Words, floats and vectors into bytes. A written run says which words it put where, and so that every other byte stays.
+use relay_math::Vec3;
+ghost use mathlib.Core.Path.{_≡_};
+ghost use mathlib.Core.List.{_∷_, []};
+ghost use Prim.Native.Nat.{_+_, _*_, _≤_};
+ghost use lib.ListN.{length};
+ghost use Rattle.words.specs.Words.{bits, flag, wordsOf, floatsOfVec, Put};
+
+pub fn put_word(bytes: &mut [u8], k: usize, w: u32)
+    requires { ⌜ 4 * k + 4 ≤ length (now bytes) ⌝ }
+    ensures { λ _. ⌜ Put (now (bytes .entry)) k (w ∷ []) (now (bytes .exit)) ⌝ }
+{
+    let at = 4 * k;
+    bytes[at] = (w % 256) as u8;
+    bytes[at + 1] = (w / 256 % 256) as u8;
+    bytes[at + 2] = (w / 65536 % 256) as u8;
+    bytes[at + 3] = (w / 16777216 % 256) as u8;
+}
+
+// The NaN is always written as 0x7fc0_0000: compiled code may hold any NaN pattern, and `to_bits` is undefined there.
+pub fn bits_of(x: f32) -> u32
+    ensures { λ r. ⌜ r ≡ bits x ⌝ }
+{
+    if x != x { 0x7fc0_0000 } else { f32::to_bits(x) }
+}
+
+// The word of a yes or no.
+fn flag_of(yes: bool) -> u32
+    ensures { λ r. ⌜ r ≡ flag yes ⌝ }
+{
+    if yes { 1 } else { 0 }
+}
+
+pub fn put_flag(bytes: &mut [u8], k: usize, yes: bool)
+    requires { ⌜ 4 * k + 4 ≤ length (now bytes) ⌝ }
+    ensures { λ _. ⌜ Put (now (bytes .entry)) k (flag yes ∷ []) (now (bytes .exit)) ⌝ }
+{
+    put_word(bytes, k, flag_of(yes))
+}
+
+pub fn put_float(bytes: &mut [u8], k: usize, x: f32)
+    requires { ⌜ 4 * k + 4 ≤ length (now bytes) ⌝ }
+    ensures { λ _. ⌜ Put (now (bytes .entry)) k (bits x ∷ []) (now (bytes .exit)) ⌝ }
+{
+    put_word(bytes, k, bits_of(x))
+}
+
+// Three floats side by side. Runs are written by threes, which keeps each caller's proof small.
+pub fn put_three(bytes: &mut [u8], k: usize, x: f32, y: f32, z: f32)
+    requires { ⌜ 4 * k + 12 ≤ length (now bytes) ⌝ }
+    ensures { λ _. ⌜ Put (now (bytes .entry)) k (bits x ∷ bits y ∷ bits z ∷ []) (now (bytes .exit)) ⌝ }
+{
+    put_float(bytes, k, x);
+    put_float(bytes, k + 1, y);
+    put_float(bytes, k + 2, z);
+}
+
+pub fn put_vec(bytes: &mut [u8], k: usize, v: Vec3)
+    requires { ⌜ 4 * k + 12 ≤ length (now bytes) ⌝ }
+    ensures { λ _. ⌜ Put (now (bytes .entry)) k (wordsOf (floatsOfVec v)) (now (bytes .exit)) ⌝ }
+{
+    put_three(bytes, k, v.0, v.1, v.2);
+}

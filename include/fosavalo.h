@@ -4,6 +4,9 @@
 #ifndef FOSAVALO_H
 #define FOSAVALO_H
 
+#include <stddef.h>
+#include <stdint.h>
+
 #ifdef __cplusplus
 extern "C" {
 #endif
@@ -12,6 +15,41 @@ extern "C" {
  * The sine of a zero is that zero. */
 float fosavalo_sinf(float x);
 float fosavalo_cosf(float x);
+
+/* Set-up and the joint tick work on bytes: words of 32 bits, little-endian, a float as its bits. A NaN that is written is 7fc00000. */
+
+/* The lengths of the buffers, in bytes. */
+#define FOSAVALO_IMAGE_BYTES 380
+#define FOSAVALO_SETUP_BYTES 200
+#define FOSAVALO_TICK_BYTES 68
+#define FOSAVALO_ANSWER_BYTES 40
+
+/* What set-up and tick return. Where several hold it is the lowest. */
+#define FOSAVALO_DONE 0                /* the image is written, at a tick the answer too */
+#define FOSAVALO_WRONG_IMAGE_LENGTH 1  /* image_len is not FOSAVALO_IMAGE_BYTES */
+#define FOSAVALO_WRONG_INPUT_LENGTH 2  /* input_len is not FOSAVALO_SETUP_BYTES, at a tick FOSAVALO_TICK_BYTES */
+#define FOSAVALO_WRONG_ANSWER_LENGTH 3 /* tick only: answer_len is not FOSAVALO_ANSWER_BYTES */
+#define FOSAVALO_BROKEN_IMAGE 4        /* tick only: no set-up or tick leaves such an image */
+
+/* Writes a fresh image, the state that goes from tick to tick; what stood in it is not read.
+ *
+ * input, 50 words: k_r 3, k_omega 3, j 3; the set's k_r, lambda_j, psi_max; enter, exit; err_lo, err_hi, g_min; p0, v0, a0, pf, vf,
+ * af (3 each), t; for each of three axes omega_o, omega_c, b0, tau; fc, fs. Every bit pattern is taken and mended where it is no use.
+ *
+ * Returns 0, 1 or 2. Unless it is 0 no byte is changed; the input never is. Each pointer has to be good for its length, whatever
+ * that is, and the two buffers must not overlap. */
+uint32_t fosavalo_setup(uint8_t *image, size_t image_len, const uint8_t *input, size_t input_len);
+
+/* One tick on an image that set-up or the last tick left.
+ *
+ * input, 17 words: gyro 3 (rad/s), quaternion w x y z, tracking error, yaw, yaw rate, dt (s), the planner's rate command 3 (rad/s), the
+ * fraction of the last torque that was delivered 3. Every bit pattern is taken.
+ * answer, 10 words: torque 3, rate command 3 (rad/s), the flag (1: the fallback's command, 0: the planner's; a whole number), the
+ * governor's time, psi, margin.
+ *
+ * Returns 0 to 4. Unless it is 0 no byte of the image or the answer is changed; the input never is. Each pointer has to be good for
+ * its length, whatever that is, and no two of the three buffers may overlap. */
+uint32_t fosavalo_tick(uint8_t *image, size_t image_len, const uint8_t *input, size_t input_len, uint8_t *answer, size_t answer_len);
 
 #ifdef __cplusplus
 }

@@ -1,0 +1,4 @@
+pub mod Decoded
+pub mod Answered
+pub mod Fitting
+pub mod Going

@@ -5,13 +5,14 @@ use mathlib.Core.List.{List, [], _∷_, _++_}
 use Prim.Native.Nat.{ℕ, zero, suc, _+_, _*_, _/_, _%_, _≤_, _<_}
 use native.Mathlib.Nat.{add-zero, suc-add, mod-lt, mod-eq-of-lt, mod-add-div', div-div-eq-div-mul, add-mul-mod-self-right}
 use native.Mathlib.Omega.{arith}
-use lib.Dec.{T, eqb, ltb, ltb→lt, lt→ltb, lit<}
+use lib.Dec.{T, eqb, ltb, ltb→lt, lit<}
 use lib.ListN.{length, getD, take, drop}
 use lib.Seq.{getD-take, getD-drop}
 use lib.Ieee.{Float, nan, binary32, isNan, fits, ofBits, toBits}
 use lib.Ieee.Fits.{nan-fits}
 use lib.Ieee.Bits.{ofBits-toBits, toBits-lt, toBits-ofBits, ofBits-fits}
-use Rattle.words.specs.Words.{word, float, floatOf, bits, canon, flag, wordsOf, bytesOf, AllFit}
+use Rattle.relay_math.specs.declared.Vec3.{Vec3}
+use Rattle.words.specs.Words.{word, float, vec, floatsOfVec, floatOf, bits, canon, flag, wordsOf, bytesOf, AllFit, Holds}
 
 -- four bytes by weight are the word, below 2 ^ 32
 four : (w : ℕ) → w % 256 + w / 256 % 256 * 256 + w / 65536 % 256 * 65536 + w / 16777216 % 256 * 16777216 ≡ w % 4294967296
@@ -41,17 +42,9 @@ word-bytesOf (w ∷ ws) (suc k) =
     let e : 4 * suc k ≡ suc (suc (suc (suc (4 * k)))) = omega arith in
     simp (e, suc-add) (word-bytesOf ws k)
 
-pub word-back : (ws : List ℕ) (k : ℕ) {w : ℕ} → getD ws k 0 ≡ w → w < 4294967296 → word (bytesOf ws) k ≡ w
-word-back ws k {w} e h = word-bytesOf ws k ∙ rw e (mod-eq-of-lt h)
-
 -- every word of an f32 is one of 32 bits
 pub bits-lt : (x : Float) → T (fits binary32 x) → bits x < 4294967296
 bits-lt x h = toBits-lt binary32 x h
-
--- a float that was written is read again
-pub float-back : (ws : List ℕ) (k : ℕ) (x : Float) → getD ws k 0 ≡ bits x → T (fits binary32 x) → float (bytesOf ws) k ≡ x
-unfolding float
-float-back ws k x e h = ap floatOf (word-back ws k e (bits-lt x h)) ∙ ofBits-toBits binary32 x h
 
 -- what is read fits
 pub float-fits : (b : List ℕ) (k : ℕ) → T (fits binary32 (float b k))
@@ -75,7 +68,14 @@ pub bits-float : (b : List ℕ) (k : ℕ) → bits (float b k) ≡ canon (word b
 unfolding float
 bits-float b k = refl
 
--- ---- a run of floats
+-- a flag that was written is read again
+pub flag-back : (b : Bool) → eqb (flag b) 1 ≡ b
+flag-back true = refl
+flag-back false = refl
+
+pub flag-lt : (b : Bool) → flag b < 4294967296
+flag-lt true = lit< tt
+flag-lt false = lit< tt
 
 all-fit : (xs : List Float) → AllFit xs → (i : ℕ) → i < length xs → T (fits binary32 (getD xs i nan))
 all-fit [] f i h = nan-fits binary32
@@ -87,25 +87,36 @@ word-of [] i h = omega arith
 word-of (x ∷ xs) zero h = refl
 word-of (x ∷ xs) (suc i) h = word-of xs i (omega arith)
 
-module _ (ws : List ℕ) (k : ℕ) where
-  -- floats that were written from word k on are read again, for a run of any length at any place
-  pub floats-back : (xs : List Float) → take (length xs) (drop k ws) ≡ wordsOf xs → AllFit xs
-      → (i : ℕ) → T (ltb i (length xs)) → float (bytesOf ws) (k + i) ≡ getD xs i nan
-  floats-back xs held f i h =
+-- ---- bytes b that are the bytes of words ws
+
+module _ {b ws : List ℕ} (e : Holds b ws) where
+  pub word-back : (k : ℕ) {w : ℕ} → getD ws k 0 ≡ w → w < 4294967296 → word b k ≡ w
+  word-back k {w} held h = ap (λ (l : List ℕ). word l k) (e .is) ∙ word-bytesOf ws k ∙ rw held (mod-eq-of-lt h)
+
+  -- a float that was written is read again
+  pub float-back : (k : ℕ) (x : Float) → getD ws k 0 ≡ bits x → T (fits binary32 x) → float b k ≡ x
+  unfolding float
+  float-back k x held h = ap floatOf (word-back k held (bits-lt x h)) ∙ ofBits-toBits binary32 x h
+
+  -- and so is a run of floats, of any length at any place
+  pub floats-back : (k : ℕ) (xs : List Float) → take (length xs) (drop k ws) ≡ wordsOf xs → AllFit xs
+      → (i : ℕ) → T (ltb i (length xs)) → float b (k + i) ≡ getD xs i nan
+  floats-back k xs held f i h =
       let l = ltb→lt i (length xs) h in
-      float-back ws (k + i) (getD xs i nan)
+      float-back (k + i) (getD xs i nan)
       (sym (getD-drop k ws i 0) ∙ sym (getD-take (length xs) (drop k ws) i 0 l) ∙ ap (λ (v : List ℕ). getD v i 0) held ∙ word-of xs i l)
       (all-fit xs f i l)
 
   -- the first of them
-  pub first-back : (x : Float) (xs : List Float) → take (suc (length xs)) (drop k ws) ≡ bits x ∷ wordsOf xs → AllFit (x ∷ xs) → float (bytesOf ws) k ≡ x
-  first-back x xs held f = rw add-zero at (floats-back (x ∷ xs) held f 0 (lt→ltb 0 (suc (length xs)) (omega arith)))
+  pub first-back : (k : ℕ) (xs : List Float) → take (length xs) (drop k ws) ≡ wordsOf xs → AllFit xs → T (ltb 0 (length xs)) → float b k ≡ getD xs 0 nan
+  first-back k xs held f h = rw add-zero at (floats-back k xs held f 0 h)
 
--- a flag that was written is read again
-pub flag-back : (b : Bool) → eqb (flag b) 1 ≡ b
-flag-back true = refl
-flag-back false = refl
+  pub vec-back : (k : ℕ) (v : Vec3) → take 3 (drop k ws) ≡ wordsOf (floatsOfVec v) → AllFit (floatsOfVec v) → vec b k ≡ v
+  unfolding vec
+  vec-back k v held f =
+      let at = floats-back k (floatsOfVec v) held f in
+      simp (first-back k (floatsOfVec v) held f tt, at 1 tt, at 2 tt)
 
-pub flag-lt : (b : Bool) → flag b < 4294967296
-flag-lt true = lit< tt
-flag-lt false = lit< tt
+  -- the word of a float
+  pub bits-back : (k : ℕ) (x : Float) → getD ws k 0 ≡ bits x → T (fits binary32 x) → word b k ≡ bits x
+  bits-back k x held h = word-back k held (bits-lt x h)

@@ -63,6 +63,10 @@ abbrev pub AllFit : List Float → Type 0
 AllFit [] = Unit
 AllFit (x ∷ xs) = T (fits binary32 x) × AllFit xs
 
+-- b is the bytes of the words ws
+pub record Holds (b ws : List ℕ) : Type 0 where
+  pub is : b ≡ bytesOf ws
+
 -- n words from number k on, each read as a float and written again
 abbrev pub canons : List ℕ → ℕ → ℕ → List ℕ
 canons b k zero = []

@@ -1,5 +1,8 @@
 //! `make bench`: each of our calls beside what it is measured against, through the same kind of call, in one run.
 
+mod joint;
+mod stack;
+
 use std::hint::black_box;
 use std::time::Instant;
 
@@ -56,7 +59,7 @@ impl Rng {
 fn line(name: &str, (ours, theirs): (f64, f64), bar: f64) -> bool {
     let ratio = ours / theirs;
     let verdict = if ratio <= bar { "within" } else { "OVER" };
-    println!("{name:44} ours {ours:6.2} ns  other {theirs:6.2} ns  ratio {ratio:5.2}  ({verdict} the bar of {bar})");
+    println!("{name:48} ours {ours:6.2} ns  other {theirs:6.2} ns  ratio {ratio:5.2}  ({verdict} the bar of {bar})");
     ratio <= bar
 }
 
@@ -77,6 +80,23 @@ fn main() {
     let mut good = line("root, against the hardware's", pair(faces::sqrtf, |x| theirs::sqrtf(x), &positive), 2.5);
     good &= line("sine and cosine, against relay's kernels, ±pi", pair(ours, theirs, &headings), 1.0);
     good &= line("sine and cosine, against relay's kernels, ±128", pair(ours, theirs, &wide), 1.0);
+    for (name, run) in [("slow pass", joint::pass()), ("headings", joint::headings())] {
+        if !joint::alike(&run) {
+            println!("joint tick, {name}: the sides answer differently");
+            good = false;
+        }
+        let times = joint::times(&run);
+        good &= line(&format!("joint tick, {name}, Rust made from the image"), (times.ours, times.made), 0.7);
+        let ratio = times.ours / times.kept;
+        println!(
+            "{:48} ours {:6.2} ns  other {:6.2} ns  ratio {ratio:5.2}  (no bar)",
+            "  .. and Rust with its objects kept", times.ours, times.kept
+        );
+        match joint::stacks(&run) {
+            Some((ours, theirs)) => println!("{:48} ours {ours:6} B   other {theirs:6} B", "  .. and the stack that one tick takes"),
+            None => println!("  .. and the stack that one tick takes: not measured on this machine"),
+        }
+    }
     if !good {
         std::process::exit(1);
     }

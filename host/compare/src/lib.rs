@@ -2,6 +2,7 @@
 
 pub mod exact;
 pub mod generate;
+pub mod joint;
 pub mod numbers;
 pub mod progress;
 pub mod routine;

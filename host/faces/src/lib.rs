@@ -62,6 +62,15 @@ mod raw {
     extern "C" {
         pub fn fosavalo_sinf(x: f32) -> f32;
         pub fn fosavalo_cosf(x: f32) -> f32;
+        pub fn fosavalo_setup(image: *mut u8, image_len: usize, input: *const u8, input_len: usize) -> u32;
+        pub fn fosavalo_tick(
+            image: *mut u8,
+            image_len: usize,
+            input: *const u8,
+            input_len: usize,
+            answer: *mut u8,
+            answer_len: usize,
+        ) -> u32;
         pub fn probe_sqrtf(x: f32) -> f32;
         pub fn probe_sincos(x: f32, sine: &mut f32) -> f32;
         pub fn probe_fabsf(x: f32) -> f32;
@@ -80,8 +89,23 @@ pub fn cosf(x: f32) -> f32 {
     unsafe { raw::fosavalo_cosf(x) }
 }
 
-pub fn sqrtf(x: f32) -> f32 {
+/// Writes a fresh image. Gives document 01's number; unless that is 0, nothing is changed.
+#[inline]
+pub fn setup(image: &mut [u8], input: &[u8]) -> u32 {
+    // SAFETY: each pointer goes with its slice's own length, the function is proved to stay within them, and borrowing keeps
+    // the slices apart.
+    unsafe { raw::fosavalo_setup(image.as_mut_ptr(), image.len(), input.as_ptr(), input.len()) }
+}
+
+/// One joint tick. Gives document 01's number; unless that is 0, nothing is changed.
+#[inline]
+pub fn tick(image: &mut [u8], input: &[u8], answer: &mut [u8]) -> u32 {
     // SAFETY: as above.
+    unsafe { raw::fosavalo_tick(image.as_mut_ptr(), image.len(), input.as_ptr(), input.len(), answer.as_mut_ptr(), answer.len()) }
+}
+
+pub fn sqrtf(x: f32) -> f32 {
+    // SAFETY: a number in, a number out; the function is proved total.
     unsafe { raw::probe_sqrtf(x) }
 }
 

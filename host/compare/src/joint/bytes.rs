@@ -1,0 +1,163 @@
+//! Document 01's words: little-endian u32, floats as their bits, a NaN written as 7fc00000. And buffers with guards.
+
+pub const IMAGE: usize = 380;
+pub const SETUP: usize = 200;
+pub const TICK: usize = 68;
+pub const ANSWER: usize = 40;
+
+/// The words of an image, and what word 0 says.
+pub const WORDS: usize = IMAGE / 4;
+
+/// All NaNs alike.
+#[inline]
+pub fn canonical(x: f32) -> u32 {
+    if x.is_nan() {
+        0x7fc0_0000
+    } else {
+        x.to_bits()
+    }
+}
+
+/// The word at this place; 0 past the end.
+#[inline]
+pub fn word(bytes: &[u8], at: usize) -> u32 {
+    match bytes.get(4 * at..4 * at + 4) {
+        Some(&[a, b, c, d]) => u32::from_le_bytes([a, b, c, d]),
+        _ => 0,
+    }
+}
+
+#[inline]
+pub fn float(bytes: &[u8], at: usize) -> f32 {
+    f32::from_bits(word(bytes, at))
+}
+
+/// Puts a word; past the end nothing.
+#[inline]
+pub fn put(bytes: &mut [u8], at: usize, word: u32) {
+    if let Some(four) = bytes.get_mut(4 * at..4 * at + 4) {
+        four.copy_from_slice(&word.to_le_bytes());
+    }
+}
+
+/// Takes words one after another.
+pub struct Take<'a> {
+    bytes: &'a [u8],
+    at: usize,
+}
+
+impl<'a> Take<'a> {
+    #[inline]
+    pub fn from(bytes: &'a [u8], at: usize) -> Self {
+        Take { bytes, at }
+    }
+
+    #[inline]
+    pub fn word(&mut self) -> u32 {
+        self.at += 1;
+        word(self.bytes, self.at - 1)
+    }
+
+    #[inline]
+    pub fn float(&mut self) -> f32 {
+        f32::from_bits(self.word())
+    }
+
+    #[inline]
+    pub fn floats<const N: usize>(&mut self) -> [f32; N] {
+        std::array::from_fn(|_| self.float())
+    }
+
+    /// Three axes, one after another.
+    #[inline]
+    pub fn axes<const N: usize>(&mut self) -> [[f32; N]; 3] {
+        std::array::from_fn(|_| self.floats())
+    }
+}
+
+/// Puts words one after another.
+pub struct Put<'a> {
+    bytes: &'a mut [u8],
+    at: usize,
+}
+
+impl<'a> Put<'a> {
+    #[inline]
+    pub fn from(bytes: &'a mut [u8], at: usize) -> Self {
+        Put { bytes, at }
+    }
+
+    #[inline]
+    pub fn word(&mut self, word: u32) {
+        put(self.bytes, self.at, word);
+        self.at += 1;
+    }
+
+    #[inline(always)]
+    pub fn floats<const N: usize>(&mut self, floats: [f32; N]) {
+        for x in floats {
+            self.word(canonical(x));
+        }
+    }
+
+    #[inline(always)]
+    pub fn axes<const N: usize>(&mut self, axes: [[f32; N]; 3]) {
+        for axis in axes {
+            self.floats(axis);
+        }
+    }
+}
+
+/// Floats as bytes, every bit kept.
+pub fn raw<const N: usize>(floats: &[f32]) -> [u8; N] {
+    let mut bytes = [0; N];
+    floats.iter().enumerate().for_each(|(at, x)| put(&mut bytes, at, x.to_bits()));
+    bytes
+}
+
+/// The longest that a test lends.
+pub const LONGEST: usize = 400;
+const GUARD: usize = 32;
+
+/// Bytes to lend, between guards; what a call may not touch is compared with the rest.
+#[derive(Clone, PartialEq, Eq)]
+pub struct Lent {
+    all: [u8; GUARD + LONGEST + GUARD],
+    len: usize,
+}
+
+impl Lent {
+    /// At most `LONGEST` of them.
+    pub fn new(len: usize) -> Self {
+        let mut all = [0; GUARD + LONGEST + GUARD];
+        all.iter_mut().enumerate().for_each(|(at, byte)| *byte = 0xa5 ^ at as u8);
+        Lent { all, len: len.min(LONGEST) }
+    }
+
+    pub fn holding(bytes: &[u8]) -> Self {
+        let mut lent = Lent::new(bytes.len());
+        lent.set(bytes);
+        lent
+    }
+
+    /// With another length, nothing else changed: a longer one reaches into the guard.
+    pub fn cut(&mut self, len: usize) {
+        self.len = len.min(LONGEST);
+    }
+
+    #[inline]
+    pub fn bytes(&self) -> &[u8] {
+        &self.all[GUARD..GUARD + self.len]
+    }
+
+    #[inline]
+    pub fn bytes_mut(&mut self) -> &mut [u8] {
+        &mut self.all[GUARD..GUARD + self.len]
+    }
+
+    /// As many bytes as both have.
+    #[inline]
+    pub fn set(&mut self, bytes: &[u8]) {
+        self.bytes_mut().iter_mut().zip(bytes).for_each(|(own, byte)| *own = *byte);
+    }
+}

@@ -1,0 +1,49 @@
+//! The third demand, by looking back over the margins of a run. Nothing is remembered from tick to tick.
+
+/// Whether the planner's command has to be passed on at the last of these ticks: some tick had a finite margin above exit, and
+/// none after it one that was non-finite or below enter. The latest tick above exit is the one to ask, for it has the fewest
+/// after it.
+pub fn planner_flies(margins: &[f32], enter: f32, exit: f32) -> bool {
+    match margins.iter().rposition(|m| m.is_finite() && *m > exit) {
+        Some(i) => margins[i + 1..].iter().all(|m| m.is_finite() && !(*m < enter)),
+        None => false,
+    }
+}
+
+/// What is passed on: the planner's words as they are, non-finite ones made +0.0.
+pub fn passed_on(agile: [u32; 3]) -> [u32; 3] {
+    agile.map(|word| if word & 0x7f80_0000 == 0x7f80_0000 { 0 } else { word })
+}
+
+#[cfg(test)]
+mod tests {
+    use super::*;
+
+    #[test]
+    fn every_past_of_the_band() {
+        let flies = |margins: &[f32]| planner_flies(margins, 0.5, 1.0);
+        // nothing yet, at exit, above it
+        assert!(!flies(&[]) && !flies(&[0.75]) && !flies(&[1.0]) && flies(&[1.5]));
+        // into the band from above and from below, at enter, through it
+        assert!(flies(&[1.5, 0.75]) && flies(&[1.5, 0.5]) && !flies(&[1.5, 0.25]) && !flies(&[1.5, 0.25, 0.75]));
+        assert!(flies(&[0.25, 1.5, 0.75, 0.75]) && !flies(&[1.5, 0.25, 1.0]) && flies(&[1.5, 0.25, 1.5]));
+        // what isn't finite
+        for odd in [f32::NAN, f32::INFINITY, f32::NEG_INFINITY] {
+            assert!(!flies(&[odd]) && !flies(&[1.5, odd]) && !flies(&[1.5, odd, 0.75]) && flies(&[odd, 1.5]));
+        }
+    }
+
+    /// The lines of `shieldtable`.
+    #[test]
+    fn the_table_of_document_01() {
+        let margins = [1.0, 1.5, 0.75, 0.5, 0.25, 0.75, 1.5, f32::NAN, f32::INFINITY];
+        let flags: Vec<u32> = (1..=margins.len()).map(|n| u32::from(!planner_flies(&margins[..n], 0.5, 1.0))).collect();
+        assert_eq!(flags, [1, 0, 0, 0, 1, 1, 0, 1, 1]);
+    }
+
+    #[test]
+    fn only_what_is_not_finite_is_made_zero() {
+        assert_eq!(passed_on([0x8000_0000, 0x7f7f_ffff, 0x7f80_0000]), [0x8000_0000, 0x7f7f_ffff, 0]);
+        assert_eq!(passed_on([0xff80_0000, 0xffff_ffff, 1]), [0, 0, 1]);
+    }
+}

@@ -1,0 +1,297 @@
+//! The joint tick: the archive's two calls against the Rust's own calls in document 01's order, byte for byte, and the third
+//! demand by looking back. FOSAVALO_TICKS asks for more ticks than the gate's five million.
+
+use compare::joint::bytes::{float, put, word, ANSWER, IMAGE, SETUP, TICK};
+use compare::joint::runs::{self, Seen, Watch};
+use compare::joint::{lengths, parts, Face, ARCHIVE};
+use std::time::Instant;
+
+#[test]
+fn every_tick_is_the_rust_s_and_the_look_back_s() {
+    let (start, ticks) = (Instant::now(), runs::ticks());
+    let (seen, parted) = runs::compare(&ARCHIVE, ticks, Watch::All, |_| {});
+    println!("{seen}\n{:.1} s", start.elapsed().as_secs_f32());
+    if let Some(parted) = parted {
+        panic!("{parted}");
+    }
+    assert!(seen.accepted() >= ticks && seen.looked_back >= ticks / 2);
+    covered(&seen);
+}
+
+/// A run that never goes where the errors are shows nothing.
+fn covered(seen: &Seen) {
+    let passes = seen.passes();
+    let [planner, fallback] = seen.band;
+    assert!(passes >= seen.accepted() / 4, "{passes} ticks of passes");
+    assert!(planner * 10 >= passes, "the planner flew in the band for {planner} of {passes} ticks of passes");
+    assert!(fallback * 10 >= passes, "the fallback flew in the band for {fallback} of {passes} ticks of passes");
+    assert!(seen.changes > 1000 && seen.edge > 1000);
+    assert!(seen.no_attitude > 1000 && seen.no_feedforward > 1000 && seen.at_the_end > 1000);
+    for (at, [accepted, refused]) in seen.damaged.iter().enumerate() {
+        // the words that row 4 looks at, and word 0, of which any other value is refused
+        let looked_at = [0, 13, 14, 15, 16, 26, 33, 40].contains(&at);
+        assert!(
+            accepted + refused > 1000 && (at == 0 || *accepted > 100) && (*refused > 100) == looked_at,
+            "word {at}: {accepted}, {refused}"
+        );
+    }
+}
+
+#[test]
+fn what_looks_right_but_is_wrong_is_caught() {
+    let missed: Vec<&str> = parts::WRONG.iter().filter(|face| !caught(face, Watch::All)).map(|face| face.name).collect();
+    assert!(missed.is_empty(), "not caught within {} ticks: {missed:?}", runs::GATE);
+}
+
+/// The look-back knows nothing of the model, and catches what the third demand is about.
+#[test]
+fn looking_back_alone_catches_what_is_about_the_flag_and_the_command() {
+    for name in [
+        "released in the band",
+        "released at exit itself",
+        "engaged at enter itself",
+        "a non-finite pick passed on",
+        "a sham with one answer",
+        "a sham that leaves the image",
+        "a sham that echoes its first answer",
+    ] {
+        let face = parts::WRONG.iter().find(|face| face.name == name).expect("a name of the list");
+        assert!(caught(face, Watch::LookBack), "{name}");
+    }
+}
+
+fn caught(face: &Face, watch: Watch) -> bool {
+    let (seen, parted) = runs::compare(face, runs::GATE, watch, |_| {});
+    if let Some(parted) = &parted {
+        println!("{}: caught in run {}, tick {} ({})", face.name, parted.run, parted.tick, parted.what);
+    } else {
+        println!("{}: NOT caught in {} ticks", face.name, seen.accepted());
+    }
+    parted.is_some()
+}
+
+/// What the wrong ones are made from is right.
+#[test]
+fn the_single_routines_make_the_same_tick() {
+    let (_, parted) = runs::compare(&parts::RIGHT, runs::GATE / 10, Watch::All, |_| {});
+    if let Some(parted) = parted {
+        panic!("{parted}");
+    }
+}
+
+#[test]
+fn every_length_of_every_buffer() {
+    let start = Instant::now();
+    let setups = lengths::setups(&ARCHIVE).unwrap_or_else(|text| panic!("{text}"));
+    let ticks = lengths::ticks(&ARCHIVE).unwrap_or_else(|text| panic!("{text}"));
+    assert_eq!((setups, ticks), (401 * 401, 2 * 401 * 401 * 401));
+    println!("{setups} set-ups and {ticks} ticks, {:.1} s", start.elapsed().as_secs_f32());
+}
+
+/// And the sweep can fail.
+#[test]
+fn a_wrong_length_taken_or_a_byte_changed_is_caught() {
+    let longer = Face { tick: |image, input, answer| (parts::RIGHT.tick)(image, &input[..input.len().min(TICK)], answer), ..parts::RIGHT };
+    let writes = Face {
+        setup: |image, input| {
+            if let Some(byte) = image.first_mut() {
+                *byte ^= 1;
+            }
+            (parts::RIGHT.setup)(image, input)
+        },
+        tick: |image, input, answer| {
+            if let (Some(byte), 4) = (answer.last_mut(), input.len() % 64) {
+                *byte ^= 1;
+            }
+            (parts::RIGHT.tick)(image, input, answer)
+        },
+        ..parts::RIGHT
+    };
+    assert!(lengths::ticks(&longer).is_err() && lengths::ticks(&writes).is_err() && lengths::setups(&writes).is_err());
+}
+
+// The layout and some lines of document 01 by hand, through the archive; the model has no part in them.
+
+const NAN: u32 = 0x7fc0_0000;
+const INFINITY: u32 = 0x7f80_0000;
+
+/// Level at rest for 2 s: gains 1, 2, .. 9, the set (1, 1, 1.75), enter 0.5, exit 1, error 1 to 3, g_min 0.25, no filter.
+fn set_up() -> [u8; SETUP] {
+    let mut input = [0; SETUP];
+    let mut at = 0;
+    let mut add = |words: &[f32]| {
+        for x in words {
+            put(&mut input, at, x.to_bits());
+            at += 1;
+        }
+    };
+    add(&[1.0, 2.0, 3.0, 4.0, 5.0, 6.0, 7.0, 8.0, 9.0]);
+    add(&[1.0, 1.0, 1.75, 0.5, 1.0, 1.0, 3.0, 0.25]);
+    add(&[0.0; 18]);
+    add(&[2.0]);
+    add(&[[4.0, 2.0, 2.0, 0.0]; 3].concat());
+    add(&[0.0, 1000.0]);
+    input
+}
+
+/// Standing still: identity, on track, a step of 1/16 s, the planner's 1, -0.0, NaN, everything delivered.
+fn still() -> [u8; TICK] {
+    let words: [f32; TICK / 4] = [0.0, 0.0, 0.0, 1.0, 0.0, 0.0, 0.0, 0.0, 0.0, 0.0, 0.0625, 1.0, -0.0, f32::NAN, 1.0, 1.0, 1.0];
+    let mut input = [0; TICK];
+    words.iter().enumerate().for_each(|(at, x)| put(&mut input, at, x.to_bits()));
+    input
+}
+
+fn image_of(input: &[u8; SETUP]) -> [u8; IMAGE] {
+    let mut image = [0xee; IMAGE];
+    assert_eq!((ARCHIVE.setup)(&mut image, input), 0);
+    image
+}
+
+fn tick(image: &mut [u8; IMAGE], input: &[u8; TICK]) -> [u8; ANSWER] {
+    let mut answer = [0xee; ANSWER];
+    assert_eq!((ARCHIVE.tick)(image, input, &mut answer), 0);
+    answer
+}
+
+/// `bytes` with words replaced.
+fn with<const N: usize>(mut bytes: [u8; N], words: &[(usize, u32)]) -> [u8; N] {
+    words.iter().for_each(|(at, word)| put(&mut bytes, *at, *word));
+    bytes
+}
+
+#[test]
+fn the_image_by_hand() {
+    let image = image_of(&set_up());
+    assert_eq!(word(&image, 0), 95);
+    (1..10).for_each(|at| assert_eq!(float(&image, at), at as f32));
+    let floats: Vec<f32> = (10..15).map(|at| float(&image, at)).collect();
+    assert_eq!(floats, [1.0, 1.0, 1.75, 0.5, 1.0]);
+    assert_eq!(word(&image, 15), 1);
+    let floats: Vec<f32> = (16..95).map(|at| float(&image, at)).collect();
+    let axis = [0.0, 0.0, 0.0, 0.0, 0.0, 0.0, 2.0];
+    let adrc = [0.0, 0.0, 0.0, 0.0, 1.0, 4.0, 2.0, 2.0, 0.0];
+    let filter = [1.0, 0.0, 0.0, 0.0, 0.0, 0.0, 0.0, 0.0, 0.0];
+    let expected = [vec![0.0, 1.0, 3.0, 0.25], [axis; 3].concat(), [adrc; 3].concat(), [filter; 3].concat()].concat();
+    assert_eq!(floats, expected);
+}
+
+#[test]
+fn a_tick_by_hand() {
+    let mut image = image_of(&set_up());
+    // level and still: psi 0, margin 1.75, above exit, so the planner flies in this very tick
+    let answer = tick(&mut image, &still());
+    let command = [3, 4, 5].map(|at| word(&answer, at));
+    assert_eq!(command, [1.0f32.to_bits(), 0x8000_0000, 0]);
+    assert_eq!([6, 7, 8, 9].map(|at| word(&answer, at)), [0, 0.0625f32.to_bits(), 0, 1.75f32.to_bits()]);
+    // kp (1 - 0) / b0
+    assert_eq!([float(&answer, 0), float(&answer, 1), float(&answer, 2)], [1.0, 0.0, 0.0]);
+    assert_eq!((word(&image, 15), float(&image, 16), float(&image, 43)), (0, 0.0625, 1.0));
+    // a rate whose square is 3 leaves a margin of 0.99..: in the band, and the planner flies on; 3.9 engages the fallback
+    let turning = |x: f32| with(still(), &[(0, x.to_bits())]);
+    assert_eq!(word(&tick(&mut image, &turning(3.0f32.sqrt())), 6), 0);
+    assert_eq!(word(&tick(&mut image, &turning(3.9f32.sqrt())), 6), 1);
+    let answer = tick(&mut image, &turning(3.0f32.sqrt()));
+    assert_eq!(word(&answer, 6), 1);
+    // level: minus k_r times an error of +0.0, and the feedforward's +0.0 and -0.0
+    assert!([3, 4, 5].iter().all(|at| float(&answer, *at) == 0.0));
+}
+
+#[test]
+fn a_heading_that_is_no_number() {
+    for yaw in [NAN, INFINITY, 0xff80_0000, 0x4300_0001, 0xffff_ffff] {
+        let mut image = image_of(&set_up());
+        let answer = tick(&mut image, &with(still(), &[(8, yaw)]));
+        assert_eq!([3, 4, 5, 6].map(|at| word(&answer, at)), [0, 0, 0, 1]);
+        assert_eq!([8, 9].map(|at| word(&answer, at)), [NAN, 0xff80_0000]);
+    }
+}
+
+#[test]
+fn a_step_that_is_no_number_moves_adrc_alone() {
+    for dt in [NAN, INFINITY, 0xff80_0000] {
+        let mut image = image_of(&set_up());
+        let answer = tick(&mut image, &with(still(), &[(0, 1.0f32.to_bits()), (10, dt)]));
+        assert_eq!(word(&answer, 7), 0);
+        // z1 = 0.001 (8 * 1)
+        assert_eq!(float(&image, 41), 0.001 * 8.0);
+    }
+}
+
+/// The fraction of this tick scales the command of the last.
+#[test]
+fn a_fraction_is_of_the_last_command() {
+    let mut image = image_of(&set_up());
+    let half = with(still(), &[(14, 0.5f32.to_bits())]);
+    assert_eq!(float(&tick(&mut image, &half), 0), 1.0);
+    assert_eq!((float(&image, 43), float(&image, 44), float(&image, 45)), (1.0, 0.0, 0.5));
+    tick(&mut image, &still());
+    assert_eq!((float(&image, 44), float(&image, 45)), (1.0, 1.0));
+    let u = float(&image, 43);
+    tick(&mut image, &half);
+    assert_eq!(float(&image, 44), 0.5 * u);
+}
+
+/// Between 1e-9 and 1e-3 there is an R_d and no feedforward: nothing is added, so minus zeros stay.
+#[test]
+fn without_the_sum_is_not_plus_zero() {
+    let a = (9.81f32 - 5e-4).to_bits();
+    let (v, p) = ((2.0 * f32::from_bits(a)).to_bits(), (2.0 * f32::from_bits(a)).to_bits());
+    // a0, pf, vf, af downwards over 2 s; enter and exit beyond every margin
+    let falling = with(set_up(), &[(25, a), (28, p), (31, v), (34, a), (12, 5.0f32.to_bits()), (13, 9.0f32.to_bits())]);
+    let mut image = image_of(&falling);
+    let answer = tick(&mut image, &still());
+    assert_eq!([3, 4, 5, 6].map(|at| word(&answer, at)), [0x8000_0000, 0x8000_0000, 0x8000_0000, 1]);
+}
+
+#[test]
+fn row_4_by_hand() {
+    let good = image_of(&set_up());
+    let number = |at: usize, word: u32| {
+        let (mut image, mut answer) = (with(good, &[(at, word)]), [0xee; ANSWER]);
+        let (before, number) = (image, (ARCHIVE.tick)(&mut image, &still(), &mut answer));
+        assert!(number == 0 || (image == before && answer == [0xee; ANSWER]));
+        number
+    };
+    for (at, refused) in [
+        (0, &[0, 94, 96, 95 << 8, 0x42be_0000][..]),
+        (13, &[0, 0x8000_0000, 0x8000_0001, INFINITY, NAN, 0x3f80_0000, 0xffff_ffff]),
+        (14, &[0x3f00_0000, 0x3eff_ffff, 0, NAN, 0xff80_0000]),
+        (15, &[2, 3, 256, 0x3f80_0000, 0x8000_0000, u32::MAX]),
+        (16, &[NAN, 0xffff_ffff, 0x8000_0001, 0xff80_0000]),
+        (26, &[0x3a83_126e, 0, NAN, INFINITY, 0xff80_0000]),
+        (33, &[0x3a83_126e, 0, NAN, INFINITY, 0xbf80_0000]),
+        (40, &[0x3a83_126e, 0, NAN, INFINITY, 0x8000_0000]),
+    ] {
+        refused.iter().for_each(|word| assert_eq!(number(at, *word), 4, "word {at} = {word:08x}"));
+    }
+    for (at, taken) in [
+        (0, &[95][..]),
+        (13, &[1, 0x3f7f_ffff]),
+        (14, &[0x3f00_0001, INFINITY]),
+        (15, &[0, 1]),
+        (16, &[0x8000_0000, INFINITY, 0x7f7f_ffff]),
+        (26, &[0x3a83_126f, 0x7f7f_ffff]),
+        (33, &[0x3a83_126f]),
+        (40, &[0x3a83_126f]),
+        (1, &[NAN, 0xffff_ffff]),
+        (20, &[0xffff_ffff]),
+        (94, &[INFINITY]),
+    ] {
+        taken.iter().for_each(|word| assert_eq!(number(at, *word), 0, "word {at} = {word:08x}"));
+    }
+    // the blank image of `shieldtable`
+    assert_eq!((ARCHIVE.tick)(&mut [0; IMAGE], &still(), &mut [0; ANSWER]), 4);
+}
+
+/// A kept word that is a NaN of another pattern comes back as 7fc00000; at a refused call it stays.
+#[test]
+fn kept_words_have_one_nan() {
+    let mut image = with(image_of(&set_up()), &[(4, 0xffc0_0001), (17, 0x7f80_0001)]);
+    let refused = with(image, &[(0, 94)]);
+    let mut same = refused;
+    assert_eq!((ARCHIVE.tick)(&mut same, &still(), &mut [0; ANSWER]), 4);
+    assert_eq!(same, refused);
+    tick(&mut image, &still());
+    assert_eq!((word(&image, 4), word(&image, 17)), (NAN, NAN));
+}

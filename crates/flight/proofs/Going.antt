@@ -86,7 +86,7 @@ last true true false e = no e
 last true false z e = no e
 last false y z e = no e
 
-good-image : (image : List ℕ) → tickRefusal image INPUT-BYTES ANSWER-BYTES ≡ Done → Good (stateAt image)
+pub good-image : (image : List ℕ) → tickRefusal image INPUT-BYTES ANSWER-BYTES ≡ Done → Good (stateAt image)
 unfolding tickRefusal intact intactWith
 good-image image e = record { holds = state-fits image .governor .0; ok = last (eqb (word image COUNT) IMAGE-WORDS) (eqb (word image ENGAGED) 0 || eqb (word image ENGAGED) 1) (good (stateAt image)) (accepted (eqb (length image) IMAGE-BYTES) (intact image) e) }
 

@@ -2,3 +2,4 @@ pub mod Decoded
 pub mod Answered
 pub mod Fitting
 pub mod Going
+pub mod Kept

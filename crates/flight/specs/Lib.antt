@@ -4,3 +4,4 @@ pub mod Image
 pub mod Calls
 pub mod Fits
 pub mod Entry
+pub mod Runs

@@ -3,3 +3,4 @@ pub mod Answered
 pub mod Fitting
 pub mod Going
 pub mod Kept
+pub mod OneAnswer

@@ -5,3 +5,4 @@ pub mod Clock
 pub mod Answered
 pub mod Kept
 pub mod Calls
+pub mod OneAnswer

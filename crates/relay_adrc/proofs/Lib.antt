@@ -5,3 +5,4 @@ pub mod Tick
 pub mod Lowpass
 pub mod Limits
 pub mod Three
+pub mod OneAnswer

@@ -8,3 +8,4 @@ pub mod MarginRange
 pub mod SetUp
 pub mod Steps
 pub mod LatchFlies
+pub mod OneAnswer

@@ -11,3 +11,5 @@ pub mod AngleReduction
 pub mod AngleBound
 pub mod Finite
 pub mod Squares
+pub mod Determined
+pub mod OneAnswer

@@ -5,3 +5,4 @@ pub mod Gate
 pub mod Clock
 pub mod Leg
 pub mod Figures
+pub mod OneAnswer

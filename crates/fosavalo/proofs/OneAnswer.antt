@@ -1,0 +1,24 @@
+-- Of each public function here: no second answer fits its promise. Assumes nothing.
+use mathlib.Core.Path.{refl, ap}
+use Rattle.relay_math.proofs.Determined.{OneAnswer, no-second, both}
+use Rattle.fosavalo.specs.Numbers.{Numbered}
+use Rattle.fosavalo.proofs.fosavalo_sinf
+use Rattle.fosavalo.proofs.fosavalo_cosf
+use Rattle.fosavalo.proofs.fosavalo_setup
+use Rattle.fosavalo.proofs.fosavalo_tick
+
+pub fosavalo-sinf-once : OneAnswer fosavalo_sinf.ended fosavalo_sinf.Reads.Post
+fosavalo-sinf-once κs a x y v w p q = (no-second p q, refl)
+
+pub fosavalo-cosf-once : OneAnswer fosavalo_cosf.ended fosavalo_cosf.Reads.Post
+fosavalo-cosf-once κs a x y v w p q = (no-second p q, refl)
+
+pub fosavalo-setup-once : OneAnswer fosavalo_setup.ended fosavalo_setup.Reads.Post
+fosavalo-setup-once κs a x y v w p q =
+    let e = no-second p q in
+    (ap (λ (c : Numbered). c .returned) e, both (ap (λ (c : Numbered). c .image) e) refl)
+
+pub fosavalo-tick-once : OneAnswer fosavalo_tick.ended fosavalo_tick.Reads.Post
+fosavalo-tick-once κs a x y v w p q =
+    let e = no-second p q in
+    (ap (λ (c : Numbered). c .returned) e, both (ap (λ (c : Numbered). c .image) e) (both refl (both (ap (λ (c : Numbered). c .answer) e) refl)))

@@ -1,0 +1,26 @@
+-- No second answer: what it is, for a function of any crate, and the law by which each is shown. Assumes nothing.
+use mathlib.Core.Path.{_≡_, refl, sym, _∙_}
+use contract.Lifetimes.{Lfts}
+use denote.Triple.Entry.{Args, Res}
+use denote.Triple.Clauses.{Ended, Lasts, AtExit, atExit}
+
+module _ (T : Ended) where
+  -- what a function of this signature promises, of its arguments, its answer and its arguments as they are seen at exit
+  abbrev pub Promise : Type 1
+  Promise = (κs : Lfts (T .signature .lifetimes)) (a : Args (T .signature) κs) → Res (T .signature) κs → AtExit T κs → Type 0
+
+  -- "no second answer fits it": of the same arguments, two answers, with the later contents of every lent buffer, that both meet it are the same
+  abbrev pub OneAnswer : Promise → Type 0
+  OneAnswer promise =
+      (κs : Lfts (T .signature .lifetimes)) (a : Args (T .signature) κs) (x y : Res (T .signature) κs) (v w : Lasts T κs a)
+      → promise κs a x (atExit T κs a v)
+      → promise κs a y (atExit T κs a w)
+      → (x ≡ y) × (v ≡ w)
+
+-- The law: a promise that names its one value has one.
+pub no-second : {A : Type 0} {x y z : A} → x ≡ z → y ≡ z → x ≡ y
+no-second p q = p ∙ sym q
+
+-- and it is used part by part
+pub both : {A B : Type 0} {v w : A × B} → v .0 ≡ w .0 → v .1 ≡ w .1 → v ≡ w
+both {v = v} {w = w} p q = rw (p, q)

@@ -1,0 +1,87 @@
+-- Of each public function here: no second answer fits its promise. Assumes nothing.
+use mathlib.Core.Path.{refl}
+use Rattle.relay_math.proofs.Determined.{OneAnswer, no-second}
+use Rattle.relay_traj.proofs.governor
+use Rattle.relay_traj.proofs.quintic
+use Rattle.relay_traj.proofs.segment
+
+pub low-end-once : OneAnswer governor.low_end.ended governor.low_end.Reads.Post
+low-end-once κs a x y v w p q = (no-second p q, refl)
+
+pub clamp-to-once : OneAnswer governor.clamp_to.ended governor.clamp_to.Reads.Post
+clamp-to-once κs a x y v w p q = (no-second p q, refl)
+
+pub ramp-once : OneAnswer governor.ramp.ended governor.ramp.Reads.Post
+ramp-once κs a x y v w p q = (no-second p q, refl)
+
+pub no-band-once : OneAnswer governor.no_band.ended governor.no_band.Reads.Post
+no-band-once κs a x y v w p q = (no-second p q, refl)
+
+pub gate-factor-once : OneAnswer governor.gate_factor.ended governor.gate_factor.Reads.Post
+gate-factor-once κs a x y v w p q = (no-second p q, refl)
+
+pub moved-by-once : OneAnswer governor.moved_by.ended governor.moved_by.Reads.Post
+moved-by-once κs a x y v w p q = (no-second p q, refl)
+
+pub ref-governor-new-once : OneAnswer governor.RefGovernor.new.ended governor.RefGovernor.new.Reads.Post
+ref-governor-new-once κs a x y v w p q = (no-second p q, refl)
+
+pub ref-governor-gate-once : OneAnswer governor.RefGovernor.gate.ended governor.RefGovernor.gate.Reads.Post
+ref-governor-gate-once κs a x y v w p q = (no-second p q, refl)
+
+pub ref-governor-advance-once : OneAnswer governor.RefGovernor.advance.ended governor.RefGovernor.advance.Reads.Post
+ref-governor-advance-once κs a x y v w p q = (no-second p q, refl)
+
+pub ref-governor-time-once : OneAnswer governor.RefGovernor.time.ended governor.RefGovernor.time.Reads.Post
+ref-governor-time-once κs a x y v w p q = (no-second p q, refl)
+
+pub ref-governor-reset-once : OneAnswer governor.RefGovernor.reset.ended governor.RefGovernor.reset.Reads.Post
+ref-governor-reset-once κs a x y v w p q = (no-second p q, refl)
+
+pub fin-once : OneAnswer quintic.fin.ended quintic.fin.Reads.Post
+fin-once κs a x y v w p q = (no-second p q, refl)
+
+pub clamp-once : OneAnswer quintic.clamp.ended quintic.clamp.Reads.Post
+clamp-once κs a x y v w p q = (no-second p q, refl)
+
+pub mended-duration-once : OneAnswer quintic.mended_duration.ended quintic.mended_duration.Reads.Post
+mended-duration-once κs a x y v w p q = (no-second p q, refl)
+
+pub mend-once : OneAnswer quintic.mend.ended quintic.mend.Reads.Post
+mend-once κs a x y v w p q = (no-second p q, refl)
+
+pub time-on-once : OneAnswer quintic.time_on.ended quintic.time_on.Reads.Post
+time-on-once κs a x y v w p q = (no-second p q, refl)
+
+pub quintic-new-once : OneAnswer quintic.Quintic.new.ended quintic.Quintic.new.Reads.Post
+quintic-new-once κs a x y v w p q = (no-second p q, refl)
+
+pub quintic-of-mended-once : OneAnswer quintic.Quintic.of_mended.ended quintic.Quintic.of_mended.Reads.Post
+quintic-of-mended-once κs a x y v w p q = (no-second p q, refl)
+
+pub quintic-duration-once : OneAnswer quintic.Quintic.duration.ended quintic.Quintic.duration.Reads.Post
+quintic-duration-once κs a x y v w p q = (no-second p q, refl)
+
+pub quintic-eval-once : OneAnswer quintic.Quintic.eval.ended quintic.Quintic.eval.Reads.Post
+quintic-eval-once κs a x y v w p q = (no-second p q, refl)
+
+pub quintic-jerk-coeffs-once : OneAnswer quintic.Quintic.jerk_coeffs.ended quintic.Quintic.jerk_coeffs.Reads.Post
+quintic-jerk-coeffs-once κs a x y v w p q = (no-second p q, refl)
+
+pub quintic-peak-abs-jerk-once : OneAnswer quintic.Quintic.peak_abs_jerk.ended quintic.Quintic.peak_abs_jerk.Reads.Post
+quintic-peak-abs-jerk-once κs a x y v w p q = (no-second p q, refl)
+
+pub segment3-new-once : OneAnswer segment.Segment3.new.ended segment.Segment3.new.Reads.Post
+segment3-new-once κs a x y v w p q = (no-second p q, refl)
+
+pub segment3-rest-to-rest-once : OneAnswer segment.Segment3.rest_to_rest.ended segment.Segment3.rest_to_rest.Reads.Post
+segment3-rest-to-rest-once κs a x y v w p q = (no-second p q, refl)
+
+pub segment3-duration-once : OneAnswer segment.Segment3.duration.ended segment.Segment3.duration.Reads.Post
+segment3-duration-once κs a x y v w p q = (no-second p q, refl)
+
+pub segment3-eval-once : OneAnswer segment.Segment3.eval.ended segment.Segment3.eval.Reads.Post
+segment3-eval-once κs a x y v w p q = (no-second p q, refl)
+
+pub segment3-peak-abs-jerk-once : OneAnswer segment.Segment3.peak_abs_jerk.ended segment.Segment3.peak_abs_jerk.Reads.Post
+segment3-peak-abs-jerk-once κs a x y v w p q = (no-second p q, refl)

@@ -1,0 +1,35 @@
+-- Of each public function here: no second answer fits its promise. Assumes nothing.
+use mathlib.Core.Path.{refl}
+use Rattle.relay_math.proofs.Determined.{OneAnswer, no-second, both}
+use Rattle.words.proofs.read
+use Rattle.words.proofs.write
+
+pub word-at-once : OneAnswer read.word_at.ended read.word_at.Reads.Post
+word-at-once κs a x y v w p q = (no-second p q, refl)
+
+pub float-of-once : OneAnswer read.float_of.ended read.float_of.Reads.Post
+float-of-once κs a x y v w p q = (no-second p q, refl)
+
+pub float-at-once : OneAnswer read.float_at.ended read.float_at.Reads.Post
+float-at-once κs a x y v w p q = (no-second p q, refl)
+
+pub vec-at-once : OneAnswer read.vec_at.ended read.vec_at.Reads.Post
+vec-at-once κs a x y v w p q = (no-second p q, refl)
+
+pub put-word-once : OneAnswer write.put_word.ended write.put_word.Reads.Post
+put-word-once κs a x y v w p q = (refl, both (no-second (p .is) (q .is)) refl)
+
+pub bits-of-once : OneAnswer write.bits_of.ended write.bits_of.Reads.Post
+bits-of-once κs a x y v w p q = (no-second p q, refl)
+
+pub put-flag-once : OneAnswer write.put_flag.ended write.put_flag.Reads.Post
+put-flag-once κs a x y v w p q = (refl, both (no-second (p .is) (q .is)) refl)
+
+pub put-float-once : OneAnswer write.put_float.ended write.put_float.Reads.Post
+put-float-once κs a x y v w p q = (refl, both (no-second (p .is) (q .is)) refl)
+
+pub put-three-once : OneAnswer write.put_three.ended write.put_three.Reads.Post
+put-three-once κs a x y v w p q = (refl, both (no-second (p .is) (q .is)) refl)
+
+pub put-vec-once : OneAnswer write.put_vec.ended write.put_vec.Reads.Post
+put-vec-once κs a x y v w p q = (refl, both (no-second (p .is) (q .is)) refl)

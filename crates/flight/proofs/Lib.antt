@@ -3,4 +3,6 @@ pub mod Answered
 pub mod Fitting
 pub mod Going
 pub mod Kept
+pub mod Level
+pub mod Shams
 pub mod OneAnswer

@@ -5,3 +5,4 @@ pub mod Calls
 pub mod Fits
 pub mod Entry
 pub mod Runs
+pub mod Shams

@@ -2,6 +2,7 @@
 ghost use mathlib.Core.Path.{_≡_};
 ghost use mathlib.Core.List.{[]};
 ghost use Rattle.relay_math.specs.Steps.{sinf, cosf};
+ghost use Rattle.flight.specs.Entry.{number, tickRefusal};
 ghost use Rattle.fosavalo.specs.Numbers.{numbered, setUpNumbered, tickNumbered};
 
 #[no_mangle]
@@ -32,4 +33,12 @@ pub extern "C" fn fosavalo_tick(image: &mut [u8], input: &[u8], answer: &mut [u8
     ensures { λ r. ⌜ numbered r (now (image .exit)) (now (answer .exit)) ≡ tickNumbered (now (image .entry)) (now (input .entry)) (now (answer .entry)) ⌝ }
 {
     flight::number(flight::tick(image, input, answer))
+}
+
+// What a tick would be refused for, by the lengths and the image alone: a caller may ask before it changes anything of its own.
+#[no_mangle]
+pub extern "C" fn fosavalo_tick_refusal(image: &[u8], input_len: usize, answer_len: usize) -> u32
+    ensures { λ r. ⌜ r ≡ number (tickRefusal (now (image .entry)) «input_len» «answer_len») ⌝ }
+{
+    flight::number(flight::tick_refusal(image, input_len, answer_len))
 }

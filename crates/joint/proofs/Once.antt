@@ -1,4 +1,4 @@
--- `guide` builds R and R_d once, and takes the length of g - a once: that is the Rust's own calls, bit for bit. Assumes nothing.
+-- `guide` builds R and R_d once, and takes the length of g - a once; ADRC's tick is taken in two halves: that is the Rust's own calls, bit for bit. Assumes nothing.
 use mathlib.Core.Path.{_≡_, refl}
 use lib.Ieee.{Float}
 use Rattle.relay_math.specs.F32.{isFinite}
@@ -18,8 +18,11 @@ use Rattle.relay_geo.proofs.Accepts.{shared-attitude, shared-feedforward}
 use Rattle.relay_geo.proofs.Finite.{sanitise3-finite, sanitise3-keeps}
 use Rattle.joint.specs.declared.state.TickInput.{TickInput}
 use Rattle.joint.specs.declared.stages.Reference.{Reference}
+use Rattle.relay_adrc.specs.declared.rate.AdrcRate.{AdrcRate}
+use Rattle.relay_adrc.proofs.Tick.{tick-in-halves}
+use Rattle.joint.specs.declared.stages.Prepared.{Prepared}
 use Rattle.joint.specs.declared.stages.Guided.{Guided}
-use Rattle.joint.specs.Tick.{cleaned, plus, rateSq, psiOf, marginOf, guide}
+use Rattle.joint.specs.Tick.{cleaned, plus, rateSq, psiOf, marginOf, guide, observe, follow, followOn, finish, finishOn, picks}
 
 -- `desired_rate` cleans its acceleration, which is clean already: its R_d is the tick's
 pub one-attitude : (g : GeoGains) (q : Quat) (a : Vec3) (yaw : Float) → desiredRate g q (sanitise3 a) yaw ≡ rateToward g (quatToRotmat q) (thrustAttitude (sanitise3 a) yaw)
@@ -46,3 +49,13 @@ unfolding guide
 guided-once gains set w wanted i =
     let acc = cleaned wanted .acc in
     rw (shared-attitude acc (i .yaw), shared-feedforward acc (cleaned wanted .jerk) (i .yaw) (i .«yaw_rate»), one-attitude gains (i .quat) (wanted .acc) (i .yaw), one-margin set (quatToRotmat (i .quat)) (thrustAttitude acc (i .yaw)) (rateSq w))
+
+-- ---- ADRC's observers go before the guidance, its control after it
+
+pub follow-in-halves : (r : AdrcRate) (m w : BodyRate) (dt : Float) → followOn r (observe r m dt) w ≡ follow r m w dt
+unfolding followOn observe follow
+follow-in-halves r m w dt = rw (tick-in-halves (r .roll) (m .0 .0) (w .0 .0) dt, tick-in-halves (r .pitch) (m .0 .1) (w .0 .1) dt, tick-in-halves (r .yaw) (m .0 .2) (w .0 .2) dt)
+
+pub finish-in-halves : (p : Prepared) (g : Guided) (dt : Float) → finishOn p (observe (p .state .rate) (p .rate) dt) g ≡ finish p g dt
+unfolding finishOn finish
+finish-in-halves p g dt = rw (follow-in-halves (p .state .rate) (p .rate) (picks p g .command) dt)

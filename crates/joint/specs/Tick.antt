@@ -6,7 +6,7 @@ use Rattle.relay_math.specs.declared.BodyRate.{BodyRate}
 use Rattle.relay_math.specs.F32.{_⊕_}
 use Rattle.relay_adrc.specs.declared.rate.AdrcRate.{AdrcRate}
 use Rattle.relay_adrc.specs.declared.rate.RateTick.{RateTick}
-use Rattle.relay_adrc.specs.Axis.{axisTick, axisSetDeliveredFraction}
+use Rattle.relay_adrc.specs.Axis.{axisTick, axisObserve, axisAct, axisSetDeliveredFraction}
 use Rattle.relay_adrc.specs.Biquad.{gyroFilter}
 use Rattle.relay_geo.specs.declared.vectors.Mat3.{Mat3}
 use Rattle.relay_geo.specs.declared.attitude.Attitude.{Attitude}
@@ -15,6 +15,7 @@ use Rattle.relay_geo.specs.declared.attitude.Feedforward.{Feedforward}
 use Rattle.relay_geo.specs.declared.attitude.Feedforward.the-variants as rate
 use Rattle.relay_geo.specs.declared.controller.GeoGains.{GeoGains}
 use Rattle.relay_geo.specs.declared.set.RecoverableSet.{RecoverableSet}
+use Rattle.relay_geo.specs.declared.shield.Shielded.{Shielded}
 use Rattle.relay_geo.specs.Vectors.{dot, sanitise3}
 use Rattle.relay_geo.specs.Attitude.{quatToRotmat, thrustAttitude, flatnessOmegaFf}
 use Rattle.relay_geo.specs.Controller.{psi, desiredRate}
@@ -29,6 +30,7 @@ use Rattle.joint.specs.declared.state.TickInput.{TickInput}
 use Rattle.joint.specs.declared.stages.Prepared.{Prepared}
 use Rattle.joint.specs.declared.stages.Reference.{Reference}
 use Rattle.joint.specs.declared.stages.Guided.{Guided}
+use Rattle.joint.specs.declared.stages.Observed3.{Observed3}
 use Rattle.joint.specs.declared.stages.Ticked.{Ticked}
 
 -- ---- prepare: "set the fractions; filter the gyro; advance the governor"
@@ -114,16 +116,48 @@ follow r measured wanted dt =
       torque = record { 0 = (roll .u, pitch .u, yaw .u) };
     }
 
-unfoldable pub finish : Prepared → Guided → Float → Ticked
-finish p g dt =
+-- the state and the answer of what was prepared, guided, picked and followed
+abbrev pub together : Prepared → Guided → Shielded → RateTick → Ticked
+together p g picked followed =
     let s = p .state in
-    let picked = step (s .shield) (g .margin) (g .planner) (g .fallback) in
-    let followed = follow (s .rate) (p .rate) (picked .command) dt in
     record {
       state = record { gains = s .gains; shield = picked .shield; governor = s .governor; segment = s .segment; rate = followed .rate; lpf = s .lpf };
       answer =
           record { torque = followed .torque; command = picked .command; fallback = picked .fallback; time = p .time; psi = g .psi; margin = g .margin };
     }
+
+abbrev pub picks : Prepared → Guided → Shielded
+picks p g = step (p .state .shield) (g .margin) (g .planner) (g .fallback)
+
+unfoldable pub finish : Prepared → Guided → Float → Ticked
+finish p g dt =
+    let picked = picks p g in
+    together p g picked (follow (p .state .rate) (p .rate) (picked .command) dt)
+
+-- ---- the same with ADRC's tick in its two halves, of which the first needs no pick: `finish-in-halves` of proofs/Once.antt
+
+unfoldable pub observe : AdrcRate → BodyRate → Float → Observed3
+observe r measured dt =
+    record {
+      roll = axisObserve (r .roll) (measured .0 .0) dt;
+      pitch = axisObserve (r .pitch) (measured .0 .1) dt;
+      yaw = axisObserve (r .yaw) (measured .0 .2) dt;
+    }
+
+unfoldable pub followOn : AdrcRate → Observed3 → BodyRate → RateTick
+followOn r o wanted =
+    let roll = axisAct (r .roll) (o .roll) (wanted .0 .0) in
+    let pitch = axisAct (r .pitch) (o .pitch) (wanted .0 .1) in
+    let yaw = axisAct (r .yaw) (o .yaw) (wanted .0 .2) in
+    record {
+      rate = record { roll = roll .axis; pitch = pitch .axis; yaw = yaw .axis };
+      torque = record { 0 = (roll .u, pitch .u, yaw .u) };
+    }
+
+unfoldable pub finishOn : Prepared → Observed3 → Guided → Ticked
+finishOn p o g =
+    let picked = picks p g in
+    together p g picked (followOn (p .state .rate) o (picked .command))
 
 -- ---- the tick, from any source of references, by the time
 

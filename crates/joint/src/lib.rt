@@ -7,6 +7,7 @@ mod taken; // taken.rt: the states that a tick takes
 pub use setup::segment_of;
 pub use setup::set_up;
 pub use stages::Guided;
+pub use stages::Observed3;
 pub use stages::Prepared;
 pub use stages::Reference;
 pub use stages::Ticked;
@@ -14,6 +15,7 @@ pub use stages::clean;
 pub use stages::finish;
 pub use stages::follow;
 pub use stages::guide;
+pub use stages::observe;
 pub use stages::plus;
 pub use stages::prepare;
 pub use stages::psi_of;

@@ -1,9 +1,11 @@
-// The joint tick in stages, in document 01's order: prepare, take a reference, guide, finish. A route's tick has another reference in place
+// The joint tick in stages, in document 01's order: prepare, take a reference, guide, finish. (ADRC's tick is taken in its two halves, the
+// observers' before the guidance.) A route's tick has another reference in place
 // of `reference_at` and nothing else; what is guided to depends on R, R_d and the heading in `guide` alone.
 use crate::state::Answer;
 use crate::state::State;
 use crate::state::TickInput;
 use relay_adrc::AdrcRate;
+use relay_adrc::Observed;
 use relay_adrc::RateTick;
 use relay_geo::Attitude;
 use relay_geo::Feedforward;
@@ -22,7 +24,7 @@ use relay_math::Torque;
 use relay_math::Vec3;
 use relay_traj::Segment3;
 ghost use mathlib.Core.Path.{_≡_};
-ghost use Rattle.joint.specs.Tick.{setFractions, prepare, sampleTime, referenceAt, cleaned, plus, rateSq, psiOf, guide, follow, finish, tick};
+ghost use Rattle.joint.specs.Tick.{setFractions, prepare, sampleTime, referenceAt, cleaned, plus, rateSq, psiOf, guide, observe, followOn, finishOn, tick};
 
 // The state with its fractions, filters and clock moved on, the filtered rate and the governor's time.
 #[repr(C)]
@@ -46,6 +48,14 @@ pub struct Guided {
     pub psi: f32,
     pub margin: f32,
     pub planner: BodyRate,
+}
+
+// What ADRC's observers see, axis by axis.
+#[repr(C)]
+pub struct Observed3 {
+    pub roll: Observed,
+    pub pitch: Observed,
+    pub yaw: Observed,
 }
 
 #[repr(C)]
@@ -183,15 +193,26 @@ pub fn guide(
 
 // ---- finish
 
-// Axis by axis: a body rate is measured, a body rate is wanted, and a torque comes out.
-pub fn follow(rate: AdrcRate, measured: BodyRate, wanted: BodyRate, dt: f32) -> RateTick
-    ensures { λ r. ⌜ r ≡ follow rate measured wanted dt ⌝ }
+// What the three observers see. They need nothing of the guidance, so they go before it.
+pub fn observe(rate: AdrcRate, measured: BodyRate, dt: f32) -> Observed3
+    ensures { λ r. ⌜ r ≡ observe rate measured dt ⌝ }
 {
     let m = measured.0;
+    Observed3 {
+        roll: rate.roll.observe(m.0, dt),
+        pitch: rate.pitch.observe(m.1, dt),
+        yaw: rate.yaw.observe(m.2, dt),
+    }
+}
+
+// Axis by axis: a body rate was observed, a body rate is wanted, and a torque comes out.
+pub fn follow(rate: AdrcRate, observed: Observed3, wanted: BodyRate) -> RateTick
+    ensures { λ r. ⌜ r ≡ followOn rate observed wanted ⌝ }
+{
     let w = wanted.0;
-    let roll = rate.roll.tick(m.0, w.0, dt);
-    let pitch = rate.pitch.tick(m.1, w.1, dt);
-    let yaw = rate.yaw.tick(m.2, w.2, dt);
+    let roll = rate.roll.act(observed.roll, w.0);
+    let pitch = rate.pitch.act(observed.pitch, w.1);
+    let yaw = rate.yaw.act(observed.yaw, w.2);
     let ax = roll.axis;
     let ay = pitch.axis;
     let az = yaw.axis;
@@ -205,15 +226,15 @@ pub fn follow(rate: AdrcRate, measured: BodyRate, wanted: BodyRate, dt: f32) -> 
     }
 }
 
-pub fn finish(prepared: Prepared, guided: Guided, dt: f32) -> Ticked
-    ensures { λ r. ⌜ r ≡ finish prepared guided dt ⌝ }
+pub fn finish(prepared: Prepared, observed: Observed3, guided: Guided) -> Ticked
+    ensures { λ r. ⌜ r ≡ finishOn prepared observed guided ⌝ }
 {
     let state = prepared.state;
     let picked = state
         .shield
         .step(guided.margin, guided.planner, guided.fallback);
     let command = picked.command;
-    let followed = follow(state.rate, prepared.rate, command, dt);
+    let followed = follow(state.rate, observed, command);
     let gains = state.gains;
     let shield = picked.shield;
     let governor = state.governor;
@@ -247,8 +268,10 @@ pub fn tick(state: State, input: TickInput) -> Ticked
     ensures { λ r. ⌜ r ≡ tick state input ⌝ }
 {
     let prepared = prepare(state, input);
+    let before = prepared.state;
+    let observed = observe(before.rate, prepared.rate, input.dt);
     let wanted = reference_at(state.segment, prepared.time);
     let shield = state.shield;
     let guided = guide(state.gains, shield.set, prepared.rate, wanted, input);
-    finish(prepared, guided, input.dt)
+    finish(prepared, observed, guided)
 }

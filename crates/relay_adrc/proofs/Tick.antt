@@ -7,7 +7,7 @@ use Rattle.relay_math.specs.F32.{_⊕_, _⊖_, _⊗_, 0·0, 2·0, isFinite, fin
 use Rattle.relay_math.proofs.Tests.{held}
 use Rattle.relay_adrc.specs.declared.axis.AdrcAxis.{AdrcAxis}
 use Rattle.relay_adrc.specs.declared.axis.AxisTick.{AxisTick}
-use Rattle.relay_adrc.specs.Axis.{10·0, mendDt, positiveOr, mendB0, lag, deliveredFraction, axisTick, axisSetDeliveredFraction}
+use Rattle.relay_adrc.specs.Axis.{10·0, mendDt, positiveOr, mendB0, lag, deliveredFraction, axisTick, axisObserve, axisAct, axisSetDeliveredFraction}
 
 -- what was made 0 where it is not finite is finite
 pub sanitised : (x : Float) → T (isFinite (finiteOr x 0·0))
@@ -26,6 +26,11 @@ pub record Finite (t : AxisTick) : Type 0 where
   pub u : T (isFinite (t .u))
 
 module _ (a : AdrcAxis) (omegaMeas omegaD dt : Float) where
+  -- the observer's half and then the control's is the whole tick
+  pub tick-in-halves : axisAct a (axisObserve a omegaMeas dt) omegaD ≡ axisTick a omegaMeas omegaD dt
+  unfolding axisAct axisObserve axisTick
+  tick-in-halves = refl
+
   pub tick-finite : Finite (axisTick a omegaMeas omegaD dt)
   unfolding axisTick
   tick-finite = record { z1 = sanitised _; z2 = sanitised _; u-prev = sanitised _; u-act = sanitised _; u = sanitised _ }

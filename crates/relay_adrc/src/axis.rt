@@ -1,7 +1,7 @@
 // One axis of linear ADRC. An observer estimates the rate z1 and all that the nominal plant leaves out, z2; the control tracks the wanted rate and cancels z2.
 ghost use mathlib.Core.Path.{_≡_};
 ghost use Rattle.relay_math.specs.F32.{finiteOr};
-ghost use Rattle.relay_adrc.specs.Axis.{clamp, mendDt, positiveOr, mendB0, lag, deliveredFraction, axisNew, axisTick, axisReset, axisSetDeliveredFraction};
+ghost use Rattle.relay_adrc.specs.Axis.{clamp, mendDt, positiveOr, mendB0, lag, deliveredFraction, axisNew, axisObserve, axisAct, axisTick, axisReset, axisSetDeliveredFraction};
 use crate::gains::AdrcGains;
 
 #[repr(C)]
@@ -12,6 +12,14 @@ pub struct AdrcAxis {
     pub u_act: f32, // the command as the actuator's lag lets it through
     pub u_delivered_frac: f32, // how much of u_prev the allocation delivered, 0 to 1
     pub g: AdrcGains,
+}
+
+// What the observer sees: the rate, the disturbance, and what the actuator delivers.
+#[repr(C)]
+pub struct Observed {
+    pub z1: f32,
+    pub z2: f32,
+    pub u_act: f32,
 }
 
 #[repr(C)]
@@ -115,44 +123,60 @@ impl AdrcAxis {
         self.z2
     }
 
-    pub fn tick(self, omega_meas: f32, omega_d: f32, dt: f32) -> AxisTick
-        ensures { λ r. ⌜ r ≡ axisTick self «omega_meas» «omega_d» dt ⌝ }
+    // The half of a tick that looks back: the observer's step on what was measured.
+    pub fn observe(self, omega_meas: f32, dt: f32) -> Observed
+        ensures { λ r. ⌜ r ≡ axisObserve self «omega_meas» dt ⌝ }
     {
         let g = self.g;
         let dt = mend_dt(dt);
         let om = sanitise(omega_meas, 0.0);
-        let od = sanitise(omega_d, 0.0);
 
         let omega_o = positive_or(g.omega_o, 10.0);
-        let omega_c = positive_or(g.omega_c, 3.0);
         let b0 = mend_b0(g.b0);
         let beta1 = 2.0 * omega_o;
         let beta2 = omega_o * omega_o;
-        let kp = omega_c;
 
-        // The observer is driven by what was delivered of the command of the tick before, not by the command: else a saturated mixer winds z2 up.
-        let frac = self.u_delivered_frac;
-        let u_delivered = self.u_prev * frac;
+        // It is driven by what was delivered of the command of the tick before, not by the command: else a saturated mixer winds z2 up.
+        let u_delivered = self.u_prev * self.u_delivered_frac;
         let u_act = sanitise(lag(self.u_act, u_delivered, g.tau, dt), 0.0);
 
         let e = om - self.z1;
         let z1_next = self.z1 + dt * (self.z2 + b0 * u_act + beta1 * e);
         let z2_next = self.z2 + dt * (beta2 * e);
-        let z1 = sanitise(z1_next, 0.0);
-        let z2 = sanitise(z2_next, 0.0);
+        Observed {
+            z1: sanitise(z1_next, 0.0),
+            z2: sanitise(z2_next, 0.0),
+            u_act,
+        }
+    }
 
-        let u = sanitise((kp * (od - z1) - z2) / b0, 0.0);
+    // The half that acts: the command from what was observed and what is wanted.
+    pub fn act(self, o: Observed, omega_d: f32) -> AxisTick
+        ensures { λ r. ⌜ r ≡ axisAct self o «omega_d» ⌝ }
+    {
+        let g = self.g;
+        let od = sanitise(omega_d, 0.0);
+        let kp = positive_or(g.omega_c, 3.0);
+        let b0 = mend_b0(g.b0);
+        let u = sanitise((kp * (od - o.z1) - o.z2) / b0, 0.0);
         AxisTick {
             axis: AdrcAxis {
-                z1,
-                z2,
+                z1: o.z1,
+                z2: o.z2,
                 u_prev: u,
-                u_act,
-                u_delivered_frac: frac,
+                u_act: o.u_act,
+                u_delivered_frac: self.u_delivered_frac,
                 g,
             },
             u,
         }
+    }
+
+    // In two halves, since the first needs nothing of what is wanted: a caller may take it early.
+    pub fn tick(self, omega_meas: f32, omega_d: f32, dt: f32) -> AxisTick
+        ensures { λ r. ⌜ r ≡ axisTick self «omega_meas» «omega_d» dt ⌝ }
+    {
+        self.act(self.observe(omega_meas, dt), omega_d)
     }
 
     pub fn reset(self) -> Self

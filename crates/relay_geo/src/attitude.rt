@@ -4,6 +4,7 @@ use super::vectors::Mat3;
 use super::vectors::Quat;
 use super::vectors::Unit;
 use super::vectors::cross;
+use super::vectors::dot;
 use super::vectors::norm;
 use super::vectors::normalize;
 use super::vectors::sanitise3;
@@ -13,6 +14,7 @@ use relay_math::BodyRate;
 use relay_math::Vec3;
 use relay_math::is_finite;
 use relay_math::sincos;
+use relay_math::sqrtf;
 ghost use mathlib.Core.Path.{_≡_};
 ghost use Rattle.relay_geo.specs.Attitude.{quatToRotmat, heading, desiredAttitude, thrustForce, thrustAxisNed, thrustAttitude, tooWeak, rateFrom, feedforwardFrom, flatnessOmegaFf, thrustOf, attitudeOn, feedforwardOn};
 
@@ -166,13 +168,14 @@ pub fn flatness_omega_ff(a_cmd: Vec3, j_cmd: Vec3, yaw: f32, yaw_rate: f32) -> F
     rate_from(c, b3, j_cmd, yaw_rate, desired_attitude(b3, yaw))
 }
 
+// Its norm is written out: so the compiled root stays a call on a number, and no vector goes through memory to it.
 pub fn thrust_of(a_cmd: Vec3) -> Thrust
     ensures { λ r. ⌜ r ≡ thrustOf «a_cmd» ⌝ }
 {
     let tf = thrust_force(a_cmd);
     Thrust {
         force: tf,
-        norm: norm(tf),
+        norm: sqrtf(dot(tf, tf)),
     }
 }
 

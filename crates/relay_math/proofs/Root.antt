@@ -2,7 +2,7 @@
 use mathlib.Core.Path.{_≡_, refl, sym, ap, _∙_, subst}
 use mathlib.Core.Logic.{inl, inr}
 use Prim.Native.Nat.{ℕ, zero, suc, _+_, _-_, _*_, _/_, _%_, _^_, _≤_, _<_}
-use native.Mathlib.Nat.{le-trans, le-of-eq, lt-of-lt-of-le, lt-of-not-le, lt-trans, lt-irrefl, not-le-of-lt, eq-zero-or-pos, eq-or-lt-of-le, add-comm, mul-one, mul-assoc, mul-pos, mul-le-mul-right, mul-div-cancel, zero-lt-suc}
+use native.Mathlib.Nat.{le-trans, le-of-eq, lt-of-lt-of-le, lt-of-not-le, lt-trans, lt-irrefl, not-le-of-lt, eq-zero-or-pos, eq-or-lt-of-le, add-comm, mul-one, mul-assoc, mul-pos, mul-le-mul, mul-le-mul-right, le-of-lt, mul-div-cancel, zero-lt-suc}
 use native.Mathlib.Omega.{arith}
 use mathlib.Core.Bool.{true, false, cond}
 use lib.IntN.{ℤ}
@@ -20,7 +20,7 @@ use Rattle.relay_math.specs.Steps.{Zero}
 use Rattle.relay_math.specs.Sqrt.{natural, square, Nearest, IsRoot, nearestRoot, rootGrains, sqrtf}
 use Rattle.relay_math.proofs.Tests.{no, le-or-lt, of-natural, of-value, zero-is, size-pos, is-above, not-zero}
 use Rattle.relay_math.proofs.Grains.{shift, grains-of, grains-exact, size-of, writes, reads, Digits}
-use Rattle.relay_math.proofs.RootNear.{Closest, closest, digits, near}
+use Rattle.relay_math.proofs.RootNear.{Closest, closest, closest-unique, digits, near}
 
 -- ---- X grains as m * 2 ^ (e - 23), with an m of 24 digits
 pub record Scaled (X m e : ℕ) : Type 0 where
@@ -121,10 +121,41 @@ module _ (X m e : ℕ) (w : Scaled X m e) where
   pub root-read : ofBits binary32 (half e * 2 ^ 23 + nearestRoot (under m e)) ≡ rootGrains (X * 2 ^ 149)
   root-read = rw (← writes (rootGrains (X * 2 ^ 149)) (nearestRoot (under m e)) (half e) value (ends .0) (ends .1)) (ofBits-toBits binary32 (rootGrains (X * 2 ^ 149)) root-fits)
 
+  -- the pattern of any whole number that is nearest
+  pub closest-read : (q : ℕ) → Closest (under m e) q → ofBits binary32 (half e * 2 ^ 23 + q) ≡ rootGrains (X * 2 ^ 149)
+  closest-read q c = rw (closest-unique (under m e) q (nearestRoot (under m e)) c near-root) root-read
+
   pub root-near : (x : Float) → grains x ≡ X → Nearest x (rootGrains (X * 2 ^ 149))
   root-near x g =
       near x (rootGrains (X * 2 ^ 149)) (half e) (nearestRoot (under m e)) (under m e) (rw g from) (bounds .0) (bounds .1) near-root (grains-of _ false (nearestRoot (under m e) * 2 ^ half e) value) root-fits
       (of-value (λ (r : Float). T (natural r)) (nearestRoot (under m e) * 2 ^ half e) (2 ^ 149) (λ i j v. tt) (rootGrains (X * 2 ^ 149)) value)
+
+-- ---- Next to 1, where √(1 + d) is 1 + d / 2 to the last digit, the root's pattern is half way to 1's.
+above-one : (h : ℕ) (m : ℕ) → h < 1024 → 2 ^ 23 + 2 * h ≤ m → m ≤ 2 ^ 23 + 2 * h + 1 → Closest (m * 2 ^ 23) (2 ^ 23 + h)
+above-one h m l i j = let s : h * h ≤ 1024 * 1024 = mul-le-mul (le-of-lt l) (le-of-lt l) in (omega arith, omega arith)
+
+below-one : (q k m : ℕ) → q + k ≡ 2 ^ 24 → 0 < k → k ≤ 1024 → 2 ^ 24 ≤ m + 2 * k → m + 2 * k ≤ 2 ^ 24 + 1 → Closest (m * 2 ^ 24) q
+below-one q k m e p l i j =
+    let s : k * k ≤ 1024 * 1024 = mul-le-mul l l in
+    let t : 1 * k ≤ k * k = mul-le-mul-right k p in
+    let w : q * q + 2 * ((q + k) * k) ≡ (q + k) * (q + k) + k * k = omega arith in
+    let v : q * q + 2 * (2 ^ 24 * k) ≡ 2 ^ 24 * 2 ^ 24 + k * k = rw e at w in
+    (omega arith, omega arith)
+
+pub near-one : {n b : ℕ} → Digits n b → (b + 2048) / 4096 ≡ 0x3f800 → ofBits binary32 (b / 2 + 0x1fc0_0000) ≡ rootGrains (n * 2 ^ 149)
+near-one {n} {b} d h =
+    let w = scaled-normal d (omega arith) in
+    elim (le-or-lt 0x3f80_0000 b) [
+      | inl g ↦
+          let e : b / 2 ^ 23 + 22 ≡ 149 = omega arith in
+          let q : b / 2 + 0x1fc0_0000 ≡ 126 * 2 ^ 23 + (2 ^ 23 + (b - 0x3f80_0000) / 2) = omega arith in
+          rw q (closest-read n (b % 2 ^ 23 + 2 ^ 23) 149 (rw e at w) _ (above-one ((b - 0x3f80_0000) / 2) _ (omega arith) (omega arith) (omega arith)))
+      | inr g ↦
+          let e : b / 2 ^ 23 + 22 ≡ 148 = omega arith in
+          let k = (0x3f80_0001 - b) / 2 in
+          let q : b / 2 + 0x1fc0_0000 ≡ 125 * 2 ^ 23 + (2 ^ 24 - k) = omega arith in
+          rw q (closest-read n (b % 2 ^ 23 + 2 ^ 23) 148 (rw e at w) _ (below-one (2 ^ 24 - k) k _ (omega arith) (omega arith) (omega arith) (omega arith) (omega arith)))
+    ]
 
 -- ---- every f32
 pub bits-pos : (m : ℕ) (e : ℤ) → T (fits binary32 (fin false (suc m) e)) → 0 < toBits binary32 (fin false (suc m) e)

@@ -99,6 +99,10 @@ fn positive_root(b: u32) -> u32
     ensures is { λ r. ⌜ ((x : Float) → T (fits binary32 x) → T (positive x) → toBits binary32 x ≡ b → ofBits binary32 r ≡ sqrtf x) ⌝ }
     ensures finite { λ r. ⌜ r < 255 * 2 ^ 23 ⌝ }
 {
+    // Next to 1 it lies half way there, to the last digit. An axis is brought to length 1 twice over in each tick, so this comes often.
+    if (b + 2048) / 4096 == 0x3f800 {
+        return b / 2 + 0x1fc0_0000;
+    }
     let d = digits(b);
     root_bits(d.m, d.e)
 }

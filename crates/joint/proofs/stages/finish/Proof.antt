@@ -1,10 +1,10 @@
 use borrow.Author.Needs.{needs}
-use Rattle.joint.specs.Tick.{finish}
+use Rattle.joint.specs.Tick.{finishOn}
 use Rattle.joint.proofs.stages.finish.Statement.{statement}
 use Rattle.joint.proofs.stages.finish.Tie as tie
 
 pub finish-spec : {M : Type 1} → statement M
-unfolding finish
+unfolding finishOn
 finish-spec =
     tie.close
     (tie.spec (λ c κs. search needs) (λ c κs. search needs)

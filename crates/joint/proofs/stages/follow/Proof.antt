@@ -1,11 +1,11 @@
 use borrow.Author.Needs.{needs}
-use Rattle.joint.specs.Tick.{follow}
+use Rattle.joint.specs.Tick.{followOn}
 use Rattle.joint.proofs.stages.follow.Statement.{statement}
 use Rattle.joint.proofs.stages.follow.Tie as tie
 
 pub follow-spec : {M : Type 1} → statement M
-unfolding follow
+unfolding followOn
 follow-spec =
     tie.close
     (tie.spec (λ c κs. search needs) (λ c κs. search needs) (λ c κs. search needs)
-    (λ c. simp (c .before .before .before .tick3 .ensures, c .before .before .before .before .tick2 .ensures, c .before .before .before .before .before .tick .ensures)))
+    (λ c. simp (c .before .before .before .act3 .ensures, c .before .before .before .before .act2 .ensures, c .before .before .before .before .before .act .ensures)))

@@ -4,9 +4,7 @@ use mathlib.Core.Path.{_≡_}
 use Prim.Native.Nat.{_+_, _%_, _^_}
 use native.Mathlib.Omega.{arith}
 use lib.Pow.{shl-exact}
-use Rattle.relay_math.specs.Sqrt.{nearestRoot}
-use Rattle.relay_math.proofs.Root.{Scaled, under, under-size, near-root, root-read}
-use Rattle.relay_math.proofs.RootNear.{closest-unique}
+use Rattle.relay_math.proofs.Root.{Scaled, under, under-size, closest-read}
 use Rattle.relay_math.proofs.sqrt.root_bits.Statement.{statement}
 use Rattle.relay_math.proofs.sqrt.root_bits.Tie as tie
 
@@ -19,9 +17,7 @@ returns c = (
       let s = c .before in
       let r = c .nearest-root in
       let w : Scaled x (s .args .m) (s .args .e) = record { is = h; low = s .pre .0; high = s .pre .1; under = s .pre .2 } in
-      let n = under (s .args .m) (s .args .e) in
-      let q : r .result ≡ nearestRoot n = closest-unique n (r .result) (nearestRoot n) (rw (exact s) at (r .ensures .0), rw (exact s) at (r .ensures .1)) (near-root x _ _ w) in
-      rw q (root-read x (s .args .m) (s .args .e) w),
+      closest-read x (s .args .m) (s .args .e) w (r .result) (rw (exact s) at (r .ensures .0), rw (exact s) at (r .ensures .1)),
   search needs,
 )
 

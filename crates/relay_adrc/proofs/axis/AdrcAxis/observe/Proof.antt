@@ -1,0 +1,29 @@
+-- The calls' answers put together, the last first. Assumes nothing.
+use borrow.Author.Needs.{needs}
+use Rattle.relay_adrc.specs.Axis.{axisObserve}
+use Rattle.relay_adrc.proofs.axis.AdrcAxis.observe.Statement.{statement}
+use Rattle.relay_adrc.proofs.axis.AdrcAxis.observe.Tie as tie
+
+-- where the inputs and the gains are mended
+abbrev mended : tie.After-sanitise4 → tie.After-mend-b0
+mended c = c .before .before .before .before .before .before .before .before .before
+
+returns : tie.Need-returns
+unfolding axisObserve
+returns c =
+    simp (
+      c .sanitise4 .ensures,
+      c .before .sanitise3 .ensures,
+      c .before .before .before .before .before .before .sanitise2 .ensures,
+      c .before .before .before .before .before .before .before .lag .ensures,
+      mended c .mend-b0 .ensures,
+      mended c .before .positive-or .ensures,
+      mended c .before .before .sanitise .ensures,
+      mended c .before .before .before .mend-dt .ensures,
+    )
+
+pub observe-spec : {M : Type 1} → statement M
+observe-spec =
+    tie.close
+    (tie.spec (λ c κs. search needs) (λ c κs. search needs) (λ c κs. search needs) (λ c κs. search needs) (λ c κs. search needs)
+    (λ c κs. search needs) (λ c κs. search needs) (λ c κs. search needs) returns)

@@ -51,6 +51,10 @@ uint32_t fosavalo_setup(uint8_t *image, size_t image_len, const uint8_t *input, 
  * its length, whatever that is, and no two of the three buffers may overlap. */
 uint32_t fosavalo_tick(uint8_t *image, size_t image_len, const uint8_t *input, size_t input_len, uint8_t *answer, size_t answer_len);
 
+/* What a tick on this image, with an input and an answer of these lengths, would return: 0 to 4, by the lengths and the image alone.
+ * Nothing is changed. For a caller that has a state of its own to keep in step. */
+uint32_t fosavalo_tick_refusal(const uint8_t *image, size_t image_len, size_t input_len, size_t answer_len);
+
 #ifdef __cplusplus
 }
 #endif

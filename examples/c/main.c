@@ -79,6 +79,7 @@ int main(void) {
     printf("answer of 39 bytes: refused with %u, image %s\n", (unsigned)refused, memcmp(before, image, sizeof before) ? "CHANGED" : "unchanged");
     if (refused != FOSAVALO_WRONG_ANSWER_LENGTH) return 1;
     image[4 * 15] = before[4 * 15] = 2;
+    if (fosavalo_tick_refusal(image, sizeof image, FOSAVALO_TICK_BYTES, sizeof answer) != FOSAVALO_BROKEN_IMAGE) return 1;
     refused = fosavalo_tick(image, sizeof image, input, FOSAVALO_TICK_BYTES, answer, sizeof answer);
     printf("broken image: refused with %u, image %s\n", (unsigned)refused, memcmp(before, image, sizeof before) ? "CHANGED" : "unchanged");
     return refused == FOSAVALO_BROKEN_IMAGE ? 0 : 1;

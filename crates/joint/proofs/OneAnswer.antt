@@ -38,6 +38,9 @@ psi-of-once κs a x y v w p q = (no-second p q, refl)
 pub guide-once : OneAnswer stages.guide.ended stages.guide.Reads.Post
 guide-once κs a x y v w p q = (no-second p q, refl)
 
+pub observe-once : OneAnswer stages.observe.ended stages.observe.Reads.Post
+observe-once κs a x y v w p q = (no-second p q, refl)
+
 pub follow-once : OneAnswer stages.follow.ended stages.follow.Reads.Post
 follow-once κs a x y v w p q = (no-second p q, refl)
 

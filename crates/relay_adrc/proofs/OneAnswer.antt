@@ -34,6 +34,12 @@ adrc-axis-new-once κs a x y v w p q = (no-second p q, refl)
 pub adrc-axis-disturbance-once : OneAnswer axis.AdrcAxis.disturbance.ended axis.AdrcAxis.disturbance.Reads.Post
 adrc-axis-disturbance-once κs a x y v w p q = (no-second p q, refl)
 
+pub adrc-axis-observe-once : OneAnswer axis.AdrcAxis.observe.ended axis.AdrcAxis.observe.Reads.Post
+adrc-axis-observe-once κs a x y v w p q = (no-second p q, refl)
+
+pub adrc-axis-act-once : OneAnswer axis.AdrcAxis.act.ended axis.AdrcAxis.act.Reads.Post
+adrc-axis-act-once κs a x y v w p q = (no-second p q, refl)
+
 pub adrc-axis-tick-once : OneAnswer axis.AdrcAxis.tick.ended axis.AdrcAxis.tick.Reads.Post
 adrc-axis-tick-once κs a x y v w p q = (no-second p q, refl)
 

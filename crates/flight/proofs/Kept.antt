@@ -6,9 +6,9 @@ use Prim.Native.Nat.{ℕ}
 use lib.Dec.{T}
 use lib.ListN.{take, drop}
 use lib.Ieee.{Float, le, isNan}
+use Rattle.relay_math.proofs.Order.{le-trans, le-refl-of}
 use Rattle.words.specs.Words.{float}
 use Rattle.relay_traj.specs.Governor.{advance, Running}
-use Rattle.relay_traj.proofs.Order.{le-trans, le-refl-of}
 use Rattle.relay_traj.proofs.Clock.{never-nan}
 use Rattle.relay_geo.specs.Shield.{step}
 use Rattle.joint.specs.declared.state.State.{State}

@@ -7,6 +7,7 @@ use lib.Ieee.{Float, isNan}
 use Rattle.relay_math.specs.declared.Vec3.{Vec3}
 use Rattle.relay_math.specs.declared.BodyRate.{BodyRate}
 use Rattle.relay_math.proofs.Tests.{held}
+use Rattle.relay_math.proofs.Order.{finite-number}
 use Rattle.relay_adrc.specs.declared.rate.AdrcRate.{AdrcRate}
 use Rattle.relay_adrc.proofs.Tick.{tick-finite}
 use Rattle.relay_geo.specs.declared.controller.GeoGains.{GeoGains}
@@ -18,7 +19,6 @@ use Rattle.relay_geo.proofs.Finite.{sanitise3-finite}
 use Rattle.relay_geo.proofs.MarginRange.{Ranges, margin-finite-or-minus-infinity}
 use Rattle.relay_traj.specs.Governor.{Running}
 use Rattle.relay_traj.proofs.Clock.{never-nan}
-use Rattle.relay_traj.proofs.Order.{finite-number}
 use Rattle.joint.specs.declared.state.State.{State}
 use Rattle.joint.specs.declared.state.TickInput.{TickInput}
 use Rattle.joint.specs.declared.state.Answer.{Answer}

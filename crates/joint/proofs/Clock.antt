@@ -1,13 +1,13 @@
 -- The governor's time over a tick, and the two rules for dt. Assumes nothing.
 use mathlib.Core.Path.{_≡_, refl}
-use mathlib.Core.Bool.{false, _&&_}
+use mathlib.Core.Bool.{false}
 use lib.Dec.{T}
 use lib.Ieee.{Float, lt, le, eq, ofBits}
-use Rattle.relay_math.specs.F32.{0·0, isFinite}
+use Rattle.relay_math.specs.F32.{0·0, 1e-3, isFinite, finiteAbove}
 use Rattle.relay_math.specs.declared.BodyRate.{BodyRate}
 use Rattle.relay_adrc.specs.declared.axis.AdrcAxis.{AdrcAxis}
 use Rattle.relay_adrc.specs.declared.rate.AdrcRate.{AdrcRate}
-use Rattle.relay_adrc.specs.Axis.{1e-3, axisTick}
+use Rattle.relay_adrc.specs.Axis.{axisTick}
 use Rattle.relay_traj.specs.Governor.{advance, Running}
 use Rattle.relay_traj.proofs.Clock.{clock-never-back, no-dt-keeps-number}
 use Rattle.joint.specs.declared.state.State.{State}
@@ -24,7 +24,7 @@ unfolding follow
 follows-by-1ms r m w dt e =
     rw (axis-by-1ms (r .roll) (m .0 .0) (w .0 .0) dt e, axis-by-1ms (r .pitch) (m .0 .1) (w .0 .1) dt e, axis-by-1ms (r .yaw) (m .0 .2) (w .0 .2) dt e)
 
-no-time : (dt : Float) → isFinite dt ≡ false → (isFinite dt && lt 0·0 dt) ≡ false
+no-time : (dt : Float) → isFinite dt ≡ false → finiteAbove 0·0 dt ≡ false
 no-time dt e = rw e
 
 module _ (source : Float → Reference) (s : State) (i : TickInput) where

@@ -4,15 +4,15 @@ use mathlib.Core.Bool.{Bool, true, false, not, _&&_}
 use lib.Dec.{T}
 use lib.Ieee.{Float, nan, inf, fin, binary32, fits, lt, le, isNan, ofBits}
 use lib.Ieee.Bits.{is-true}
-use Rattle.relay_math.specs.F32.{0·0, isFinite}
+use Rattle.relay_math.specs.F32.{0·0, 1e-3, isFinite}
 use Rattle.relay_math.proofs.Tests.{no, held}
+use Rattle.relay_math.proofs.Order.{le-is-not-above}
 use Rattle.relay_adrc.specs.Axis.{axisTick}
-use Rattle.relay_adrc.proofs.Order.{le-is-not-above}
 use Rattle.relay_geo.specs.declared.set.RecoverableSet.{RecoverableSet}
 use Rattle.relay_geo.specs.Shield.{newShield}
 use Rattle.relay_geo.proofs.SetUp.{enter-finite-positive, fresh-in-order}
 use Rattle.relay_traj.specs.Governor.{Running}
-use Rattle.relay_traj.specs.Quintic.{1e-3, Lasts}
+use Rattle.relay_traj.specs.Quintic.{Lasts}
 use Rattle.relay_traj.specs.Segment.{segment}
 use Rattle.relay_traj.proofs.Clock.{starts-at-zero}
 use Rattle.relay_traj.proofs.Leg.{segment-lasts}
@@ -48,14 +48,14 @@ unfolding timeOk isNan lt le ofBits
 time-ok-says nan = refl
 time-ok-says (inf true) = refl
 time-ok-says (inf false) = refl
-time-ok-says (fin s m e) = le-is-not-above (fin s m e) 0·0 refl refl
+time-ok-says (fin s m e) = le-is-not-above (fin s m e) 0·0 tt tt
 
 -- "a t_end not finite or below 1e-3"
 pub lasts-says : (t : Float) → lasts t ≡ isFinite t && not (lt t 1e-3)
 unfolding lasts isFinite isNan ofBits
 lasts-says nan = refl
 lasts-says (inf s) = refl
-lasts-says (fin s m e) = le-is-not-above (fin s m e) 1e-3 refl refl
+lasts-says (fin s m e) = le-is-not-above (fin s m e) 1e-3 tt tt
 
 -- ---- good states
 

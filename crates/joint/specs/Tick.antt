@@ -3,7 +3,7 @@ use mathlib.Core.Bool.{cond}
 use lib.Ieee.{Float, nan, eq}
 use Rattle.relay_math.specs.declared.Vec3.{Vec3}
 use Rattle.relay_math.specs.declared.BodyRate.{BodyRate}
-use Rattle.relay_math.specs.F32.{_⊕_}
+use Rattle.relay_math.specs.F32.{_⊕_, ∞}
 use Rattle.relay_adrc.specs.declared.rate.AdrcRate.{AdrcRate}
 use Rattle.relay_adrc.specs.declared.rate.RateTick.{RateTick}
 use Rattle.relay_adrc.specs.Axis.{axisTick, axisObserve, axisAct, axisSetDeliveredFraction}
@@ -23,7 +23,6 @@ use Rattle.relay_geo.specs.Set.{minusInfinity, margin}
 use Rattle.relay_geo.specs.Shield.{step}
 use Rattle.relay_traj.specs.declared.segment.Segment3.{Segment3}
 use Rattle.relay_traj.specs.Governor.{advance}
-use Rattle.relay_traj.specs.Quintic.{∞}
 use Rattle.relay_traj.specs.Segment.{duration, eval3}
 use Rattle.joint.specs.declared.state.State.{State}
 use Rattle.joint.specs.declared.state.TickInput.{TickInput}

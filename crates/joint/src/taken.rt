@@ -2,7 +2,7 @@
 // proofs/Kept.antt).
 use crate::state::State;
 use relay_geo::SimplexShield;
-use relay_geo::finite_above;
+use relay_math::finite_above;
 use relay_math::is_finite;
 use relay_traj::Segment3;
 ghost use mathlib.Core.Path.{_≡_};

@@ -1,5 +1,3 @@
-pub mod Tests
-pub mod Order
 pub mod Mended
 pub mod Tick
 pub mod Lowpass

@@ -1,17 +1,30 @@
 -- `clamp_sym`, and the command filter within its limits. Assumes nothing.
 use mathlib.Core.Path.{_≡_, refl, sym, _∙_}
+use Prim.Native.Nat.{_+_, _*_}
+use native.Mathlib.Omega.{arith}
 use mathlib.Core.Bool.{Bool, true, false, cond, _||_}
 use mathlib.Core.List.{List, [], _∷_}
 use lib.Dec.{T}
-use lib.Ieee.{Float, nan, inf, fin, lt, le, neg, isNan, ofBits}
-use lib.Ieee.Bits.{is-true}
-use borrow.Author.Tests.{not-true}
-use Rattle.relay_math.specs.F32.{0·0, isFinite, finiteOr}
-use Rattle.relay_math.proofs.Tests.{held}
+use lib.Ieee.{Float, nan, inf, fin, up, down, lt, le, neg, isNan, ofBits}
+use lib.Ieee.Bits.{is-false}
+use borrow.Author.Tests.{le-ltb}
+use Rattle.relay_math.specs.F32.{0·0, isFinite, finiteOr, Within}
+use Rattle.relay_math.proofs.Order.{Number, finite-number, le-of-not-lt, not-lt-of-le, le-trans, low-within, high-within, between}
+use Rattle.relay_math.proofs.Finite.{or-zero-finite}
 use Rattle.relay_adrc.specs.declared.filter.CommandFilter.{CommandFilter}
 use Rattle.relay_adrc.specs.Filter.{clampSym, filterNew, filterStep, Event, Step, Reset, after, run}
-use Rattle.relay_adrc.proofs.Order.{Within, le-is-not-above, finite-number, kept-by-both, mirrored, zero-above}
-use Rattle.relay_adrc.proofs.Tick.{sanitised}
+
+-- zero is below minus m where m is below zero
+zero-above : (m : Float) → lt 0·0 (neg m) ≡ lt m 0·0
+unfolding lt neg ofBits
+zero-above nan = refl
+zero-above (inf true) = refl
+zero-above (inf false) = refl
+zero-above (fin true m e) =
+    let y : 0 * down e ≡ 0 = omega arith in
+    let z : m * up e * 1 + 0 ≡ m * up e * 1 = omega arith in
+    rw (y, z)
+zero-above (fin false m e) = sym (le-ltb (m * up e * 1) (0 * down e) (omega arith))
 
 -- "a limit of +infinity passes"
 pub infinite-limit-passes : (x : Float) → T (isFinite x) → clampSym x (inf false) ≡ x
@@ -46,25 +59,26 @@ pub record Limit (m : Float) : Type 0 where
   pub finite : T (isFinite m)
   pub no-less : T (le 0·0 m)
 
--- such a limit is not below zero, and its negative not above
-not-below-zero : (m : Float) → Limit m → lt m 0·0 ≡ false
-unfolding isNan ofBits
-not-below-zero m l =
-    not-true (lt m 0·0) (sym (le-is-not-above m 0·0 (finite-number m (l .finite)) refl) ∙ is-true (le 0·0 m) (l .no-less))
-
+-- zero lies between such a limit and its negative
 zero-within : (m : Float) → Limit m → Within (neg m) m 0·0
 unfolding isNan ofBits
-zero-within m l = (
-  held (le-is-not-above 0·0 (neg m) refl (finite-number (neg m) (neg-finite m (l .finite))) ∙ rw (zero-above m, not-below-zero m l)),
-  l .no-less,
-)
+zero-within m l = (le-of-not-lt 0·0 (neg m) tt (finite-number (neg m) (neg-finite m (l .finite))) (zero-above m ∙ not-lt-of-le m 0·0 (l .no-less)), l .no-less)
 
 -- "For a finite limit at or above zero the answer lies between its negative and itself."
 pub clamped-within : (x m : Float) → Limit m → Within (neg m) m (clampSym x m)
 unfolding clampSym
-clamped-within x m l =
-    rw (finite-number m (l .finite), not-below-zero m l)
-    (kept-by-both (finiteOr x 0·0) (neg m) m (sanitised x) (neg-finite m (l .finite)) (l .finite) (mirrored m (l .finite) (l .no-less)) (lt m (finiteOr x 0·0)) (lt (finiteOr x 0·0) (neg m)) refl refl)
+clamped-within x m l = rw (is-false (isNan m) (finite-number m (l .finite)), not-lt-of-le m 0·0 (l .no-less)) (at (finiteOr x 0·0) (finite-number (finiteOr x 0·0) (or-zero-finite x)))
+  where
+    apart : T (le (neg m) m)
+    apart = le-trans (neg m) 0·0 m (zero-within m l .0) (l .no-less)
+
+    at : (y : Float) → Number y → Within (neg m) m (cond (lt m y) m (cond (lt y (neg m)) (neg m) y))
+    at y n = go (lt m y) (lt y (neg m)) refl refl
+      where
+        go : (t u : Bool) → lt m y ≡ t → lt y (neg m) ≡ u → Within (neg m) m (cond t m (cond u (neg m) y))
+        go true u p q = high-within (neg m) m apart
+        go false true p q = low-within (neg m) m apart
+        go false false p q = between (neg m) m apart y n q p
 
 -- value and rate of a filter are within its limits
 pub record Held (f : CommandFilter) : Type 0 where

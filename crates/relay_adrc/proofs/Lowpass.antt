@@ -7,20 +7,20 @@ use lib.Ieee.{Float, nan, inf, fin, binary32, lt, le, neg, add, sub, mul, div, r
 use lib.Ieee.Fits.{round-is}
 use Rattle.relay_math.specs.F32.{_⊗_, _⊘_, f32, 0·0, 0·5, 1·0, 2·0, isFinite}
 use Rattle.relay_math.specs.Steps.{sinf, cosf, sincos}
-use Rattle.relay_math.proofs.Tests.{no}
+use Rattle.relay_math.proofs.Tests.{no, not-nan}
+use Rattle.relay_math.proofs.Order.{Number, le-is-not-above}
+use Rattle.relay_math.proofs.Finite.{or-zero-finite}
 use Rattle.relay_adrc.specs.declared.biquad.Biquad.{Biquad}
 use Rattle.relay_adrc.specs.Biquad.{PI, passesThrough, passthrough, filterAt, lowpass, biquadFilter}
-use Rattle.relay_adrc.proofs.Tick.{sanitised}
-use Rattle.relay_adrc.proofs.Order.{le-is-not-above}
 
 -- the output, and the input and output that are kept, are finite for all bits of everything
 pub output-finite : (f : Biquad) (x : Float) → T (isFinite (biquadFilter f x .y))
 unfolding biquadFilter
-output-finite f x = sanitised _
+output-finite f x = or-zero-finite _
 
 pub kept-input-finite : (f : Biquad) (x : Float) → T (isFinite (biquadFilter f x .biquad .x1))
 unfolding biquadFilter
-kept-input-finite f x = sanitised x
+kept-input-finite f x = or-zero-finite x
 
 pub kept-output : (f : Biquad) (x : Float) → biquadFilter f x .biquad .y1 ≡ biquadFilter f x .y
 unfolding biquadFilter
@@ -44,37 +44,31 @@ only-then fc fs q = by (passesThrough fc fs) q
     by false q = no (ap (lt 0·0) (sym (ap (λ (b : Biquad). b .b2) q) ∙ ap (λ (b : Biquad). b .b0) q))
 
 -- what is rounded is no NaN, so half of a number above zero is none
-units-number : (s : Bool) (q k : ℕ) → isNan (units binary32 s q k) ≡ false
+units-number : (s : Bool) (q k : ℕ) → Number (units binary32 s q k)
 unfolding units odd isNan
 units-number s q k = by (ltb (q * 2 ^ k) (2 ^ (149 + 128))) q
   where
-    by : (t : Bool) (n : ℕ) → isNan (cond t (odd 25 s n k 149) (inf s)) ≡ false
-    by false n = refl
-    by true zero = refl
-    by true (suc n) = refl
+    by : (t : Bool) (n : ℕ) → Number (cond t (odd 25 s n k 149) (inf s))
+    by false n = tt
+    by true zero = tt
+    by true (suc n) = tt
 
-rounded : (s : Bool) (n d : ℕ) → isNan (round binary32 s n d) ≡ false
+rounded : (s : Bool) (n d : ℕ) → Number (round binary32 s n d)
 rounded s n d = rw (round-is binary32 s n d) (units-number s _ _)
 
-half : (fs : Float) → lt 0·0 fs ≡ true → isNan (0·5 ⊗ fs) ≡ false
+half : (fs : Float) → lt 0·0 fs ≡ true → Number (0·5 ⊗ fs)
 unfolding lt mul isNan ofBits
 half nan p = no p
 half (inf true) p = no p
-half (inf false) p = refl
+half (inf false) p = tt
 half (fin s m e) p = rounded (not (not s)) (1 * 1 * (m * up e)) (2 * down e)
-
-above-zero : (x : Float) → lt 0·0 x ≡ true → isNan x ≡ false
-unfolding lt isNan ofBits
-above-zero nan p = no p
-above-zero (inf s) p = refl
-above-zero (fin s m e) p = refl
 
 -- "passes through unless fc > 0, fs > 0 and fc < 0.5 fs": where the first two hold no NaN is left, so that `fc >= 0.5 fs` is the rest's denial
 pub passes-unless : (fc fs : Float) → passesThrough fc fs ≡ not (lt 0·0 fc && lt 0·0 fs && lt fc (0·5 ⊗ fs))
 passes-unless fc fs = by (lt 0·0 fc) (lt 0·0 fs) refl refl
   where
     by : (a b : Bool) → lt 0·0 fc ≡ a → lt 0·0 fs ≡ b → (not a || not b || le (0·5 ⊗ fs) fc) ≡ not (a && b && lt fc (0·5 ⊗ fs))
-    by true true p q = le-is-not-above fc (0·5 ⊗ fs) (above-zero fc p) (half fs q)
+    by true true p q = le-is-not-above fc (0·5 ⊗ fs) (unfold ofBits in not-nan fc p) (half fs q)
     by true false p q = refl
     by false true p q = refl
     by false false p q = refl

@@ -2,29 +2,32 @@
 use mathlib.Core.Path.{_≡_, refl}
 use mathlib.Core.Bool.{Bool, true, false, cond, _&&_}
 use lib.Dec.{T}
-use lib.Ieee.{Float, lt, le, eq, ofBits}
-use Rattle.relay_math.specs.F32.{0·0, 1·0, isFinite, fabsf}
+use lib.Ieee.{Float, lt, le, ofBits}
+use Rattle.relay_math.specs.F32.{0·0, 1e-3, 0·1, 1·0, isFinite, clamp, Within, fabsf}
 use Rattle.relay_math.proofs.Tests.{held}
-use Rattle.relay_adrc.specs.Axis.{1e-4, 1e-3, 0·1, clamp, mendDt, mendB0, deliveredFraction}
-use Rattle.relay_adrc.proofs.Order.{Within, kept-in-sequence, within-finite}
+use Rattle.relay_math.proofs.Order.{finite-number, within-finite, clamp-within}
+use Rattle.relay_adrc.specs.Axis.{1e-4, mendDt, mendB0, deliveredFraction}
 
 -- x if it is finite, held between lo and hi, else d
-clamped : (x lo hi d : Float) (t : Bool) → isFinite x ≡ t → T (isFinite lo) → T (isFinite hi) → T (le lo hi) → Within lo hi d → Within lo hi (cond t (clamp x lo hi) d)
-clamped x lo hi d true e pl ph h w = kept-in-sequence x lo hi (held e) pl ph h (lt x lo) (lt hi (cond (lt x lo) lo x)) refl refl
-clamped x lo hi d false e pl ph h w = w
+clamped : (x lo hi d : Float) → T (le lo hi) → Within lo hi d → Within lo hi (cond (isFinite x) (clamp x lo hi) d)
+clamped x lo hi d h w = go (isFinite x) refl
+  where
+    go : (t : Bool) → isFinite x ≡ t → Within lo hi (cond t (clamp x lo hi) d)
+    go true e = clamp-within lo hi h x (finite-number x (held e))
+    go false e = w
 
 -- "dt is clamped to 1e-4..0.1; non-finite becomes 1e-3."
 pub dt-in-range : (dt : Float) → Within 1e-4 0·1 (mendDt dt)
-unfolding isFinite ofBits lt le
-dt-in-range dt = clamped dt 1e-4 0·1 1e-3 (isFinite dt) refl tt tt tt (tt, tt)
+unfolding ofBits le
+dt-in-range dt = clamped dt 1e-4 0·1 1e-3 tt (tt, tt)
 
 pub bad-dt : (dt : Float) → isFinite dt ≡ false → mendDt dt ≡ 1e-3
 bad-dt dt e = rw e
 
 -- the fraction that a tick uses lies in 0..1; a non-finite report counts as 1
 pub fraction-in-range : (frac : Float) → Within 0·0 1·0 (deliveredFraction frac)
-unfolding isFinite ofBits lt le eq
-fraction-in-range frac = clamped frac 0·0 1·0 1·0 (isFinite frac) refl tt tt tt (tt, tt)
+unfolding ofBits le
+fraction-in-range frac = clamped frac 0·0 1·0 1·0 tt (tt, tt)
 
 pub fraction-finite : (frac : Float) → T (isFinite (deliveredFraction frac))
 unfolding isFinite ofBits

@@ -1,22 +1,12 @@
 -- One tick of one axis, for all bits of everything. Assumes nothing.
 use mathlib.Core.Path.{_≡_, refl}
-use mathlib.Core.Bool.{Bool, true, false, cond}
 use lib.Dec.{T}
-use lib.Ieee.{Float, ofBits}
+use lib.Ieee.{Float}
 use Rattle.relay_math.specs.F32.{_⊕_, _⊖_, _⊗_, 0·0, 2·0, isFinite, finiteOr}
-use Rattle.relay_math.proofs.Tests.{held}
+use Rattle.relay_math.proofs.Finite.{or-zero-finite}
 use Rattle.relay_adrc.specs.declared.axis.AdrcAxis.{AdrcAxis}
 use Rattle.relay_adrc.specs.declared.axis.AxisTick.{AxisTick}
 use Rattle.relay_adrc.specs.Axis.{10·0, mendDt, positiveOr, mendB0, lag, deliveredFraction, axisTick, axisObserve, axisAct, axisSetDeliveredFraction}
-
--- what was made 0 where it is not finite is finite
-pub sanitised : (x : Float) → T (isFinite (finiteOr x 0·0))
-unfolding isFinite ofBits
-sanitised x = by (isFinite x) refl
-  where
-    by : (t : Bool) → isFinite x ≡ t → T (isFinite (cond t x 0·0))
-    by true e = held e
-    by false e = tt
 
 pub record Finite (t : AxisTick) : Type 0 where
   pub z1 : T (isFinite (t .axis .z1))
@@ -33,7 +23,7 @@ module _ (a : AdrcAxis) (omegaMeas omegaD dt : Float) where
 
   pub tick-finite : Finite (axisTick a omegaMeas omegaD dt)
   unfolding axisTick
-  tick-finite = record { z1 = sanitised _; z2 = sanitised _; u-prev = sanitised _; u-act = sanitised _; u = sanitised _ }
+  tick-finite = record { z1 = or-zero-finite _; z2 = or-zero-finite _; u-prev = or-zero-finite _; u-act = or-zero-finite _; u = or-zero-finite _ }
 
   -- The command is kept whole for the next tick, and the fraction and the gains stay.
   pub command-kept : axisTick a omegaMeas omegaD dt .axis .«u_prev» ≡ axisTick a omegaMeas omegaD dt .u

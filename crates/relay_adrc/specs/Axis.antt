@@ -1,7 +1,7 @@
 -- `AdrcAxis` of document 002, and what mends its inputs. Definitions only.
 use mathlib.Core.Bool.{_&&_, cond}
 use lib.Ieee.{Float, lt}
-use Rattle.relay_math.specs.F32.{_⊕_, _⊖_, _⊗_, _⊘_, f32, 0·0, 1·0, 2·0, isFinite, finiteOr, fabsf}
+use Rattle.relay_math.specs.F32.{_⊕_, _⊖_, _⊗_, _⊘_, f32, 0·0, 1e-3, 0·1, 1·0, 2·0, 3·0, isFinite, finiteOr, finiteAbove, clamp, fabsf}
 use Rattle.relay_adrc.specs.declared.gains.AdrcGains.{AdrcGains}
 use Rattle.relay_adrc.specs.declared.axis.AdrcAxis.{AdrcAxis}
 use Rattle.relay_adrc.specs.declared.axis.Observed.{Observed}
@@ -10,35 +10,20 @@ use Rattle.relay_adrc.specs.declared.axis.AxisTick.{AxisTick}
 abbrev pub 1e-4 : Float
 1e-4 = f32 0x38d1_b717
 
-abbrev pub 1e-3 : Float
-1e-3 = f32 0x3a83_126f
-
-abbrev pub 0·1 : Float
-0·1 = f32 0x3dcc_cccd
-
-abbrev pub 3·0 : Float
-3·0 = f32 0x4040_0000
-
 abbrev pub 10·0 : Float
 10·0 = f32 0x4120_0000
-
--- two comparisons in sequence
-abbrev pub clamp : Float → Float → Float → Float
-clamp x lo hi =
-    let y = cond (lt x lo) lo x in
-    cond (lt hi y) hi y
 
 abbrev pub mendDt : Float → Float
 mendDt dt = cond (isFinite dt) (clamp dt 1e-4 0·1) 1e-3
 
 abbrev pub positiveOr : Float → Float → Float
-positiveOr x d = cond (isFinite x && lt 0·0 x) x d
+positiveOr x d = cond (finiteAbove 0·0 x) x d
 
 abbrev pub mendB0 : Float → Float
 mendB0 b0 = cond (isFinite b0 && lt 1e-3 (fabsf b0)) b0 1·0
 
 abbrev pub lag : Float → Float → Float → Float → Float
-lag uAct uDelivered tau dt = cond (isFinite tau && lt 1e-4 tau) (uAct ⊕ dt ⊗ (uDelivered ⊖ uAct) ⊘ tau) uDelivered
+lag uAct uDelivered tau dt = cond (finiteAbove 1e-4 tau) (uAct ⊕ dt ⊗ (uDelivered ⊖ uAct) ⊘ tau) uDelivered
 
 abbrev pub deliveredFraction : Float → Float
 deliveredFraction frac = cond (isFinite frac) (clamp frac 0·0 1·0) 1·0

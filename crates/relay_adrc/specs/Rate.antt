@@ -1,13 +1,13 @@
 -- `AdrcRate` of document 002: the three axes side by side. Definitions only.
 use lib.Ieee.{Float}
-use Rattle.relay_math.specs.F32.{f32}
+use Rattle.relay_math.specs.F32.{f32, 3·0}
 use Rattle.relay_math.specs.declared.Vec3.{Vec3}
 use Rattle.relay_math.specs.declared.BodyRate.{BodyRate}
 use Rattle.relay_adrc.specs.declared.gains.AdrcGains.{AdrcGains}
 use Rattle.relay_adrc.specs.declared.rate.AdrcRate.{AdrcRate}
 use Rattle.relay_adrc.specs.declared.rate.RateTick.{RateTick}
 use Rattle.relay_adrc.specs.Gains.{withTau}
-use Rattle.relay_adrc.specs.Axis.{3·0, axisNew, axisTick, axisReset, axisSetDeliveredFraction}
+use Rattle.relay_adrc.specs.Axis.{axisNew, axisTick, axisReset, axisSetDeliveredFraction}
 
 abbrev pub rateNew : AdrcGains → AdrcGains → AdrcGains → AdrcRate
 rateNew roll pitch yaw = record { roll = axisNew roll; pitch = axisNew pitch; yaw = axisNew yaw }

@@ -1,7 +1,7 @@
 // One axis of linear ADRC. An observer estimates the rate z1 and all that the nominal plant leaves out, z2; the control tracks the wanted rate and cancels z2.
 ghost use mathlib.Core.Path.{_≡_};
 ghost use Rattle.relay_math.specs.F32.{finiteOr};
-ghost use Rattle.relay_adrc.specs.Axis.{clamp, mendDt, positiveOr, mendB0, lag, deliveredFraction, axisNew, axisObserve, axisAct, axisTick, axisReset, axisSetDeliveredFraction};
+ghost use Rattle.relay_adrc.specs.Axis.{mendDt, positiveOr, mendB0, lag, deliveredFraction, axisNew, axisObserve, axisAct, axisTick, axisReset, axisSetDeliveredFraction};
 use crate::gains::AdrcGains;
 
 #[repr(C)]
@@ -28,26 +28,12 @@ pub struct AxisTick {
     pub u: f32,
 }
 
-// Rust's `x.clamp(lo, hi)`: two comparisons in sequence.
-pub fn clamp(x: f32, lo: f32, hi: f32) -> f32
-    ensures { λ r. ⌜ r ≡ clamp x lo hi ⌝ }
-{
-    let mut y = x;
-    if y < lo {
-        y = lo;
-    }
-    if y > hi {
-        y = hi;
-    }
-    y
-}
-
 // The step that ADRC and the command filter take for a given dt.
 pub fn mend_dt(dt: f32) -> f32
     ensures { λ r. ⌜ r ≡ mendDt dt ⌝ }
 {
     if relay_math::is_finite(dt) {
-        clamp(dt, 1e-4, 0.1)
+        relay_math::clamp(dt, 1e-4, 0.1)
     } else {
         1e-3
     }
@@ -57,7 +43,7 @@ pub fn mend_dt(dt: f32) -> f32
 pub fn positive_or(x: f32, d: f32) -> f32
     ensures { λ r. ⌜ r ≡ positiveOr x d ⌝ }
 {
-    if relay_math::is_finite(x) && x > 0.0 {
+    if relay_math::finite_above(0.0, x) {
         x
     } else {
         d
@@ -79,7 +65,7 @@ pub fn mend_b0(b0: f32) -> f32
 pub fn lag(u_act: f32, u_delivered: f32, tau: f32, dt: f32) -> f32
     ensures { λ r. ⌜ r ≡ lag «u_act» «u_delivered» tau dt ⌝ }
 {
-    if relay_math::is_finite(tau) && tau > 1e-4 {
+    if relay_math::finite_above(1e-4, tau) {
         u_act + dt * (u_delivered - u_act) / tau
     } else {
         u_delivered
@@ -91,7 +77,7 @@ pub fn delivered_fraction(frac: f32) -> f32
     ensures { λ r. ⌜ r ≡ deliveredFraction frac ⌝ }
 {
     if relay_math::is_finite(frac) {
-        clamp(frac, 0.0, 1.0)
+        relay_math::clamp(frac, 0.0, 1.0)
     } else {
         1.0
     }

@@ -32,7 +32,7 @@ pub struct Filtered {
 pub fn passes_through(fc: f32, fs: f32) -> bool
     ensures { λ r. ⌜ r ≡ passesThrough fc fs ⌝ }
 {
-    !(fc > 0.0) || !(fs > 0.0) || fc >= 0.5 * fs
+    !(fc > 0.0) || (!(fs > 0.0) || fc >= 0.5 * fs)
 }
 
 impl Biquad {

@@ -50,9 +50,8 @@ impl AdrcGains {
         ensures { λ r. ⌜ r ≡ wellSeparated self «min_ratio» ⌝ }
     {
         relay_math::is_finite(self.omega_o)
-            && relay_math::is_finite(self.omega_c)
-            && self.omega_c > 0.0
-            && self.omega_o >= min_ratio * self.omega_c
+            && (relay_math::finite_above(0.0, self.omega_c)
+                && self.omega_o >= min_ratio * self.omega_c)
     }
 
     // The upper half of the observer's stability bound at a step of dt; the Rust has no test from below, so a negative omega_o passes.
@@ -60,8 +59,6 @@ impl AdrcGains {
         ensures { λ r. ⌜ r ≡ esoDtStable self dt margin ⌝ }
     {
         relay_math::is_finite(self.omega_o)
-            && relay_math::is_finite(dt)
-            && dt > 0.0
-            && self.omega_o * dt < 2.0 * margin
+            && (relay_math::finite_above(0.0, dt) && self.omega_o * dt < 2.0 * margin)
     }
 }

@@ -9,7 +9,6 @@ mod filter; // filter.rt: the command filter
 pub use axis::AdrcAxis;
 pub use axis::AxisTick;
 pub use axis::Observed;
-pub use axis::clamp;
 pub use axis::delivered_fraction;
 pub use axis::lag;
 pub use axis::mend_b0;

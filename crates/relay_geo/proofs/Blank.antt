@@ -1,15 +1,16 @@
 -- A zero or a NaN: what is made of such numbers, or by a product with zero, is one again. Assumes nothing.
 use mathlib.Core.Path.{_≡_, refl}
-use mathlib.Core.Bool.{Bool, true, false, not, _&&_}
-use Prim.Native.Nat.{ℕ, zero, suc, _*_, _^_, compare, compare·zero-suc}
-use native.Mathlib.Nat.{zero-div, zero-mod, zero-mul, mul-zero}
+use mathlib.Core.Bool.{Bool, true, false, not, and-false}
+use Prim.Native.Nat.{ℕ, _*_, _^_}
+use native.Mathlib.Nat.{zero-mul, mul-zero}
 use native.Mathlib.Omega.{arith}
 use borrow.Author.Tests.{le-ltb}
 use lib.IntN.{ℤ, pos, negsuc}
-use lib.Ieee.{Float, nan, inf, fin, binary32, up, down, unlike, nearest, round, neg, sum, add, sub, mul, lt, ofBits}
+use lib.Ieee.{Float, nan, inf, fin, binary32, up, down, unlike, round, neg, sum, add, sub, mul, lt, ofBits}
 use Rattle.relay_math.specs.declared.Vec3.{Vec3}
 use Rattle.relay_math.specs.F32.{_⊕_, _⊖_, _⊗_, isFinite}
 use Rattle.relay_math.specs.Sqrt.{sqrtf}
+use Rattle.relay_math.proofs.Sums.{round-zero}
 use Rattle.relay_geo.specs.Vectors.{1e-9, cross, dot, norm, normalize}
 use Rattle.relay_geo.specs.declared.vectors.Unit.the-variants.{Refused}
 
@@ -17,16 +18,8 @@ pub data Blank : Float → Type 0 where
   number : Blank nan
   none : (s : Bool) (e : ℤ) → Blank (fin s 0 e)
 
-near : (u : ℕ) → nearest 0 (compare 0 u) ≡ 0
-near zero = refl
-near (suc u) = rw compare·zero-suc
-
-nothing : (s : Bool) (c : ℕ) → round binary32 s 0 c ≡ fin s 0 (pos 0)
-unfolding round
-nothing s c = simp (zero-div, zero-mod, near)
-
 rounded : (s : Bool) (c : ℕ) → Blank (round binary32 s 0 c)
-rounded s c = rw (nothing s c) (none s (pos 0))
+rounded s c = rw (round-zero s c) (none s (pos 0))
 
 -- ---- products, sums, differences, the root
 
@@ -90,10 +83,6 @@ norm-blank v b = root (total (total (product (b .x) (b .x)) (product (b .y) (b .
 pub cross-blank : (v : Vec3) → Blank3 (cross v (fin false 0 (pos 0), fin false 0 (pos 0), fin false 0 (pos 0)))
 unfolding cross
 cross-blank v = record { x = less (by-zero (v .1)) (by-zero (v .2)); y = less (by-zero (v .2)) (by-zero (v .0)); z = less (by-zero (v .0)) (by-zero (v .1)) }
-
-and-false : (b : Bool) → (b && false) ≡ false
-and-false true = refl
-and-false false = refl
 
 pub blank-refused : (v : Vec3) → Blank3 v → normalize v ≡ Refused
 unfolding normalize

@@ -1,11 +1,11 @@
 -- `sanitise3` and what ends in it. Assumes nothing.
-use mathlib.Core.Path.{_≡_, refl, subst}
+use mathlib.Core.Path.{_≡_, subst}
 use mathlib.Core.Bool.{Bool, true, false, cond}
-use lib.Dec.{T}
-use lib.Ieee.{Float, nan, inf, fin, ofBits}
+use lib.Ieee.{Float, ofBits}
 use Rattle.relay_math.specs.declared.Vec3.{Vec3}
 use Rattle.relay_math.specs.declared.BodyRate.{BodyRate}
-use Rattle.relay_math.specs.F32.{0·0, isFinite, finiteOr}
+use Rattle.relay_math.specs.F32.{0·0, isFinite}
+use Rattle.relay_math.proofs.Finite.{finite-or-keeps, or-zero-finite}
 use Rattle.relay_geo.specs.declared.vectors.Mat3.{Mat3}
 use Rattle.relay_geo.specs.declared.vectors.Quat.{Quat}
 use Rattle.relay_geo.specs.declared.attitude.Attitude.{Attitude}
@@ -17,23 +17,11 @@ use Rattle.relay_geo.specs.Vectors.{norm, over, sanitise3, Finite3}
 use Rattle.relay_geo.specs.Attitude.{quatToRotmat, thrustForce, thrustAttitude, desiredAttitude, tooWeak, bodyRate, rateFrom, flatnessOmegaFf}
 use Rattle.relay_geo.specs.Controller.{rateToward, desiredRate, torqueToward, tick}
 
-mended : (x : Float) → T (isFinite (finiteOr x 0·0))
-unfolding isFinite ofBits
-mended nan = tt
-mended (inf s) = tt
-mended (fin s m e) = tt
-
-kept : (x : Float) → T (isFinite x) → finiteOr x 0·0 ≡ x
-unfolding isFinite
-kept nan h = absurd h
-kept (inf s) h = absurd h
-kept (fin s m e) h = refl
-
 pub sanitise3-finite : (v : Vec3) → Finite3 (sanitise3 v)
-sanitise3-finite v = record { x = mended (v .0); y = mended (v .1); z = mended (v .2) }
+sanitise3-finite v = record { x = or-zero-finite (v .0); y = or-zero-finite (v .1); z = or-zero-finite (v .2) }
 
 pub sanitise3-keeps : (v : Vec3) → Finite3 v → sanitise3 v ≡ v
-sanitise3-keeps v h = rw (kept (v .0) (h .x), kept (v .1) (h .y), kept (v .2) (h .z))
+sanitise3-keeps v h = rw (finite-or-keeps (v .0) 0·0 (h .x), finite-or-keeps (v .1) 0·0 (h .y), finite-or-keeps (v .2) 0·0 (h .z))
 
 -- ---- `desired_rate`, `tick` and the feedforward answer finite numbers, whatever the bits
 

@@ -11,8 +11,8 @@ use lib.ListN.{length, getD, take, drop, length-append, length-drop}
 use lib.Seq.{split-at, length-take-le, getD-append-add, getD-take, getD-drop}
 use Rattle.relay_math.specs.F32.{f32, isFinite}
 use Rattle.relay_math.proofs.Tests.{no}
+use Rattle.relay_math.proofs.Order.{lt-above}
 use Rattle.relay_geo.specs.Latch.{releases, engages, latch, after, flagsFrom, engagedAfter, flags, Flies, FliesAt}
-use Rattle.relay_geo.proofs.Order.{lt-above}
 
 -- ---- one step, as tests on plain Bools: r that the margin releases, g that it engages
 

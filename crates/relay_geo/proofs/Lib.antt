@@ -3,7 +3,6 @@ pub mod Accepts
 pub mod NoAttitude
 pub mod Finite
 pub mod Figures
-pub mod Order
 pub mod MarginRange
 pub mod SetUp
 pub mod Steps

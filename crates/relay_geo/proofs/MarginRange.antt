@@ -1,22 +1,15 @@
 -- The margin for all bits of everything: what it can be, and its cases in document 01's words. Assumes nothing.
-use Prim.Native.Nat.{ℕ, _+_, _*_}
+use Prim.Native.Nat.{ℕ}
 use mathlib.Core.Path.{_≡_, refl, sym, ap, _∙_}
 use mathlib.Core.Logic.{_⊎_, inl, inr}
-use mathlib.Core.Bool.{Bool, true, false, not, _&&_, _||_, cond, or-true}
-use native.Mathlib.Nat.{zero-mul}
+use mathlib.Core.Bool.{Bool, true, false, not, _&&_, _||_, cond}
 use native.Mathlib.Omega.{arith}
-use borrow.Author.Tests.{ltb-true, ltb-false, le-ltb, eq-eqb, ne-eqb}
-use lib.Dec.{ltb, eqb}
-use lib.Ieee.{Float, nan, inf, fin, up, down, sub, mul, div, lt, le, eq, ofBits}
-use Rattle.relay_math.specs.F32.{_⊖_, f32, 0·0, 1·0, 0·5, isFinite, finiteOr}
-use Rattle.relay_math.proofs.Tests.{no}
+use lib.Ieee.{Float, nan, inf, fin, sub, mul, div, lt, le, isNan, ofBits}
+use Rattle.relay_math.specs.F32.{_⊖_, f32, 0·0, 1·0, 0·5, isFinite, finiteOr, finiteAbove}
+use Rattle.relay_math.proofs.Tests.{no, held, both}
+use Rattle.relay_math.proofs.Order.{finite-number, le-is-not-above}
 use Rattle.relay_geo.specs.declared.set.RecoverableSet.{RecoverableSet}
-use Rattle.relay_geo.specs.Latch.{finiteAbove}
 use Rattle.relay_geo.specs.Set.{newSet, minusInfinity, unknown, psiMargin, rateMargin, smaller, margin}
-
-first : (x y : Bool) → (x && y) ≡ true → x ≡ true
-first true y e = refl
-first false y e = no e
 
 -- ---- finite or minus infinity, and nothing else
 
@@ -50,27 +43,10 @@ margin-never-plus-infinity set psi w = neither (margin set psi w) (margin-finite
 -- ---- document 01: "minus infinity if psi, the squared rate or lambda_j is non-finite, or lambda_j is not above 0. Else the smaller of psi_max - psi and
 -- 2 k_r (2 - psi) / lambda_j - squared rate, chosen by one strict comparison as in 000; if that is non-finite, minus infinity."
 
-level-or-below : (X Y : ℕ) → Y ≡ 0 → (ltb X Y || (eqb X Y && true)) ≡ not (ltb Y X)
-level-or-below X Y z = go (ltb Y X) refl
-  where
-    go : (b : Bool) → ltb Y X ≡ b → (ltb X Y || (eqb X Y && true)) ≡ not b
-    go true t = let l = ltb-true Y X t in rw (le-ltb X Y (omega arith), ne-eqb X Y (λ (e : X ≡ Y). omega arith))
-    go false t = let l = ltb-false Y X t in simp (eq-eqb X Y (omega arith), or-true)
-
-never-above : (X Y : ℕ) → Y ≡ 0 → (ltb 0 (X + Y) || (eqb X Y && eqb X 0)) ≡ true
-never-above X Y z = go (ltb 0 (X + Y)) refl
-  where
-    go : (b : Bool) → ltb 0 (X + Y) ≡ b → (b || (eqb X Y && eqb X 0)) ≡ true
-    go true t = refl
-    go false t = let l = ltb-false 0 (X + Y) t in rw (eq-eqb X Y (omega arith), eq-eqb X 0 (omega arith))
-
 -- of a finite x, `x <= 0` says that it is not above 0
 not-above : (x : Float) → isFinite x ≡ true → le x 0·0 ≡ not (lt 0·0 x)
-unfolding isFinite lt le eq ofBits
-not-above nan e = no e
-not-above (inf s) e = no e
-not-above (fin false m e) f = level-or-below (m * up e * 1) (0 * down e) (zero-mul (down e))
-not-above (fin true m e) f = never-above (m * up e * 1) (0 * down e) (zero-mul (down e))
+unfolding isNan ofBits
+not-above x e = le-is-not-above 0·0 x tt (finite-number x (held e))
 
 told : (a b c d u : Bool) → (c ≡ true → d ≡ not u) → (not a || not b || not c || d) ≡ not (a && b && (c && u))
 told true true true d u h = h refl
@@ -116,7 +92,7 @@ nan-psi-max-leaves-rate-part set psi w k e = rate-part-alone set psi w k (rw e (
 
 pub infinite-psi-max-leaves-rate-part : (set : RecoverableSet) (psi eOmegaSq : Float) → known set psi eOmegaSq ≡ true → set .«psi_max» ≡ inf false → margin set psi eOmegaSq ≡ finiteOr (rateMargin set psi eOmegaSq) minusInfinity
 infinite-psi-max-leaves-rate-part set psi w k e =
-    rate-part-alone set psi w k (rw e (infinity-under psi (rateMargin set psi w) (first (isFinite psi) (isFinite w) (first (isFinite psi && isFinite w) (finiteAbove 0·0 (set .«lambda_j»)) k))))
+    rate-part-alone set psi w k (rw e (infinity-under psi (rateMargin set psi w) (both (isFinite psi) (isFinite w) (both (isFinite psi && isFinite w) (finiteAbove 0·0 (set .«lambda_j»)) k .0) .0)))
 
 -- ---- document 01's worked figures of the set (1, 1, 1.75), and a tie of zeros, at which the rate part -0 is taken
 

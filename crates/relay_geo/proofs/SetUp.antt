@@ -1,47 +1,32 @@
 -- The shield's set-up: thresholds in order for every f32 given. Assumes nothing.
-use Prim.Native.Nat.{ℕ, zero, suc, _+_, _-_, _*_, _%_, _^_, _<_, _≤_}
+use Prim.Native.Nat.{ℕ, zero, suc, _*_, _^_, _<_, _≤_}
 use mathlib.Core.Path.{_≡_, refl, sym, ap, _∙_, subst}
-use mathlib.Core.Bool.{Bool, true, false, _&&_, cond, true≢false}
-use native.Mathlib.Nat.{le-trans, le-of-eq, zero-lt-suc, mul-one, mul-comm, mul-assoc, mul-right-comm, mul-le-mul-right, le-of-mul-le-mul-right, mul-pos}
+use mathlib.Core.Logic.{inl, inr}
+use mathlib.Core.Bool.{Bool, true, false, cond, true≢false}
+use native.Mathlib.Nat.{le-trans, le-of-eq, zero-lt-suc, mul-one, mul-assoc, mul-right-comm, mul-le-mul-right, le-of-mul-le-mul-right, mul-pos, pow-suc}
 use native.Mathlib.Omega.{arith}
-use borrow.Author.Tests.{ltb-true, ltb-false, lt-ltb}
-use lib.IntN.{ℤ, pos, negsuc}
-use lib.Dec.{T, leb, ltb, eqb, leb→le, ltb→lt}
-use lib.Pow.{pow-add, pow-pos}
+use borrow.Author.Tests.{ltb-true, lt-ltb}
+use lib.IntN.{ℤ}
+use lib.Dec.{T}
+use lib.Pow.{pow-pos}
 use lib.Ieee.{Float, nan, inf, fin, binary32, up, down, fits, round, mul, lt, le, ofBits}
-use lib.Ieee.Digits.{back}
-use lib.Ieee.Fits.{and-l, and-r, up-pos, down-pos, cond-fits}
+use lib.Ieee.Fits.{up-pos, down-pos, cond-fits}
 use lib.Ieee.Exact.{HasValue, round-exact}
 use lib.Ieee.Order.{round-mono}
-use Rattle.relay_math.specs.F32.{_⊗_, f32, 0·0, 2·0, isFinite}
-use Rattle.relay_math.proofs.Tests.{no}
-use Rattle.relay_math.proofs.Grains.{pow-le-back}
+use Rattle.relay_math.specs.F32.{_⊗_, f32, 0·0, 0·1, 2·0, isFinite, finiteAbove}
+use Rattle.relay_math.proofs.Tests.{no, both, le-or-lt}
+use Rattle.relay_math.proofs.Grains.{Placed, placed}
 use Rattle.relay_geo.specs.declared.set.RecoverableSet.{RecoverableSet}
-use Rattle.relay_geo.specs.Latch.{finiteAbove}
-use Rattle.relay_geo.specs.Shield.{0·1, mendEnter, mend, newShield}
+use Rattle.relay_geo.specs.Shield.{mendEnter, mend, newShield}
 
 -- ---- twice an f32 that is finite and above zero lies above it: doubling is exact, or overflows to +infinity
 
--- 2 ^ e is 2 ^ shift e in units of 2 ^ -150
-shift : ℤ → ℕ
-shift (pos a) = a + 150
-shift (negsuc a) = 150 - suc a
+times-two : (x u p d : ℕ) → x * u ≡ p * d → x * 2 * u ≡ p * 2 * (d * 1)
+times-two x u p d h = let k : x * u * 2 ≡ p * d * 2 = ap (λ (z : ℕ). z * 2) h in omega arith
 
-shifted : (e : ℤ) → down e ≤ 2 ^ 149 → up e * 2 ^ 150 ≡ 2 ^ shift e * down e
-unfolding shift
-shifted (pos a) h = sym (mul-one (2 ^ (a + 150)) ∙ pow-add 2 a 150)
-shifted (negsuc a) h =
-    let l : suc a ≤ 149 = pow-le-back (suc a) 149 h in
-    mul-comm 1 (2 ^ 150) ∙ mul-one (2 ^ 150) ∙ ap (λ (x : ℕ). 2 ^ x) (sym (back 150 (suc a) (omega arith))) ∙ pow-add 2 (150 - suc a) (suc a)
-
--- in units of 2 ^ -149, twice m * 2 ^ e is m * 2 ^ shift e
-doubled : (m : ℕ) (e : ℤ) → down e ≤ 2 ^ 149 → m * up e * 2 * 2 ^ 149 ≡ m * 2 ^ shift e * (down e * 1)
-doubled m e h =
-    mul-assoc (m * up e) 2 (2 ^ 149)
-    ∙ mul-assoc m (up e) (2 ^ 150)
-    ∙ ap (λ (x : ℕ). m * x) (shifted e h)
-    ∙ sym (mul-assoc m (2 ^ shift e) (down e))
-    ∙ ap (λ (x : ℕ). m * 2 ^ shift e * x) (sym (mul-one (down e)))
+-- in units of 2 ^ -149, where m * 2 ^ e is m * 2 ^ j, twice that is m * 2 ^ (j + 1)
+doubled : (m j : ℕ) (e : ℤ) → m * up e * 2 ^ 149 ≡ m * 2 ^ j * down e → m * up e * 2 * 2 ^ 149 ≡ m * 2 ^ suc j * (down e * 1)
+doubled m j e h = times-two (m * up e) (2 ^ 149) (m * 2 ^ j) (down e) h ∙ ap (λ (x : ℕ). x * (down e * 1)) (mul-assoc m (2 ^ j) 2 ∙ ap (λ (x : ℕ). m * x) (sym (pow-suc 2 j)))
 
 above-twice : (m : ℕ) (e : ℤ) (y : Float) → 0 < m → HasValue y false (m * up e * 2) (down e * 1) → lt (fin false m e) y ≡ true
 unfolding lt
@@ -69,34 +54,27 @@ unfolding round
 top = refl
 
 -- m * 2 ^ e doubled, where that overflows
-overflows : (m : ℕ) (e : ℤ) → down e ≤ 2 ^ 149 → 2 ^ 277 ≤ m * 2 ^ shift e → round binary32 false (m * up e * 2) (down e * 1) ≡ inf false
-overflows m e h o =
+overflows : (m j : ℕ) (e : ℤ) → m * up e * 2 ^ 149 ≡ m * 2 ^ j * down e → 2 ^ 277 ≤ m * 2 ^ suc j → round binary32 false (m * up e * 2) (down e * 1) ≡ inf false
+overflows m j e h o =
     let D : 0 < down e * 1 = mul-pos (down-pos e) (pow-pos 0) in
     let c : 2 ^ 128 * (down e * 1) * 2 ^ 149 ≤ m * up e * 2 * 1 * 2 ^ 149 =
     le-trans (le-of-eq (mul-right-comm (2 ^ 128) (down e * 1) (2 ^ 149)))
-    (le-trans (mul-le-mul-right (down e * 1) o) (le-of-eq (sym (doubled m e h) ∙ ap (λ (x : ℕ). x * 2 ^ 149) (sym (mul-one (m * up e * 2)))))) in
+    (le-trans (mul-le-mul-right (down e * 1) o) (le-of-eq (sym (doubled m j e h) ∙ ap (λ (x : ℕ). x * 2 ^ 149) (sym (mul-one (m * up e * 2)))))) in
     at-top _ (subst (λ (x : Float). T (le x (round binary32 false (m * up e * 2) (down e * 1)))) top (round-mono binary32 (2 ^ 128) 1 (m * up e * 2) (down e * 1) (pow-pos 0) D (le-of-mul-le-mul-right c (pow-pos 149))))
 
-finite-doubled : (m : ℕ) (e : ℤ) → 0 < m → m < 2 ^ 24 → down e ≤ 2 ^ 149 → lt (fin false m e) (round binary32 false (m * up e * 2) (down e * 1)) ≡ true
-finite-doubled m e M s h = go (ltb (m * 2 ^ shift e) (2 ^ 277)) refl
-  where
-    go : (b : Bool) → ltb (m * 2 ^ shift e) (2 ^ 277) ≡ b → lt (fin false m e) (round binary32 false (m * up e * 2) (down e * 1)) ≡ true
-    go true t = above-twice m e _ M (round-exact binary32 false (m * up e * 2) (down e * 1) m (shift e) (mul-pos (down-pos e) (pow-pos 0)) s (ltb-true _ _ t) (doubled m e h))
-    go false t = rw (overflows m e h (ltb-false _ _ t)) (below-top m e)
+finite-doubled : (m : ℕ) (e : ℤ) → 0 < m → Placed m e → lt (fin false m e) (round binary32 false (m * up e * 2) (down e * 1)) ≡ true
+finite-doubled m e M (j, s, h, u) = elim (le-or-lt (2 ^ 277) (m * 2 ^ suc j)) [
+  | inl o ↦ rw (overflows m j e h o) (below-top m e)
+  | inr l ↦ above-twice m e _ M (round-exact binary32 false (m * up e * 2) (down e * 1) m (suc j) (mul-pos (down-pos e) (pow-pos 0)) s l (doubled m j e h))
+]
 
 pub twice-above : (x : Float) → T (fits binary32 x) → finiteAbove 0·0 x ≡ true → lt x (x ⊗ 2·0) ≡ true
-unfolding fits lt mul ofBits isFinite
+unfolding lt mul ofBits isFinite
 twice-above nan f t = no t
 twice-above (inf s) f t = no t
 twice-above (fin true m e) f t = no t
 twice-above (fin false zero e) f t = absurd (let l = ltb-true (0 * down e) (0 * up e * 1) t in omega arith)
-twice-above (fin false (suc m) e) f t =
-    let a : Bool = eqb (suc m % 2) 1 in
-    let b : Bool = ltb (suc m) (2 ^ 24) in
-    let c : Bool = leb (down e) (2 ^ 149) in
-    let d : Bool = ltb (suc m * up e) (2 ^ 128 * down e) in
-    let u : T (a && b && c) = and-l (a && b && c) d f in
-    finite-doubled (suc m) e (zero-lt-suc m) (ltb→lt (suc m) (2 ^ 24) (and-r a b (and-l (a && b) c u))) (leb→le (down e) (2 ^ 149) (and-r (a && b) c u))
+twice-above (fin false (suc m) e) f t = finite-doubled (suc m) e (zero-lt-suc m) (placed false (suc m) e f)
 
 -- ---- document 01: "enter is kept if finite and above 0, else 0.1; exit if finite and above enter, else twice enter (+infinity is possible ..)"
 
@@ -132,16 +110,12 @@ enter-fits : (enter : Float) → T (fits binary32 enter) → T (fits binary32 (m
 unfolding fits ofBits
 enter-fits enter f = cond-fits binary32 (finiteAbove 0·0 enter) enter 0·1 f tt
 
-second : (a b : Bool) → (a && b) ≡ true → b ≡ true
-second true b e = e
-second false b e = no e
-
 -- exit is above enter, for every f32 given as enter, subnormals and overflow to +infinity included
 pub enter-below-exit : (enter exit : Float) → T (fits binary32 enter) → lt (mend enter exit .enter) (mend enter exit .exit) ≡ true
 unfolding mend
 enter-below-exit enter exit f =
     let en : Float = mendEnter enter in
-    passes (finiteAbove en) (lt en) exit (en ⊗ 2·0) (second (isFinite exit) (lt en exit)) (twice-above en (enter-fits enter f) (enter-finite-positive enter exit))
+    passes (finiteAbove en) (lt en) exit (en ⊗ 2·0) (λ h. both (isFinite exit) (lt en exit) h .1) (twice-above en (enter-fits enter f) (enter-finite-positive enter exit))
 
 -- mending mended thresholds changes nothing
 pub mend-idempotent : (enter exit : Float) → mend (mend enter exit .enter) (mend enter exit .exit) ≡ mend enter exit

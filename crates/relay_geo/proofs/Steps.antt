@@ -1,11 +1,13 @@
 -- One step of the shield, in document 01's words. Assumes nothing.
 use mathlib.Core.Path.{_≡_, refl, sym, _∙_}
 use mathlib.Core.Bool.{Bool, true, false, not, and-false}
-use lib.Ieee.{Float, nan, inf, fin, lt, ofBits}
+use lib.Ieee.{Float, lt}
+use lib.Ieee.Bits.{is-true}
 use borrow.Author.Tests.{not-false}
-use Rattle.relay_math.specs.F32.{0·0, isFinite, finiteOr}
+use Rattle.relay_math.specs.F32.{isFinite}
 use Rattle.relay_math.specs.declared.Vec3.{Vec3}
 use Rattle.relay_math.specs.declared.BodyRate.{BodyRate}
+use Rattle.relay_math.proofs.Finite.{or-zero-finite}
 use Rattle.relay_geo.specs.declared.shield.SimplexShield.{SimplexShield}
 use Rattle.relay_geo.specs.Vectors.{sanitise3}
 use Rattle.relay_geo.specs.Latch.{releases, engages, latch}
@@ -66,12 +68,6 @@ module _ (s : SimplexShield) (m : Float) (agile fallback : BodyRate) where
   fallback-passed-on e = rw e
 
 -- each number of either is finite
-finite-or-zero : (x : Float) → isFinite (finiteOr x 0·0) ≡ true
-unfolding isFinite ofBits
-finite-or-zero nan = refl
-finite-or-zero (inf s) = refl
-finite-or-zero (fin s m e) = refl
-
 pub sanitised-finite : (v : Vec3) → (isFinite (sanitise3 v .0) ≡ true) × (isFinite (sanitise3 v .1) ≡ true) × (isFinite (sanitise3 v .2) ≡ true)
 unfolding sanitise3
-sanitised-finite v = (finite-or-zero (v .0), finite-or-zero (v .1), finite-or-zero (v .2))
+sanitised-finite v = (is-true _ (or-zero-finite (v .0)), is-true _ (or-zero-finite (v .1)), is-true _ (or-zero-finite (v .2)))

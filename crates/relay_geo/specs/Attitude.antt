@@ -3,7 +3,7 @@ use mathlib.Core.Bool.{Bool, true, false, not, _||_, cond}
 use lib.Ieee.{Float, neg, le}
 use Rattle.relay_math.specs.declared.Vec3.{Vec3}
 use Rattle.relay_math.specs.declared.BodyRate.{BodyRate}
-use Rattle.relay_math.specs.F32.{f32, _⊕_, _⊖_, _⊗_, _⊘_, 0·0, 1·0, 2·0, isFinite}
+use Rattle.relay_math.specs.F32.{_⊕_, _⊖_, _⊗_, _⊘_, 0·0, 1e-3, 1·0, 2·0, isFinite}
 use Rattle.relay_math.specs.Steps.{sinf, cosf}
 use Rattle.relay_geo.specs.declared.vectors.Mat3.{Mat3}
 use Rattle.relay_geo.specs.declared.vectors.Quat.{Quat}
@@ -64,9 +64,6 @@ unfoldable pub thrustAttitude : Vec3 → Float → Attitude
 thrustAttitude a yaw = alongAxis (thrustAxisNed a) yaw
 
 -- ---- the feedforward
-
-abbrev pub 1e-3 : Float
-1e-3 = f32 0x3a83_126f
 
 abbrev pub tooWeak : Float → Bool
 tooWeak c = not (isFinite c) || le c 1e-3

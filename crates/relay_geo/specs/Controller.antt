@@ -3,7 +3,7 @@ use lib.Ieee.{Float, neg}
 use Rattle.relay_math.specs.declared.Vec3.{Vec3}
 use Rattle.relay_math.specs.declared.BodyRate.{BodyRate}
 use Rattle.relay_math.specs.declared.Torque.{Torque}
-use Rattle.relay_math.specs.F32.{f32, _⊕_, _⊖_, _⊗_, 0·0, 0·5, 2·0}
+use Rattle.relay_math.specs.F32.{f32, _⊕_, _⊖_, _⊗_, 0·0, 0·5, 2·0, 3·0}
 use Rattle.relay_geo.specs.declared.vectors.Mat3.{Mat3}
 use Rattle.relay_geo.specs.declared.vectors.Quat.{Quat}
 use Rattle.relay_geo.specs.declared.attitude.Attitude.{Attitude}
@@ -11,9 +11,6 @@ use Rattle.relay_geo.specs.declared.attitude.Attitude.the-variants.{Matr
 use Rattle.relay_geo.specs.declared.controller.GeoGains.{GeoGains}
 use Rattle.relay_geo.specs.Vectors.{cross, column0, column1, column2, prod3, transposedTimes, sanitise3}
 use Rattle.relay_geo.specs.Attitude.{quatToRotmat, thrustAttitude}
-
-abbrev pub 3·0 : Float
-3·0 = f32 0x4040_0000
 
 abbrev pub FALCON-QUAD : GeoGains
 FALCON-QUAD =

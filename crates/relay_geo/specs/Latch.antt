@@ -5,10 +5,7 @@ use mathlib.Core.Bool.{Bool, true, false, not, _&&_, _||_, cond}
 use mathlib.Core.List.{List, [], _∷_, _++_, List·Memᴰ}
 use lib.Ieee.{Float, nan, lt}
 use lib.ListN.{getD}
-use Rattle.relay_math.specs.F32.{isFinite}
-
-abbrev pub finiteAbove : Float → Float → Bool
-finiteAbove floor x = isFinite x && lt floor x
+use Rattle.relay_math.specs.F32.{isFinite, finiteAbove}
 
 -- the margin m gives control to the planner: it is finite and above exit
 abbrev pub releases : Float → Float → Bool

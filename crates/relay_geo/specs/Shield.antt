@@ -1,7 +1,7 @@
 -- The simplex shield (000). Definitions only.
 use mathlib.Core.Bool.{Bool, true, cond}
 use lib.Ieee.{Float}
-use Rattle.relay_math.specs.F32.{_⊗_, f32, 0·0, 2·0}
+use Rattle.relay_math.specs.F32.{_⊗_, 0·0, 0·1, 2·0, finiteAbove}
 use Rattle.relay_math.specs.declared.BodyRate.{BodyRate}
 use Rattle.relay_geo.specs.declared.set.RecoverableSet.{RecoverableSet}
 use Rattle.relay_geo.specs.declared.shield.Thresholds.{Thresholds}
@@ -9,10 +9,7 @@ use Rattle.relay_geo.specs.declared.shield.SimplexShield.{SimplexShield}
 use Rattle.relay_geo.specs.declared.shield.Shielded.{Shielded}
 use Rattle.relay_geo.specs.Vectors.{sanitise3}
 use Rattle.relay_geo.specs.Set.{margin}
-use Rattle.relay_geo.specs.Latch.{finiteAbove, latch}
-
-abbrev pub 0·1 : Float
-0·1 = f32 0x3dcc_cccd
+use Rattle.relay_geo.specs.Latch.{latch}
 
 abbrev pub mendEnter : Float → Float
 mendEnter enter = cond (finiteAbove 0·0 enter) enter 0·1

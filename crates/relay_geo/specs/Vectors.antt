@@ -1,9 +1,9 @@
 -- Vectors and 3x3 matrices, line by line as the Rust has them. Definitions only.
-use mathlib.Core.Bool.{Bool, true, false, _&&_, cond}
+use mathlib.Core.Bool.{Bool, true, false, cond}
 use lib.Dec.{T}
-use lib.Ieee.{Float, lt}
+use lib.Ieee.{Float}
 use Rattle.relay_math.specs.declared.Vec3.{Vec3}
-use Rattle.relay_math.specs.F32.{f32, _⊕_, _⊖_, _⊗_, _⊘_, 0·0, 0·5, 1·0, isFinite, finiteOr}
+use Rattle.relay_math.specs.F32.{f32, _⊕_, _⊖_, _⊗_, _⊘_, 0·0, 0·5, 1·0, isFinite, finiteOr, finiteAbove}
 use Rattle.relay_math.specs.Sqrt.{sqrtf}
 use Rattle.relay_geo.specs.declared.vectors.Mat3.{Mat3}
 use Rattle.relay_geo.specs.declared.vectors.Unit.{Unit}
@@ -29,7 +29,7 @@ norm a = sqrtf (dot a a)
 
 -- the norm is finite and above 1e-9
 abbrev pub long : Float → Bool
-long n = isFinite n && lt 1e-9 n
+long n = finiteAbove 1e-9 n
 
 -- a / n
 abbrev pub over : Vec3 → Float → Vec3

@@ -25,7 +25,6 @@ pub use shield::Shielded;
 pub use shield::SimplexShield;
 pub use shield::Thresholds;
 pub use shield::engages;
-pub use shield::finite_above;
 pub use shield::latch;
 pub use shield::mend;
 pub use shield::pick;

@@ -2,9 +2,10 @@
 use crate::set::RecoverableSet;
 use crate::vectors::sanitise3;
 use relay_math::BodyRate;
+use relay_math::finite_above;
 use relay_math::is_finite;
 ghost use mathlib.Core.Path.{_≡_};
-ghost use Rattle.relay_geo.specs.Latch.{finiteAbove, engages, latch};
+ghost use Rattle.relay_geo.specs.Latch.{engages, latch};
 ghost use Rattle.relay_geo.specs.Shield.{mendEnter, mendExit, mend, newShield, picked, step, filter};
 
 // Below `enter` the fallback takes over, above `exit` it hands back.
@@ -28,13 +29,6 @@ pub struct Shielded {
     pub shield: SimplexShield,
     pub command: BodyRate,
     pub fallback: bool,
-}
-
-// One test serves the set-up's rules and the release: neither takes a NaN, an infinity or the limit itself.
-pub fn finite_above(floor: f32, x: f32) -> bool
-    ensures { λ r. ⌜ r ≡ finiteAbove floor x ⌝ }
-{
-    if is_finite(x) { x > floor } else { false }
 }
 
 fn mend_enter(enter: f32) -> f32

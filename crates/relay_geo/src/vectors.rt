@@ -1,7 +1,7 @@
 // Vectors and 3x3 matrices.
 use relay_math::Vec3;
+use relay_math::finite_above;
 use relay_math::finite_or;
-use relay_math::is_finite;
 use relay_math::sqrtf;
 ghost use mathlib.Core.Path.{_≡_};
 ghost use Rattle.relay_geo.specs.Vectors.{cross, dot, norm, unitOf, normalize, identity3, transpose3, prod3, matmul3, transposedTimes, vee, sanitise3};
@@ -49,7 +49,7 @@ pub fn norm(a: Vec3) -> f32
 pub fn unit_of(a: Vec3, n: f32) -> Unit
     ensures { λ r. ⌜ r ≡ unitOf a n ⌝ }
 {
-    if is_finite(n) && n > 1e-9 {
+    if finite_above(1e-9, n) {
         Unit::Axis(Vec3(a.0 / n, a.1 / n, a.2 / n))
     } else {
         Unit::Refused

@@ -20,6 +20,10 @@ finite-or-finite x d h = go (isFinite x) refl
     go true e = held e
     go false e = h
 
+pub or-zero-finite : (x : Float) → T (isFinite (finiteOr x 0·0))
+unfolding isFinite ofBits
+or-zero-finite x = finite-or-finite x 0·0 tt
+
 pub sin-cos-far : (x : Float) → T (not (inRange x)) → (sinf x ≡ 0·0) × (cosf x ≡ 0·0)
 unfolding sinf cosf ofBits
 sin-cos-far x h = far-case x h

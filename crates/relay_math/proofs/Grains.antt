@@ -8,12 +8,14 @@ use mathlib.Core.Bool.{Bool, false, _&&_}
 use lib.IntN.{ℤ, pos, negsuc}
 use lib.Dec.{T, leb, ltb, eqb, lit<, leb→le, ltb→lt}
 use lib.Pow.{pow-add, pow-pos, pow-mono, pow-lt, shl-lt, shl-shr}
-use lib.Ieee.{Float, nan, inf, fin, binary32, up, down, fits, size, toBits}
+use lib.Ieee.{Float, nan, inf, fin, binary32, up, down, fits, size, ofBits, toBits}
 use lib.Ieee.Fits.{and-l, and-r, down-pos, kept-lt}
 use lib.Ieee.Digits.{back, size-lt, size-le, size-reaches}
+use lib.Ieee.Bits.{ofBits-toBits}
 use lib.Ieee.Exact.{HasValue}
 use Rattle.relay_math.specs.F32.{grains}
-use Rattle.relay_math.proofs.Tests.{of-value}
+use Rattle.relay_math.specs.Sqrt.{natural}
+use Rattle.relay_math.proofs.Tests.{of-natural, of-value}
 
 -- a value of G / 2 ^ 149 is G grains
 pub grains-of : (x : Float) (s : Bool) (G : ℕ) → HasValue x s G (2 ^ 149) → grains x ≡ G
@@ -116,3 +118,12 @@ reads m e f =
       bits = pattern-is m e n k refl refl;
       counted = refl;
     }
+
+-- ---- of as many grains there is one f32 that is not below zero: its bits are made of them
+pub same-grains : (x y : Float) → T (natural x) → T (natural y) → T (fits binary32 x) → T (fits binary32 y) → grains x ≡ grains y → x ≡ y
+same-grains x y p q f g h = sym (ofBits-toBits binary32 x f) ∙ ap (ofBits binary32) (bits x y p q h) ∙ ofBits-toBits binary32 y g
+  where
+    bits : (x y : Float) → T (natural x) → T (natural y) → grains x ≡ grains y → toBits binary32 x ≡ toBits binary32 y
+    bits x y p q =
+        of-natural (λ (x : Float). grains x ≡ grains y → toBits binary32 x ≡ toBits binary32 y)
+        (λ m d. of-natural (λ (y : Float). grains (fin false m d) ≡ grains y → toBits binary32 (fin false m d) ≡ toBits binary32 y) (λ n c e. unfold toBits grains in rw e) y q) x p

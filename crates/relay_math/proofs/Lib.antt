@@ -1,6 +1,8 @@
--- The proofs: tests and grains of floats, the root, sine and cosine, laws for callers. What a function owes stands in the folder of its name.
+-- The proofs: tests, order and grains of floats, the root, sine and cosine, laws for callers. What a function owes stands in the folder of its name.
 pub mod Tests
+pub mod Order
 pub mod Grains
+pub mod Sums
 pub mod RootNear
 pub mod Root
 pub mod Round

@@ -18,8 +18,8 @@ use lib.Ieee.Positive.{positive, first-pos}
 use Rattle.relay_math.specs.F32.{grains}
 use Rattle.relay_math.specs.Steps.{Zero}
 use Rattle.relay_math.specs.Sqrt.{natural, square, Nearest, IsRoot, nearestRoot, rootGrains, sqrtf}
-use Rattle.relay_math.proofs.Tests.{no, le-or-lt, of-natural, of-value, zero-is, size-pos, is-above, not-zero}
-use Rattle.relay_math.proofs.Grains.{shift, grains-of, grains-exact, size-of, writes, reads, Digits}
+use Rattle.relay_math.proofs.Tests.{no, le-or-lt, of-value, zero-is, size-pos, is-above, not-zero}
+use Rattle.relay_math.proofs.Grains.{same-grains, shift, grains-of, grains-exact, size-of, writes, reads, Digits}
 use Rattle.relay_math.proofs.RootNear.{Closest, closest, closest-unique, digits, near}
 
 -- ---- X grains as m * 2 ^ (e - 23), with an m of 24 digits
@@ -183,12 +183,7 @@ is-root (fin s zero e) f = refl
 is-root (fin true (suc m) e) f = refl
 is-root (fin false (suc m) e) f = let t = scaled m e f in root-near (grains (fin false (suc m) e)) (t .0) (t .1) (t .2) (fin false (suc m) e) refl
 
--- ---- and no other value is. The bits of a number that is not below zero are made of its grains.
-same-bits : (r t : Float) → T (natural r) → T (natural t) → grains r ≡ grains t → toBits binary32 r ≡ toBits binary32 t
-unfolding toBits grains
-same-bits r t p q =
-    of-natural (λ (r : Float). grains r ≡ grains t → toBits binary32 r ≡ toBits binary32 t)
-    (λ m d. of-natural (λ (t : Float). grains (fin false m d) ≡ grains t → toBits binary32 (fin false m d) ≡ toBits binary32 t) (λ n c e. rw e) t q) r p
+-- ---- and no other value is
 
 -- of two nearest values the smaller would have √x below the middle of both and above it
 apart : (x r t : Float) → Nearest x r → Nearest x t → grains r < grains t → ⊥
@@ -198,7 +193,7 @@ nearest-unique : (x r t : Float) → Nearest x r → Nearest x t → r ≡ t
 nearest-unique x r t a b =
     let i : grains t < suc (grains r) = lt-of-not-le (apart x r t a b) in
     let j : grains r < suc (grains t) = lt-of-not-le (apart x t r b a) in
-    sym (ofBits-toBits binary32 r (a .holds)) ∙ ap (ofBits binary32) (same-bits r t (a .number) (b .number) (omega arith)) ∙ ofBits-toBits binary32 t (b .holds)
+    same-grains r t (a .number) (b .number) (a .holds) (b .holds) (omega arith)
 
 pub unique : (x r t : Float) → IsRoot x r → IsRoot x t → r ≡ t
 unique nan r t a b = a ∙ sym b

@@ -1,7 +1,7 @@
 // Numbers (004): square root, sine, cosine, absolute value and finiteness of an f32, for every bit pattern.
 // Vectors, body rates and torques are declared here too, so that every crate above has one kind of each.
 ghost use mathlib.Core.Path.{_≡_};
-ghost use Rattle.relay_math.specs.F32.{isFinite, finiteOr, fabsf};
+ghost use Rattle.relay_math.specs.F32.{isFinite, finiteOr, finiteAbove, clamp, fabsf};
 
 mod angles; // angles.rt: sine and cosine
 mod reciprocal; // reciprocal.rt: a table for the root's first guess
@@ -48,4 +48,19 @@ pub fn finite_or(x: f32, d: f32) -> f32
     ensures { λ r. ⌜ r ≡ finiteOr x d ⌝ }
 {
     if is_finite(x) { x } else { d }
+}
+
+// One test for each rule that takes neither a NaN nor an infinity nor the limit itself.
+pub fn finite_above(floor: f32, x: f32) -> bool
+    ensures { λ r. ⌜ r ≡ finiteAbove floor x ⌝ }
+{
+    if is_finite(x) { x > floor } else { false }
+}
+
+// Rust's `x.clamp(lo, hi)`: two comparisons, one after the other, so a negative zero and a NaN pass. Rust panics where lo is above hi or one is a NaN; here the comparisons alone decide.
+pub fn clamp(x: f32, lo: f32, hi: f32) -> f32
+    ensures { λ r. ⌜ r ≡ clamp x lo hi ⌝ }
+{
+    let x = if x < lo { lo } else { x };
+    if x > hi { hi } else { x }
 }

@@ -1,17 +1,16 @@
 -- The governed time, tick by tick and over any run, for all bits. Assumes nothing.
 use mathlib.Core.Path.{_≡_, refl, sym, ap, _∙_, subst}
-use mathlib.Core.Bool.{Bool, true, false, not, _&&_, cond}
+use mathlib.Core.Bool.{Bool, true, false, not, cond}
 use mathlib.Core.List.{List, [], _∷_, _++_}
 use lib.Dec.{T}
 use lib.IntN.{pos}
-use lib.Ieee.{Float, nan, inf, fin, binary32, fits, add, lt, le, eq, isNan, ofBits}
-use lib.Ieee.Fits.{and-l, and-r, add-fits}
-use Rattle.relay_math.specs.F32.{_⊕_, _⊗_, 0·0, 1·0, isFinite}
+use lib.Ieee.{Float, nan, inf, fin, binary32, fits, add, le, eq, isNan, ofBits}
+use lib.Ieee.Fits.{add-fits}
+use Rattle.relay_math.specs.F32.{_⊕_, _⊗_, 0·0, 1·0, isFinite, finiteAbove, unsigned}
+use Rattle.relay_math.proofs.Order.{le-trans, le-refl-of, le-right, within-finite, finite-from}
+use Rattle.relay_math.proofs.Sums.{product-not-below, sum-grows, zero-times, zero-adds-nothing, zero-keeps-number}
 use Rattle.relay_traj.specs.declared.governor.RefGovernor.{RefGovernor}
-use Rattle.relay_traj.specs.Governor.{gate, movedBy, advance, Running, unsigned, Tick, run}
-use Rattle.relay_traj.proofs.Order.{le-trans, le-refl-of, le-of-lt, le-right, pick}
-use Rattle.relay_traj.proofs.Sums.{product-not-below, sum-grows}
-use Rattle.relay_traj.proofs.Zero.{zero-times, zero-adds-nothing, zero-keeps-number}
+use Rattle.relay_traj.specs.Governor.{gate, movedBy, advance, Running, Tick, run}
 use Rattle.relay_traj.proofs.Gate.{gate-in-unit}
 
 -- ---- what a tick adds
@@ -21,23 +20,14 @@ unfolding isFinite le ofBits
 zero-good = (tt, tt)
 
 moved-good : (dt : Float) → T (isFinite (movedBy dt)) × T (le 0·0 (movedBy dt))
-moved-good dt =
-    let a = isFinite dt in
-    let b = lt 0·0 dt in
-    pick (λ (d : Float). T (isFinite d) × T (le 0·0 d)) (a && b) dt 0·0 (λ (t : T (a && b)). (and-l a b t, le-of-lt 0·0 dt (and-r a b t))) (λ (t : T (not (a && b))). zero-good)
+moved-good dt = finite-from 0·0 dt 0·0 zero-good
 
-finite-up-to-one : (x : Float) → T (le 0·0 x) → T (le x 1·0) → T (isFinite x)
-unfolding isFinite le ofBits
-finite-up-to-one nan p q = p
-finite-up-to-one (inf true) p q = p
-finite-up-to-one (inf false) p q = q
-finite-up-to-one (fin s m e) p q = tt
+gate-finite : (g : RefGovernor) (err : Float) → T (isFinite (gate g err))
+unfolding isFinite ofBits
+gate-finite g err = within-finite 0·0 1·0 (gate g err) tt tt (gate-in-unit g err)
 
 step-not-below : (g : RefGovernor) (err dt : Float) → T (le 0·0 (gate g err ⊗ movedBy dt))
-step-not-below g err dt =
-    let u = gate-in-unit g err in
-    let d = moved-good dt in
-    product-not-below (gate g err) (movedBy dt) (finite-up-to-one (gate g err) (u .0) (u .1)) (d .0) (u .0) (d .1)
+step-not-below g err dt = product-not-below (gate g err) (movedBy dt) (gate-finite g err) (moved-good dt .0) (gate-in-unit g err .0) (moved-good dt .1)
 
 -- ---- one tick
 
@@ -45,19 +35,18 @@ pub never-nan : {s : Float} → Running s → T (not (isNan s))
 never-nan {s} r = le-right 0·0 s (r .from-zero)
 
 -- "A dt not finite and above 0 adds nothing": the Rust adds the gate times +0.0, so the time stays as it is to the bit, but for a -0.0, which may become +0.0
-no-dt : (g : RefGovernor) (err dt : Float) → (isFinite dt && lt 0·0 dt) ≡ false → (b : Bool) × (advance g err dt .time ≡ g .s ⊕ fin b 0 (pos 0))
+no-dt : (g : RefGovernor) (err dt : Float) → finiteAbove 0·0 dt ≡ false → (b : Bool) × (advance g err dt .time ≡ g .s ⊕ fin b 0 (pos 0))
 unfolding advance
 no-dt g err dt h =
-    let u = gate-in-unit g err in
-    let z = zero-times (gate g err) (finite-up-to-one (gate g err) (u .0) (u .1)) in
+    let z = zero-times (gate g err) (gate-finite g err) in
     (z .0, ap (λ (c : Bool). g .s ⊕ gate g err ⊗ cond c dt 0·0) h ∙ ap (λ (y : Float). g .s ⊕ y) (z .1))
 
-pub no-dt-adds-nothing : (g : RefGovernor) (err dt : Float) → (isFinite dt && lt 0·0 dt) ≡ false → T (fits binary32 (g .s)) → T (unsigned (g .s)) → advance g err dt .time ≡ g .s
+pub no-dt-adds-nothing : (g : RefGovernor) (err dt : Float) → finiteAbove 0·0 dt ≡ false → T (fits binary32 (g .s)) → T (unsigned (g .s)) → advance g err dt .time ≡ g .s
 no-dt-adds-nothing g err dt h f u =
     let n = no-dt g err dt h in
     n .1 ∙ zero-adds-nothing (g .s) (n .0) f u
 
-pub no-dt-keeps-number : (g : RefGovernor) (err dt : Float) → (isFinite dt && lt 0·0 dt) ≡ false → Running (g .s) → T (eq (g .s) (advance g err dt .time))
+pub no-dt-keeps-number : (g : RefGovernor) (err dt : Float) → finiteAbove 0·0 dt ≡ false → Running (g .s) → T (eq (g .s) (advance g err dt .time))
 no-dt-keeps-number g err dt h r =
     let n = no-dt g err dt h in
     subst (λ (t : Float). T (eq (g .s) t)) (sym (n .1)) (zero-keeps-number (g .s) (n .0) (r .holds) (r .from-zero))

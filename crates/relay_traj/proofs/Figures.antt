@@ -1,9 +1,9 @@
 -- Document 01's worked figures of trajectory and governor, worked out from the definitions. Assumes nothing.
 use mathlib.Core.Path.{_≡_, refl}
 use lib.Ieee.{Float, nan, ofBits, add, sub, mul, div, neg, lt, le, eq}
-use Rattle.relay_math.specs.F32.{f32, 0·0, 0·5, 1·0, 2·0, isFinite, fabsf}
+use Rattle.relay_math.specs.F32.{f32, 0·0, 0·5, 1·0, 2·0, 3·0, isFinite, fabsf}
 use Rattle.relay_traj.specs.declared.quintic.Quintic.{Quintic}
-use Rattle.relay_traj.specs.Quintic.{3·0, quintic, eval, peakAbsJerk}
+use Rattle.relay_traj.specs.Quintic.{quintic, eval, peakAbsJerk}
 use Rattle.relay_traj.specs.Governor.{gateFactor}
 
 -- with 1, 3, 0.25

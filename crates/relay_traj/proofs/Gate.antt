@@ -3,43 +3,39 @@ use mathlib.Core.Path.{_≡_, refl, subst}
 use mathlib.Core.Bool.{Bool, true, false, not, _&&_, _||_, cond}
 use lib.Dec.{T}
 use lib.Ieee.{Float, lt, le, isNan, ofBits}
-use lib.Ieee.Fits.{and-i, and-l, and-r}
-use Rattle.relay_math.specs.F32.{0·0, 1·0, isFinite, finiteOr}
+use lib.Ieee.Bits.{is-true}
+use Rattle.relay_math.specs.F32.{0·0, 1·0, isFinite, Within}
+use Rattle.relay_math.proofs.Tests.{held}
+use Rattle.relay_math.proofs.Order.{le-trans, le-left, finite-number, low-within, high-within, between}
 use Rattle.relay_traj.specs.declared.governor.RefGovernor.{RefGovernor}
-use Rattle.relay_traj.specs.Governor.{lowEnd, clampTo, ramp, noBand, gateFactor, gate, Within, putIn}
-use Rattle.relay_traj.proofs.Order.{le-trans, le-refl-of, le-of-not-lt, le-left, finite-number, pick}
+use Rattle.relay_traj.specs.Governor.{lowEnd, clampTo, ramp, noBand, gateFactor, gate, putIn}
 
 -- ---- `clamp_to`
 
-zero-in : Within 0·0 0·0
+zero-to-one : T (le 0·0 1·0)
 unfolding le ofBits
-zero-in = (tt, tt)
+zero-to-one = tt
 
-one-in : T (le 1·0 1·0)
-unfolding le ofBits
-one-in = tt
+low-end-in : (lo : Float) → Within 0·0 1·0 (lowEnd lo)
+low-end-in lo = go (le 0·0 lo) (le lo 1·0) refl refl
+  where
+    go : (a b : Bool) → le 0·0 lo ≡ a → le lo 1·0 ≡ b → Within 0·0 1·0 (cond (a && b) lo 0·0)
+    go true true p q = (held p, held q)
+    go true false p q = low-within 0·0 1·0 zero-to-one
+    go false b p q = low-within 0·0 1·0 zero-to-one
 
-low-end-in : (lo : Float) → Within 0·0 (lowEnd lo)
-low-end-in lo =
-    let a = le 0·0 lo in
-    let b = le lo 1·0 in
-    pick (Within 0·0) (a && b) lo 0·0 (λ (t : T (a && b)). (and-l a b t, and-r a b t)) (λ (t : T (not (a && b))). zero-in)
-
-neither : (a b : Bool) → T (not (not a || b)) → T a × T (not b)
-neither true false t = (tt, tt)
-
-pub clamp-to-within : (x lo : Float) → Within (lowEnd lo) (clampTo x lo)
+pub clamp-to-within : (x lo : Float) → Within (lowEnd lo) 1·0 (clampTo x lo)
 unfolding clampTo
-clamp-to-within x lo =
-    let l = lowEnd lo in
-    let low = low-end-in lo .1 in
-    let at-low : Within l l = (le-refl-of l (le-left l 1·0 low), low) in
-    pick (Within l) (not (isFinite x) || lt x l) l (cond (lt 1·0 x) 1·0 x) (λ (t : T (not (isFinite x) || lt x l)). at-low)
-    (λ (t : T (not (not (isFinite x) || lt x l))).
-    let n = neither (isFinite x) (lt x l) t in
-    let number = finite-number x (n .0) in
-    pick (Within l) (lt 1·0 x) 1·0 x (λ (s : T (lt 1·0 x)). (low, one-in))
-    (λ (s : T (not (lt 1·0 x))). (le-of-not-lt x l number (le-left l 1·0 low) (n .1), le-of-not-lt 1·0 x (le-left 1·0 1·0 one-in) number s)))
+clamp-to-within x lo = at (lowEnd lo) (low-end-in lo .1)
+  where
+    at : (l : Float) → T (le l 1·0) → Within l 1·0 (cond (not (isFinite x) || lt x l) l (cond (lt 1·0 x) 1·0 x))
+    at l h = go (isFinite x) (lt x l) (lt 1·0 x) refl refl refl
+      where
+        go : (f a b : Bool) → isFinite x ≡ f → lt x l ≡ a → lt 1·0 x ≡ b → Within l 1·0 (cond (not f || a) l (cond b 1·0 x))
+        go false a b p q r = low-within l 1·0 h
+        go true true b p q r = low-within l 1·0 h
+        go true false true p q r = high-within l 1·0 h
+        go true false false p q r = between l 1·0 h x (finite-number x (held p)) q r
 
 -- ---- the gate
 
@@ -51,31 +47,27 @@ floor-is g = by-cases (isFinite g)
     by-cases true = refl
     by-cases false = refl
 
-kept : (b : Bool) (x y : Float) → T b → cond b x y ≡ x
-kept true x y t = refl
+low-end-kept : (lo : Float) → Within 0·0 1·0 lo → lowEnd lo ≡ lo
+low-end-kept lo h = rw (is-true (le 0·0 lo) (h .0), is-true (le lo 1·0) (h .1))
 
-low-end-kept : (lo : Float) → Within 0·0 lo → lowEnd lo ≡ lo
-low-end-kept lo h = kept (le 0·0 lo && le lo 1·0) lo 0·0 (and-i (le 0·0 lo) (le lo 1·0) (h .0) (h .1))
-
-floor-in : (gMin : Float) → Within 0·0 (clampTo gMin 0·0)
-floor-in gMin = subst (λ (l : Float). Within l (clampTo gMin 0·0)) (low-end-kept 0·0 zero-in) (clamp-to-within gMin 0·0)
+floor-in : (gMin : Float) → Within 0·0 1·0 (clampTo gMin 0·0)
+floor-in gMin = subst (λ (l : Float). Within l 1·0 (clampTo gMin 0·0)) (low-end-kept 0·0 (low-within 0·0 1·0 zero-to-one)) (clamp-to-within gMin 0·0)
 
 -- "for all bits the gate is at least g_min put into 0..1 (a non-finite one, +infinity too, counts as 0) and at most 1"
-pub gate-bounds : (err lo hi gMin : Float) → Within (putIn gMin) (gateFactor err lo hi gMin)
+pub gate-bounds : (err lo hi gMin : Float) → Within (putIn gMin) 1·0 (gateFactor err lo hi gMin)
 unfolding gateFactor
-gate-bounds err lo hi gMin =
-    let g = clampTo gMin 0·0 in
-    let in-unit = floor-in gMin in
-    subst (λ (l : Float). Within l (gateFactor err lo hi gMin)) (floor-is gMin)
-    (pick (Within g) (noBand err lo hi) g (clampTo (ramp err lo hi g) g) (λ (t : T (noBand err lo hi)). (le-refl-of g (le-left g 1·0 (in-unit .1)), in-unit .1))
-    (λ (t : T (not (noBand err lo hi))). subst (λ (l : Float). Within l (clampTo (ramp err lo hi g) g)) (low-end-kept g in-unit) (clamp-to-within (ramp err lo hi g) g)))
+gate-bounds err lo hi gMin = subst (λ (l : Float). Within l 1·0 (gateFactor err lo hi gMin)) (floor-is gMin) (at (clampTo gMin 0·0) (floor-in gMin) (noBand err lo hi))
+  where
+    at : (g : Float) → Within 0·0 1·0 g → (b : Bool) → Within g 1·0 (cond b g (clampTo (ramp err lo hi g) g))
+    at g h true = low-within g 1·0 (h .1)
+    at g h false = subst (λ (l : Float). Within l 1·0 (clampTo (ramp err lo hi g) g)) (low-end-kept g h) (clamp-to-within (ramp err lo hi g) g)
 
 -- what is put into 0..1 lies there
-pub put-in-unit : (g : Float) → Within 0·0 (putIn g)
-put-in-unit g = subst (Within 0·0) (floor-is g) (floor-in g)
+pub put-in-unit : (g : Float) → Within 0·0 1·0 (putIn g)
+put-in-unit g = subst (Within 0·0 1·0) (floor-is g) (floor-in g)
 
 -- so the gate lies from 0 to 1, and is never a NaN
-pub gate-in-unit : (g : RefGovernor) (err : Float) → Within 0·0 (gate g err)
+pub gate-in-unit : (g : RefGovernor) (err : Float) → Within 0·0 1·0 (gate g err)
 unfolding gate
 gate-in-unit g err =
     let b = gate-bounds err (g .«err_lo») (g .«err_hi») (g .«g_min») in

@@ -1,19 +1,15 @@
 -- A leg's duration, times that are not finite, and the peak, for all bits. Assumes nothing.
 use mathlib.Core.Path.{_≡_, refl, sym, ap, _∙_, subst}
-use mathlib.Core.Bool.{Bool, true, false, not, _&&_, cond}
-use Prim.Native.Nat.{_+_, _*_}
-use native.Mathlib.Omega.{arith}
-use borrow.Author.Tests.{le-ltb}
+use mathlib.Core.Bool.{Bool, true, false, not, cond}
 use lib.Dec.{T}
-use lib.Ieee.{Float, nan, inf, fin, up, down, lt, le, isNan, ofBits}
-use lib.Ieee.Fits.{and-l, and-r}
-use Rattle.relay_math.specs.F32.{_⊕_, _⊗_, 0·0, isFinite, fabsf}
+use lib.Ieee.{Float, lt, le, isNan, ofBits}
+use Rattle.relay_math.specs.F32.{0·0, 1e-3, ∞, isFinite, clamp}
 use Rattle.relay_math.specs.declared.Vec3.{Vec3}
+use Rattle.relay_math.proofs.Tests.{held}
+use Rattle.relay_math.proofs.Order.{finite-number, le-trans, not-lt-of-le, finite-from}
 use Rattle.relay_traj.specs.declared.quintic.Quintic.{Quintic}
-use Rattle.relay_traj.specs.Quintic.{1e-3, ∞, mendedDuration, Lasts, mend, ofMended, quintic, clamp, timeOn, sampleAt, eval, jerkCoeffs, peakAbsJerk}
+use Rattle.relay_traj.specs.Quintic.{mendedDuration, Lasts, mend, ofMended, quintic, timeOn, sampleAt, eval, peakAbsJerk}
 use Rattle.relay_traj.specs.Segment.{segment, duration}
-use Rattle.relay_traj.proofs.Order.{le-trans, le-of-lt, finite-number, nothing-of, pick}
-use Rattle.relay_traj.proofs.Sums.{not-below}
 
 -- ---- the duration
 
@@ -23,10 +19,7 @@ shortest-lasts = (tt, tt)
 
 -- "a duration that is not finite and above 1e-3 becomes 1e-3": so it is finite, and 1e-3 at least
 pub mended-lasts : (t : Float) → Lasts (mendedDuration t)
-mended-lasts t =
-    let a = isFinite t in
-    let b = lt 1e-3 t in
-    pick Lasts (a && b) t 1e-3 (λ (h : T (a && b)). (and-l a b h, le-of-lt 1e-3 t (and-r a b h))) (λ (h : T (not (a && b))). shortest-lasts)
+mended-lasts t = finite-from 1e-3 t 1e-3 shortest-lasts
 
 -- the duration of a new quintic is the mended one
 pub new-lasts-as-mended : (p0 v0 a0 pf vf af t : Float) → quintic p0 v0 a0 pf vf af t .«t_end» ≡ mendedDuration t
@@ -52,16 +45,6 @@ zero-or-later : T (le 0·0 1e-3)
 unfolding le ofBits
 zero-or-later = tt
 
-not-before : (x : Float) → T (le 0·0 x) → lt x 0·0 ≡ false
-unfolding le ofBits
-not-before nan h = refl
-not-before (inf true) h = absurd h
-not-before (inf false) h = refl
-not-before (fin true m e) h =
-    let z : m * up e ≡ 0 = nothing-of (up e) (not-below m e h) in
-    le-ltb 0 (m * up e * 1 + 0 * down e) (omega arith)
-not-before (fin false m e) h = le-ltb (m * up e * 1) (0 * down e) (omega arith)
-
 kept-zero : (end : Float) → lt end 0·0 ≡ false → timeOn 0·0 end ≡ 0·0
 unfolding timeOn isFinite lt ofBits
 kept-zero end e = ap (λ (b : Bool). cond b end 0·0) e
@@ -75,22 +58,18 @@ pub eval-of-nonfinite : (q : Quintic) (t : Float) → isFinite t ≡ false → L
 unfolding eval
 eval-of-nonfinite q t h l =
     let end = q .«t_end» in
-    nonfinite-at-start q t h ∙ sym (ap (sampleAt q) (kept-zero end (not-before end (le-trans 0·0 1e-3 end zero-or-later (l .1)))))
+    nonfinite-at-start q t h ∙ sym (ap (sampleAt q) (kept-zero end (not-lt-of-le end 0·0 (le-trans 0·0 1e-3 end zero-or-later (l .1)))))
 
 pub new-eval-of-nonfinite : (p0 v0 a0 pf vf af t u : Float) → isFinite u ≡ false → eval (quintic p0 v0 a0 pf vf af t) u ≡ eval (quintic p0 v0 a0 pf vf af t) 0·0
 new-eval-of-nonfinite p0 v0 a0 pf vf af t u h = eval-of-nonfinite (quintic p0 v0 a0 pf vf af t) u h (new-lasts p0 v0 a0 pf vf af t)
 
 -- ---- the peak
 
-infinity-number : T (not (isNan ∞))
-unfolding isNan ofBits
-infinity-number = tt
-
 -- whatever the coefficients are
 pub peak-never-nan : (q : Quintic) → T (not (isNan (peakAbsJerk q)))
-unfolding peakAbsJerk
-peak-never-nan q =
-    let k = jerkCoeffs q in
-    let t = q .«t_end» in
-    let bound = fabsf (k .jc2) ⊗ t ⊗ t ⊕ fabsf (k .jc1) ⊗ t ⊕ fabsf (k .jc0) in
-    pick (λ (x : Float). T (not (isNan x))) (isFinite bound) bound ∞ (λ (h : T (isFinite bound)). finite-number bound h) (λ (h : T (not (isFinite bound))). infinity-number)
+unfolding peakAbsJerk isNan ofBits
+peak-never-nan q = go _ _ refl
+  where
+    go : (bound : Float) (b : Bool) → isFinite bound ≡ b → T (not (isNan (cond b bound ∞)))
+    go bound true e = finite-number bound (held e)
+    go bound false e = tt

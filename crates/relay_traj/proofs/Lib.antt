@@ -1,6 +1,3 @@
-pub mod Order
-pub mod Sums
-pub mod Zero
 pub mod Gate
 pub mod Clock
 pub mod Leg

@@ -1,9 +1,9 @@
 -- The reference governor, as 001 has it. Definitions only.
-use mathlib.Core.Bool.{Bool, false, not, _&&_, _||_, cond}
+use mathlib.Core.Bool.{Bool, not, _&&_, _||_, cond}
 use mathlib.Core.List.{List, [], _∷_}
 use lib.Dec.{T}
-use lib.Ieee.{Float, nan, inf, fin, binary32, fits, lt, le}
-use Rattle.relay_math.specs.F32.{_⊕_, _⊖_, _⊗_, _⊘_, 0·0, 1·0, isFinite, finiteOr}
+use lib.Ieee.{Float, binary32, fits, lt, le}
+use Rattle.relay_math.specs.F32.{_⊕_, _⊖_, _⊗_, _⊘_, 0·0, 1·0, isFinite, finiteOr, finiteAbove}
 use Rattle.relay_traj.specs.declared.governor.RefGovernor.{RefGovernor}
 use Rattle.relay_traj.specs.declared.governor.Advanced.{Advanced}
 
@@ -43,7 +43,7 @@ unfolding gateFactor
 gate g err = gateFactor err (g .«err_lo») (g .«err_hi») (g .«g_min»)
 
 abbrev pub movedBy : Float → Float
-movedBy dt = cond (isFinite dt && lt 0·0 dt) dt 0·0
+movedBy dt = cond (finiteAbove 0·0 dt) dt 0·0
 
 -- the same governor at another time
 abbrev pub atTime : RefGovernor → Float → RefGovernor
@@ -60,10 +60,6 @@ reset g = atTime g 0·0
 
 -- ---- what the theorems in proofs/Gate.antt and proofs/Clock.antt speak of
 
--- x lies from lo to 1
-abbrev pub Within : Float → Float → Type 0
-Within lo x = T (le lo x) × T (le x 1·0)
-
 -- g_min put into 0..1, a non-finite one counting as 0
 unfoldable pub putIn : Float → Float
 putIn g =
@@ -74,12 +70,6 @@ putIn g =
 pub record Running (s : Float) : Type 0 where
   pub holds : T (fits binary32 s)
   pub from-zero : T (le 0·0 s)
-
--- +0.0 and what lies above it; -0.0 is out
-abbrev pub unsigned : Float → Bool
-unsigned nan = false
-unsigned (inf s) = not s
-unsigned (fin s m e) = not s
 
 -- ticks one after another, each with a tracking error and a dt
 pub record Tick : Type 0 where

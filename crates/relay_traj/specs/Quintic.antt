@@ -1,18 +1,12 @@
 -- One axis of a trajectory, as 001 has it. Definitions only.
-use mathlib.Core.Bool.{_&&_, cond}
+use mathlib.Core.Bool.{cond}
 use lib.Dec.{T}
-use lib.Ieee.{Float, lt, le, neg}
-use Rattle.relay_math.specs.F32.{_⊕_, _⊖_, _⊗_, _⊘_, f32, 0·0, 0·5, 1·0, 2·0, isFinite, finiteOr, fabsf}
+use lib.Ieee.{Float, le, neg}
+use Rattle.relay_math.specs.F32.{_⊕_, _⊖_, _⊗_, _⊘_, f32, 0·0, 1e-3, 0·5, 1·0, 2·0, 3·0, ∞, isFinite, finiteOr, finiteAbove, clamp, fabsf}
 use Rattle.relay_traj.specs.declared.quintic.Quintic.{Quintic}
 use Rattle.relay_traj.specs.declared.quintic.Sample.{Sample}
 use Rattle.relay_traj.specs.declared.quintic.Mended.{Mended}
 use Rattle.relay_traj.specs.declared.quintic.JerkCoeffs.{JerkCoeffs}
-
-abbrev pub 1e-3 : Float
-1e-3 = f32 0x3a83126f
-
-abbrev pub 3·0 : Float
-3·0 = f32 0x40400000
 
 abbrev pub 4·0 : Float
 4·0 = f32 0x40800000
@@ -47,13 +41,10 @@ abbrev pub 360·0 : Float
 abbrev pub 720·0 : Float
 720·0 = f32 0x44340000
 
-abbrev pub ∞ : Float
-∞ = f32 0x7f800000
-
 -- ---- the mending of a leg's numbers on one axis
 
 abbrev pub mendedDuration : Float → Float
-mendedDuration t = cond (isFinite t && lt 1e-3 t) t 1e-3
+mendedDuration t = cond (finiteAbove 1e-3 t) t 1e-3
 
 -- a duration as every leg has it: finite, and 1e-3 at least
 abbrev pub Lasts : Float → Type 0
@@ -90,12 +81,6 @@ unfolding mend ofMended
 quintic p0 v0 a0 pf vf af t = ofMended (mend p0 v0 a0 pf vf af t)
 
 -- ---- Quintic::eval
-
--- two comparisons, one after the other
-abbrev pub clamp : Float → Float → Float → Float
-clamp x lo hi =
-    let y = cond (lt x lo) lo x in
-    cond (lt hi y) hi y
 
 unfoldable pub timeOn : Float → Float → Float
 timeOn t end = cond (isFinite t) (clamp t 0·0 end) 0·0

@@ -59,9 +59,7 @@ pub fn no_band(err: f32, lo: f32, hi: f32) -> bool
     ensures { λ r. ⌜ r ≡ noBand err lo hi ⌝ }
 {
     !relay_math::is_finite(err)
-        || !relay_math::is_finite(lo)
-        || !relay_math::is_finite(hi)
-        || hi <= lo
+        || (!relay_math::is_finite(lo) || (!relay_math::is_finite(hi) || hi <= lo))
 }
 
 // With no band the gate is g_min: the clock slows down.
@@ -81,7 +79,7 @@ pub fn gate_factor(err: f32, lo: f32, hi: f32, g_min: f32) -> f32
 pub fn moved_by(dt: f32) -> f32
     ensures { λ r. ⌜ r ≡ movedBy dt ⌝ }
 {
-    if relay_math::is_finite(dt) && dt > 0.0 {
+    if relay_math::finite_above(0.0, dt) {
         dt
     } else {
         0.0

@@ -16,7 +16,6 @@ pub use quintic::JerkCoeffs;
 pub use quintic::Mended;
 pub use quintic::Quintic;
 pub use quintic::Sample;
-pub use quintic::clamp;
 pub use quintic::fin;
 pub use quintic::mend;
 pub use quintic::mended_duration;

@@ -1,7 +1,7 @@
 // One axis of a trajectory: the quintic of least jerk between two states, and what it asks at a time (001).
 ghost use mathlib.Core.Path.{_≡_};
 ghost use Rattle.relay_math.specs.F32.{finiteOr};
-ghost use Rattle.relay_traj.specs.Quintic.{mendedDuration, mend, ofMended, quintic, clamp, timeOn, eval, jerkCoeffs, peakAbsJerk};
+ghost use Rattle.relay_traj.specs.Quintic.{mendedDuration, mend, ofMended, quintic, timeOn, eval, jerkCoeffs, peakAbsJerk};
 
 // A duration that is not finite and above this, in seconds, becomes this.
 const SHORTEST: f32 = 1e-3;
@@ -53,18 +53,10 @@ pub fn fin(x: f32, fallback: f32) -> f32
     relay_math::finite_or(x, fallback)
 }
 
-// Rust's `x.clamp(lo, hi)`: two comparisons, one after the other, so a negative zero passes. Rust panics where lo is above hi or one is a NaN; here the comparisons alone decide.
-pub fn clamp(x: f32, lo: f32, hi: f32) -> f32
-    ensures { λ r. ⌜ r ≡ clamp x lo hi ⌝ }
-{
-    let x = if x < lo { lo } else { x };
-    if x > hi { hi } else { x }
-}
-
 pub fn mended_duration(t: f32) -> f32
     ensures { λ r. ⌜ r ≡ mendedDuration t ⌝ }
 {
-    if relay_math::is_finite(t) && t > SHORTEST {
+    if relay_math::finite_above(SHORTEST, t) {
         t
     } else {
         SHORTEST
@@ -98,7 +90,7 @@ pub fn time_on(t: f32, t_end: f32) -> f32
     ensures { λ r. ⌜ r ≡ timeOn t «t_end» ⌝ }
 {
     if relay_math::is_finite(t) {
-        clamp(t, 0.0, t_end)
+        relay_math::clamp(t, 0.0, t_end)
     } else {
         0.0
     }

@@ -1,30 +1,22 @@
 -- `relay_math::is_finite`: x - x is +0 for a finite x, and a NaN for any other. Assumes nothing.
 use mathlib.Core.Path.{_≡_, refl}
 use mathlib.Core.Bool.{true, false}
-use Prim.Native.Nat.{ℕ, _*_, _<_}
-use native.Mathlib.Nat.{sub-self, le-refl, mul-pos}
-use native.Mathlib.Omega.{arith}
+use Prim.Native.Nat.{_*_}
+use native.Mathlib.Nat.{sub-self, le-refl}
 use borrow.Author.Tests.{le-ltb}
-use lib.IntN.{pos}
-use lib.Dec.{lit<}
-use lib.Ieee.{Float, nan, inf, fin, binary32, sub, eq, ofBits, round, up, down}
-use lib.Ieee.Fits.{down-pos}
-use lib.Ieee.Scale.{round-same}
+use lib.Ieee.{Float, nan, inf, fin, binary32, sub, eq, ofBits, up, down}
 use Rattle.relay_math.specs.F32.{isFinite}
+use Rattle.relay_math.proofs.Sums.{round-zero}
 use Rattle.relay_math.proofs.is_finite.Statement.{statement}
 use Rattle.relay_math.proofs.is_finite.Tie as tie
-
-nothing : (c : ℕ) → 0 < c → round binary32 false 0 c ≡ fin false 0 (pos 0)
-unfolding round
-nothing c h = round-same binary32 false 0 c 0 1 h (lit< tt) (omega arith)
 
 test : (x : Float) → eq (sub binary32 x x) (ofBits binary32 0) ≡ isFinite x
 unfolding sub eq ofBits isFinite
 test nan = refl
 test (inf true) = refl
 test (inf false) = refl
-test (fin true m e) = rw (le-ltb (m * up e * down e) (m * up e * down e) (le-refl _), sub-self (m * up e * down e), nothing _ (mul-pos (down-pos e) (down-pos e)))
-test (fin false m e) = rw (le-ltb (m * up e * down e) (m * up e * down e) (le-refl _), sub-self (m * up e * down e), nothing _ (mul-pos (down-pos e) (down-pos e)))
+test (fin true m e) = rw (le-ltb (m * up e * down e) (m * up e * down e) (le-refl _), sub-self (m * up e * down e), round-zero false (down e * down e))
+test (fin false m e) = rw (le-ltb (m * up e * down e) (m * up e * down e) (le-refl _), sub-self (m * up e * down e), round-zero false (down e * down e))
 
 pub is-finite-spec : {M : Type 1} → statement M
 is-finite-spec = tie.close (tie.spec (λ c. test (c .args .x)))

@@ -19,9 +19,7 @@ tested c =
 pub clamp-to-spec : {M : Type 1} → statement M
 unfolding clampTo
 clamp-to-spec =
-    tie.close (tie.spec
-    (λ c κs. search needs)
-    (λ c κs. search needs)
+    tie.close (tie.spec (λ c κs. search needs) (λ c κs. search needs)
     (λ c. simp (← c .before .before .before .low-end .ensures, ← tested (c .before), c .if2 .taken))
     (λ c. simp (← c .before .before .before .before .low-end .ensures, ← tested (c .before .before), c .before .if2 .left, c .if3 .taken))
     (λ c. simp (← c .before .before .before .before .low-end .ensures, ← tested (c .before .before), c .before .if2 .left, c .if3 .left)))

@@ -6,8 +6,6 @@ use Rattle.relay_traj.proofs.quintic.time_on.Tie as tie
 pub time-on-spec : {M : Type 1} → statement M
 unfolding timeOn
 time-on-spec =
-    tie.close (tie.spec
-    (λ c κs. search needs)
-    (λ c κs. search needs)
+    tie.close (tie.spec (λ c κs. search needs) (λ c κs. search needs)
     (λ c. simp (c .clamp .ensures, ← c .before .before .is-finite .ensures, c .before .if1 .taken))
     (λ c. simp (← c .before .is-finite .ensures, c .if1 .left)))

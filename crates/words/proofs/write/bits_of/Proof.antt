@@ -1,18 +1,16 @@
 -- `x != x` is true of `nan` alone, whose bits `toBits` gives as 0x7fc0_0000; elsewhere `to_bits` is defined. Assumes nothing.
 use borrow.Author.Needs.{needs}
 use mathlib.Core.Path.{_≡_, sym, subst, _∙_}
-use mathlib.Core.Bool.{Bool, true, false, not}
+use mathlib.Core.Bool.{true, false, not}
 use lib.Dec.{T}
-use lib.Ieee.{Float, nan, inf, fin, binary32, isNan, toBits, ne}
-use lib.Ieee.Compare.{differs-from-itself, nan-differs}
+use lib.Ieee.{Float, binary32, isNan, toBits, ne}
+use lib.Ieee.Compare.{differs-from-itself}
+use Rattle.relay_math.proofs.Order.{differs-as-nan}
 use Rattle.words.proofs.write.bits_of.Statement.{statement}
 use Rattle.words.proofs.write.bits_of.Tie as tie
 
 not-nan : (x : Float) → ne x x ≡ false → T (not (isNan x))
-unfolding isNan
-not-nan nan e = subst (λ (b : Bool). T b) (sym nan-differs ∙ e) tt
-not-nan (inf s) e = tt
-not-nan (fin s m x) e = tt
+not-nan x e = rw (sym (differs-as-nan x) ∙ e) tt
 
 nan-bits : (x : Float) → ne x x ≡ true → 0x7fc00000 ≡ toBits binary32 x
 unfolding toBits
@@ -20,8 +18,7 @@ nan-bits x e = rw (differs-from-itself x (subst T (sym e) tt))
 
 pub bits-of-spec : {M : Type 1} → statement M
 bits-of-spec =
-    tie.close
-    (tie.spec
+    tie.close (tie.spec
     (λ c. not-nan (c .before .args .x) (c .if1 .left))
     (λ c. nan-bits (c .before .args .x) (c .if1 .taken))
     (λ c. search needs))

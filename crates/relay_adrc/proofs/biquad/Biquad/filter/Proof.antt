@@ -3,9 +3,8 @@ use Rattle.relay_adrc.specs.Biquad.{biquadFilter}
 use Rattle.relay_adrc.proofs.biquad.Biquad.filter.Statement.{statement}
 use Rattle.relay_adrc.proofs.biquad.Biquad.filter.Tie as tie
 
-returns : tie.Need-returns
-unfolding biquadFilter
-returns c = simp (c .finite-or2 .ensures, c .before .before .before .before .before .before .finite-or .ensures)
-
 pub filter-spec : {M : Type 1} → statement M
-filter-spec = tie.close (tie.spec (λ c κs. search needs) (λ c κs. search needs) returns)
+unfolding biquadFilter
+filter-spec =
+    tie.close (tie.spec (λ c κs. search needs) (λ c κs. search needs)
+    (λ c. simp (c .finite-or2 .ensures, c .before .before .before .before .before .before .finite-or .ensures)))

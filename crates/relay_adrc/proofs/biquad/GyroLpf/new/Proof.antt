@@ -3,9 +3,8 @@ use Rattle.relay_adrc.specs.Biquad.{gyroNew}
 use Rattle.relay_adrc.proofs.biquad.GyroLpf.new.Statement.{statement}
 use Rattle.relay_adrc.proofs.biquad.GyroLpf.new.Tie as tie
 
-returns : tie.Need-returns
-unfolding gyroNew
-returns c = simp (c .lowpass .ensures)
-
 pub new-spec : {M : Type 1} → statement M
-new-spec = tie.close (tie.spec (λ c κs. search needs) returns)
+unfolding gyroNew
+new-spec =
+    tie.close (tie.spec (λ c κs. search needs)
+    (λ c. simp (c .lowpass .ensures)))

@@ -3,9 +3,8 @@ use Rattle.relay_adrc.specs.Filter.{filterStep}
 use Rattle.relay_adrc.proofs.filter.CommandFilter.step.Statement.{statement}
 use Rattle.relay_adrc.proofs.filter.CommandFilter.step.Tie as tie
 
-returns : tie.Need-returns
-unfolding filterStep
-returns c = simp (c .clamp-sym2 .ensures, c .before .clamp-sym .ensures, c .before .before .finite-or3 .ensures, c .before .before .before .finite-or2 .ensures, c .before .before .before .before .finite-or .ensures, c .before .before .before .before .before .mend-dt .ensures)
-
 pub step-spec : {M : Type 1} → statement M
-step-spec = tie.close (tie.spec (λ c κs. search needs) (λ c κs. search needs) (λ c κs. search needs) (λ c κs. search needs) (λ c κs. search needs) (λ c κs. search needs) returns)
+unfolding filterStep
+step-spec =
+    tie.close (tie.spec (λ c κs. search needs) (λ c κs. search needs) (λ c κs. search needs) (λ c κs. search needs) (λ c κs. search needs) (λ c κs. search needs)
+    (λ c. simp (c .clamp-sym2 .ensures, c .before .clamp-sym .ensures, c .before .before .finite-or3 .ensures, c .before .before .before .finite-or2 .ensures, c .before .before .before .before .finite-or .ensures, c .before .before .before .before .before .mend-dt .ensures)))

@@ -2,8 +2,7 @@ use borrow.Author.Needs.{needs}
 use Rattle.relay_adrc.proofs.filter.CommandFilter3.new.Statement.{statement}
 use Rattle.relay_adrc.proofs.filter.CommandFilter3.new.Tie as tie
 
-returns : tie.Need-returns
-returns c = simp (c .new .ensures)
-
 pub new-spec : {M : Type 1} → statement M
-new-spec = tie.close (tie.spec (λ c κs. search needs) returns)
+new-spec =
+    tie.close (tie.spec (λ c κs. search needs)
+    (λ c. simp (c .new .ensures)))

@@ -3,9 +3,8 @@ use Rattle.relay_adrc.specs.Filter.{filter3Step}
 use Rattle.relay_adrc.proofs.filter.CommandFilter3.step.Statement.{statement}
 use Rattle.relay_adrc.proofs.filter.CommandFilter3.step.Tie as tie
 
-returns : tie.Need-returns
-unfolding filter3Step
-returns c = simp (c .before .before .before .step3 .ensures, c .before .before .before .before .step2 .ensures, c .before .before .before .before .before .step .ensures)
-
 pub step-spec : {M : Type 1} → statement M
-step-spec = tie.close (tie.spec (λ c κs. search needs) (λ c κs. search needs) (λ c κs. search needs) returns)
+unfolding filter3Step
+step-spec =
+    tie.close (tie.spec (λ c κs. search needs) (λ c κs. search needs) (λ c κs. search needs)
+    (λ c. simp (c .before .before .before .step3 .ensures, c .before .before .before .before .step2 .ensures, c .before .before .before .before .before .step .ensures)))

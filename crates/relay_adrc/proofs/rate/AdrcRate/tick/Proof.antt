@@ -3,9 +3,8 @@ use Rattle.relay_adrc.specs.Rate.{rateTick}
 use Rattle.relay_adrc.proofs.rate.AdrcRate.tick.Statement.{statement}
 use Rattle.relay_adrc.proofs.rate.AdrcRate.tick.Tie as tie
 
-returns : tie.Need-returns
-unfolding rateTick
-returns c = simp (c .before .before .before .tick3 .ensures, c .before .before .before .before .tick2 .ensures, c .before .before .before .before .before .tick .ensures)
-
 pub tick-spec : {M : Type 1} → statement M
-tick-spec = tie.close (tie.spec (λ c κs. search needs) (λ c κs. search needs) (λ c κs. search needs) returns)
+unfolding rateTick
+tick-spec =
+    tie.close (tie.spec (λ c κs. search needs) (λ c κs. search needs) (λ c κs. search needs)
+    (λ c. simp (c .before .before .before .tick3 .ensures, c .before .before .before .before .tick2 .ensures, c .before .before .before .before .before .tick .ensures)))

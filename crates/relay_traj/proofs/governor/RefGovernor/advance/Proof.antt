@@ -6,7 +6,5 @@ use Rattle.relay_traj.proofs.governor.RefGovernor.advance.Tie as tie
 pub advance-spec : {M : Type 1} → statement M
 unfolding advance
 advance-spec =
-    tie.close (tie.spec
-    (λ c κs. search needs)
-    (λ c κs. search needs)
+    tie.close (tie.spec (λ c κs. search needs) (λ c κs. search needs)
     (λ c. simp (c .before .gate .ensures, c .before .before .moved-by .ensures)))

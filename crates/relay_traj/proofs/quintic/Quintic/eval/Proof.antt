@@ -6,6 +6,5 @@ use Rattle.relay_traj.proofs.quintic.Quintic.eval.Tie as tie
 pub eval-spec : {M : Type 1} → statement M
 unfolding eval sampleAt
 eval-spec =
-    tie.close (tie.spec
-    (λ c κs. search needs)
+    tie.close (tie.spec (λ c κs. search needs)
     (λ c. simp (c .time-on .ensures)))

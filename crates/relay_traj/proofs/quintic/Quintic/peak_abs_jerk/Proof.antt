@@ -7,11 +7,7 @@ use Rattle.relay_traj.proofs.quintic.Quintic.peak_abs_jerk.Tie as tie
 pub peak-abs-jerk-spec : {M : Type 1} → statement M
 unfolding peakAbsJerk
 peak-abs-jerk-spec =
-    tie.close (tie.spec
-    (λ c κs. search needs)
-    (λ c κs. search needs)
-    (λ c κs. search needs)
-    (λ c κs. search needs)
+    tie.close (tie.spec (λ c κs. search needs) (λ c κs. search needs) (λ c κs. search needs) (λ c κs. search needs)
     (λ c. unfold nanBits in tt)
     (λ c κs. search needs)
     (λ c. simp (c .fin .ensures, c .before .fabsf3 .ensures, c .before .before .fabsf2 .ensures, c .before .before .before .fabsf .ensures, c .before .before .before .before .jerk-coeffs .ensures)))

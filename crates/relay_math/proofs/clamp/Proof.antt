@@ -1,9 +1,10 @@
+-- `relay_math::clamp`: the first comparison, then the second. Assumes nothing.
 use mathlib.Core.Path.{_≡_}
 use mathlib.Core.Logic.{inl, inr}
 use mathlib.Core.Bool.{cond}
 use lib.Ieee.{lt}
-use Rattle.relay_traj.proofs.quintic.clamp.Statement.{statement}
-use Rattle.relay_traj.proofs.quintic.clamp.Tie as tie
+use Rattle.relay_math.proofs.clamp.Statement.{statement}
+use Rattle.relay_math.proofs.clamp.Tie as tie
 
 -- x after the first comparison
 raised : (c : tie.Joined1) → c .if1 .x ≡ cond (lt (c .before .args .x) (c .before .args .lo)) (c .before .args .lo) (c .before .args .x)

@@ -1,9 +1,0 @@
-use borrow.Author.Needs.{needs}
-use Rattle.relay_geo.proofs.shield.finite_above.Statement.{statement}
-use Rattle.relay_geo.proofs.shield.finite_above.Tie as tie
-
-pub finite-above-spec : {M : Type 1} → statement M
-finite-above-spec =
-    tie.close (tie.spec (λ c κs. search needs)
-    (λ c. simp (← c .before .is-finite .ensures, c .if1 .taken))
-    (λ c. simp (← c .before .is-finite .ensures, c .if1 .left)))

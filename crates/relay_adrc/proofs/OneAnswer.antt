@@ -7,9 +7,6 @@ use Rattle.relay_adrc.proofs.filter
 use Rattle.relay_adrc.proofs.gains
 use Rattle.relay_adrc.proofs.rate
 
-pub clamp-once : OneAnswer axis.clamp.ended axis.clamp.Reads.Post
-clamp-once κs a x y v w p q = (no-second p q, refl)
-
 pub mend-dt-once : OneAnswer axis.mend_dt.ended axis.mend_dt.Reads.Post
 mend-dt-once κs a x y v w p q = (no-second p q, refl)
 

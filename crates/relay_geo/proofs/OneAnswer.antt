@@ -76,9 +76,6 @@ recoverable-set-margin-once κs a x y v w p q = (no-second p q, refl)
 pub recoverable-set-recoverable-once : OneAnswer set.RecoverableSet.recoverable.ended set.RecoverableSet.recoverable.Reads.Post
 recoverable-set-recoverable-once κs a x y v w p q = (no-second p q, refl)
 
-pub finite-above-once : OneAnswer shield.finite_above.ended shield.finite_above.Reads.Post
-finite-above-once κs a x y v w p q = (no-second p q, refl)
-
 pub mend-once : OneAnswer shield.mend.ended shield.mend.Reads.Post
 mend-once κs a x y v w p q = (no-second p q, refl)
 

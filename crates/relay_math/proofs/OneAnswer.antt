@@ -5,6 +5,8 @@ use Rattle.relay_math.proofs.angles
 use Rattle.relay_math.proofs.fabsf
 use Rattle.relay_math.proofs.is_finite
 use Rattle.relay_math.proofs.finite_or
+use Rattle.relay_math.proofs.finite_above
+use Rattle.relay_math.proofs.clamp
 use Rattle.relay_math.proofs.sqrt
 
 pub part-of-once : OneAnswer angles.part_of.ended angles.part_of.Reads.Post
@@ -27,6 +29,12 @@ is-finite-once κs a x y v w p q = (no-second p q, refl)
 
 pub finite-or-once : OneAnswer finite_or.ended finite_or.Reads.Post
 finite-or-once κs a x y v w p q = (no-second p q, refl)
+
+pub finite-above-once : OneAnswer finite_above.ended finite_above.Reads.Post
+finite-above-once κs a x y v w p q = (no-second p q, refl)
+
+pub clamp-once : OneAnswer clamp.ended clamp.Reads.Post
+clamp-once κs a x y v w p q = (no-second p q, refl)
 
 pub sqrtf-once : OneAnswer sqrt.sqrtf.ended sqrt.sqrtf.Reads.Post
 sqrtf-once κs a x y v w p q = (no-second (p .1) (q .1), refl)

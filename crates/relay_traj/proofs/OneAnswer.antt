@@ -41,9 +41,6 @@ ref-governor-reset-once κs a x y v w p q = (no-second p q, refl)
 pub fin-once : OneAnswer quintic.fin.ended quintic.fin.Reads.Post
 fin-once κs a x y v w p q = (no-second p q, refl)
 
-pub clamp-once : OneAnswer quintic.clamp.ended quintic.clamp.Reads.Post
-clamp-once κs a x y v w p q = (no-second p q, refl)
-
 pub mended-duration-once : OneAnswer quintic.mended_duration.ended quintic.mended_duration.Reads.Post
 mended-duration-once κs a x y v w p q = (no-second p q, refl)
 

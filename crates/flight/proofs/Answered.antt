@@ -1,7 +1,7 @@
 -- The answer's words. Assumes nothing.
 use mathlib.Core.Path.{_≡_, refl, ap, _∙_}
 use mathlib.Core.List.{List}
-use Prim.Native.Nat.{ℕ}
+use Prim.Native.Nat.{ℕ, _+_}
 use lib.ListN.{length}
 use Rattle.words.specs.Words.{word, float, vec, bits, flag, Holds}
 use Rattle.words.proofs.Back.{word-back, bits-back, float-back, vec-back, flag-lt}
@@ -43,3 +43,9 @@ psi-word a f = bits-back (answer-is a) PSI (a .psi) refl f
 
 pub margin-word : (a : Answer) → F32 (a .margin) → word (answerOf a) MARGIN ≡ bits (a .margin)
 margin-word a f = bits-back (answer-is a) MARGIN (a .margin) refl f
+
+pub command-words : (a : Answer) → FitsVec (a .command .0)
+    → (word (answerOf a) COMMAND ≡ bits (a .command .0 .0)) × (word (answerOf a) (COMMAND + 1) ≡ bits (a .command .0 .1)) × (word (answerOf a) (COMMAND + 2) ≡ bits (a .command .0 .2))
+command-words a f =
+    let at = bits-back (answer-is a) in
+    (at COMMAND (a .command .0 .0) refl (f .0), at (COMMAND + 1) (a .command .0 .1) refl (f .1 .0), at (COMMAND + 2) (a .command .0 .2) refl (f .1 .1 .0))

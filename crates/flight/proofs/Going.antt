@@ -4,21 +4,24 @@ use mathlib.Core.Bool.{Bool, true, false, _||_, _&&_, cond}
 use mathlib.Core.List.{List}
 use Prim.Native.Nat.{ℕ}
 use lib.Dec.{T, eqb}
-use lib.Ieee.{binary32, fits}
+use borrow.Author.Tests.{eqb-true}
+use lib.Ieee.{Float, binary32, fits, lt}
 use lib.ListN.{length}
 use Rattle.words.specs.Words.{word, vec, flag}
 use Rattle.words.proofs.Back.{float-fits}
+use Rattle.relay_math.specs.F32.{0·0, isFinite}
 use Rattle.relay_math.proofs.Tests.{no}
 use Rattle.joint.specs.declared.state.State.{State}
+use Rattle.joint.specs.declared.stages.Reference.{Reference}
 use Rattle.joint.specs.SetUp.{setUp, segmentOf}
 use Rattle.joint.specs.Tick.{tick, ticked, prepare, finish, follow, referenceAt}
-use Rattle.joint.specs.Good.{good}
-use Rattle.joint.proofs.Kept.{Good, set-up-good, tick-good}
+use Rattle.joint.specs.Good.{shieldOk, good}
+use Rattle.joint.proofs.Kept.{Good, good-parts, set-up-good, tick-good}
 use Rattle.flight.specs.declared.entry.Outcome.{Outcome}
 use Rattle.flight.specs.declared.entry.Outcome.the-variants.{Done, ImageLength, InputLength, AnswerLength, BrokenImage}
 use Rattle.flight.specs.Layout.{COUNT, ENGAGED, IMAGE-WORDS, IMAGE-BYTES, INPUT-BYTES, ANSWER-BYTES, SETUP-ENTER}
 use Rattle.flight.specs.Parts.{gainsAt, setAt, legAt, adrcGainsAt, quatAt}
-use Rattle.flight.specs.Image.{stateAt, imageOf}
+use Rattle.flight.specs.Image.{shieldAt, stateAt, imageOf}
 use Rattle.flight.specs.Calls.{setupAt, inputAt}
 use Rattle.flight.specs.Entry.{intactWith, intact, tickRefusal}
 use Rattle.flight.specs.Fits.{Fits}
@@ -39,9 +42,10 @@ set-up-fits b =
       lpf = gyro-new-fits _ _;
     }
 
-pub tick-fits : (s : State) (b : List ℕ) → Fits s → Fits (tick s (inputAt b) .state)
-unfolding tick ticked prepare finish follow inputAt vec
-tick-fits s b f =
+-- from any source of references
+pub ticked-fits : (source : Float → Reference) (s : State) (b : List ℕ) → Fits s → Fits (ticked source s (inputAt b) .state)
+unfolding ticked prepare finish follow inputAt vec
+ticked-fits source s b f =
     record {
       gains = f .gains;
       shield = step-fits _ _ _ _ (f .shield);
@@ -54,6 +58,10 @@ tick-fits s b f =
       );
       lpf = gyro-filter-fits _ _ (f .lpf) (search float-fits);
     }
+
+pub tick-fits : (s : State) (b : List ℕ) → Fits s → Fits (tick s (inputAt b) .state)
+unfolding tick
+tick-fits s b f = ticked-fits (referenceAt (s .segment)) s b f
 
 -- ---- what is written is taken
 
@@ -90,10 +98,39 @@ pub good-image : (image : List ℕ) → tickRefusal image INPUT-BYTES ANSWER-BYT
 unfolding tickRefusal intact intactWith
 good-image image e = record { holds = state-fits image .governor .0; ok = last (eqb (word image COUNT) IMAGE-WORDS) (eqb (word image ENGAGED) 0 || eqb (word image ENGAGED) 1) (good (stateAt image)) (accepted (eqb (length image) IMAGE-BYTES) (intact image) e) }
 
--- "nor the one that an accepted tick writes": whatever the input
+-- its flag is in its word
+pub flag-of-image : (image : List ℕ) → tickRefusal image INPUT-BYTES ANSWER-BYTES ≡ Done → word image ENGAGED ≡ flag (stateAt image .shield .engaged)
+unfolding tickRefusal intact intactWith stateAt shieldAt
+flag-of-image image e = bit (word image ENGAGED) (middle (eqb (word image COUNT) IMAGE-WORDS) (eqb (word image ENGAGED) 0 || eqb (word image ENGAGED) 1) (good (stateAt image)) (accepted (eqb (length image) IMAGE-BYTES) (intact image) e))
+  where
+    middle : (x y z : Bool) → (x && y && z) ≡ true → y ≡ true
+    middle true true z e = refl
+    middle true false z e = no e
+    middle false y z e = no e
+
+    bit : (w : ℕ) → (eqb w 0 || eqb w 1) ≡ true → w ≡ flag (eqb w 1)
+    bit w e = go (eqb w 0) (eqb w 1) e refl refl
+      where
+        go : (a b : Bool) → (a || b) ≡ true → eqb w 0 ≡ a → eqb w 1 ≡ b → w ≡ flag b
+        go a true e p q = eqb-true w 1 q
+        go true false e p q = eqb-true w 0 p
+        go false false e p q = no e
+
+-- its thresholds are in order
+pub in-order : (image : List ℕ) → tickRefusal image INPUT-BYTES ANSWER-BYTES ≡ Done → lt (stateAt image .shield .enter) (stateAt image .shield .exit) ≡ true
+unfolding shieldOk
+in-order image e =
+    let h = stateAt image .shield in
+    last (isFinite (h .enter)) (lt 0·0 (h .enter)) (lt (h .enter) (h .exit)) (good-parts (stateAt image) (good-image image e .ok) .0)
+
+-- "nor the one that an accepted tick writes": whatever the input, and from any source of references
+pub ticked-never-refused : (source : Float → Reference) (image input : List ℕ) → tickRefusal image INPUT-BYTES ANSWER-BYTES ≡ Done
+    → tickRefusal (imageOf (ticked source (stateAt image) (inputAt input) .state)) INPUT-BYTES ANSWER-BYTES ≡ Done
+ticked-never-refused source image input e =
+    let s = stateAt image in
+    taken (ticked source s (inputAt input) .state) (ticked-fits source s input (state-fits image)) (tick-good source s (inputAt input) (good-image image e) .ok)
+
 pub tick-never-refused : (image input : List ℕ) → tickRefusal image INPUT-BYTES ANSWER-BYTES ≡ Done
     → tickRefusal (imageOf (tick (stateAt image) (inputAt input) .state)) INPUT-BYTES ANSWER-BYTES ≡ Done
 unfolding tick
-tick-never-refused image input e =
-    let s = stateAt image in
-    taken (tick s (inputAt input) .state) (tick-fits s input (state-fits image)) (tick-good (referenceAt (s .segment)) s (inputAt input) (good-image image e) .ok)
+tick-never-refused image input e = ticked-never-refused (referenceAt (stateAt image .segment)) image input e

@@ -17,13 +17,11 @@ use Rattle.joint.specs.Tick.{tick, prepare, finish, referenceAt}
 use Rattle.joint.specs.Tick.{ticked as ticked-from}
 use Rattle.joint.proofs.Kept.{good-runs}
 use Rattle.joint.proofs.Clock.{time-never-back}
-use Rattle.flight.specs.declared.entry.Outcome.the-variants.{Done}
-use Rattle.flight.specs.Layout.{GOVERNOR, INPUT-BYTES, ANSWER-BYTES}
+use Rattle.flight.specs.Layout.{GOVERNOR}
 use Rattle.flight.specs.Parts.{governorAt}
 use Rattle.flight.specs.Image.{stateAt, imageOf, wordsOfState}
 use Rattle.flight.specs.Calls.{inputAt}
-use Rattle.flight.specs.Entry.{tickRefusal}
-use Rattle.flight.specs.Runs.{ticked, after}
+use Rattle.flight.specs.Runs.{Accepted, ticked, after}
 use Rattle.flight.proofs.Decoded.{time-written, state-fits}
 use Rattle.flight.proofs.Going.{tick-fits, good-image, tick-never-refused}
 
@@ -32,9 +30,6 @@ pub words-kept : (s : State) (i : TickInput)
     → (take 15 (wordsOfState (tick s i .state)) ≡ take 15 (wordsOfState s)) × (take 24 (drop 17 (wordsOfState (tick s i .state))) ≡ take 24 (drop 17 (wordsOfState s)))
 unfolding tick ticked-from prepare finish advance step
 words-kept s i = (refl, refl)
-
-abbrev Accepted : List ℕ → Type 0
-Accepted image = tickRefusal image INPUT-BYTES ANSWER-BYTES ≡ Done
 
 -- the time that an image holds is that of its state
 time-of : (image : List ℕ) → float image GOVERNOR ≡ stateAt image .governor .s

@@ -6,3 +6,7 @@ pub mod Kept
 pub mod Level
 pub mod Shams
 pub mod OneAnswer
+pub mod AnswerFits
+pub mod Shown
+pub mod DemandThree
+pub mod Middle

@@ -6,3 +6,4 @@ pub mod Fits
 pub mod Entry
 pub mod Runs
 pub mod Shams
+pub mod DemandThree

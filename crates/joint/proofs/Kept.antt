@@ -73,7 +73,7 @@ parts false b c e = no e
 all : {a b c : Bool} → a ≡ true → b ≡ true → c ≡ true → (a && b && c) ≡ true
 all p q r = rw (p, q, r)
 
-good-parts : (s : State) → good s ≡ true → (shieldOk (s .shield) ≡ true) × (timeOk (s .governor .s) ≡ true) × (segmentOk (s .segment) ≡ true)
+pub good-parts : (s : State) → good s ≡ true → (shieldOk (s .shield) ≡ true) × (timeOk (s .governor .s) ≡ true) × (segmentOk (s .segment) ≡ true)
 unfolding good
 good-parts s e = parts (shieldOk (s .shield)) (timeOk (s .governor .s)) (segmentOk (s .segment)) e
 

@@ -6,3 +6,4 @@ pub mod Answered
 pub mod Kept
 pub mod Calls
 pub mod OneAnswer
+pub mod Runs

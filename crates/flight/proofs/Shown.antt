@@ -1,0 +1,164 @@
+-- A tick on bytes: what its answer shows, and what each kind of call does to the shield. Assumes nothing.
+use mathlib.Core.Path.{_≡_, refl, sym, ap, _∙_, subst}
+use mathlib.Core.Logic.{_⊎_, inl, inr, _↔_}
+use mathlib.Core.Bool.{Bool, true, false, not}
+use mathlib.Core.List.{List, [], _∷_}
+use Prim.Native.Nat.{ℕ, _+_, _*_, _<_}
+use native.Mathlib.Omega.{arith}
+use lib.Dec.{T}
+use lib.Ieee.{Float, nan, inf, fin, isNan, ofBits, toBits}
+use lib.ListN.{length, getD}
+use Rattle.words.specs.Words.{word, vec, float, floatOf, bits, flag, floatsOfVec, wordsOf}
+use Rattle.words.proofs.Back.{canon-itself}
+use Rattle.relay_math.specs.F32.{isFinite}
+use Rattle.relay_math.proofs.Tests.{no}
+use Rattle.relay_math.specs.declared.Vec3.{Vec3}
+use Rattle.relay_geo.specs.declared.shield.SimplexShield.{SimplexShield}
+use Rattle.relay_geo.specs.Vectors.{sanitise3}
+use Rattle.joint.specs.declared.state.State.{State}
+use Rattle.joint.specs.declared.stages.Reference.{Reference}
+use Rattle.joint.specs.Tick.{guidance, ticked, tick, referenceAt}
+use Rattle.joint.specs.Runs.{Leads}
+use Rattle.joint.proofs.Shielding.{tick-margin, tick-planner, tick-fallback, planner-is}
+use Rattle.joint.proofs.Runs.{stays, tick-leads}
+use Rattle.flight.specs.declared.entry.Outcome.{Outcome}
+use Rattle.flight.specs.declared.entry.Outcome.the-variants.{Done, ImageLength, InputLength, AnswerLength, BrokenImage}
+use Rattle.flight.specs.Layout.{FLAG, MARGIN}
+use Rattle.flight.specs.Image.{stateAt, imageOf}
+use Rattle.flight.specs.Calls.{inputAt, answerOf}
+use Rattle.flight.specs.Entry.{called, unless, tickRefusal, tickCall}
+use Rattle.flight.specs.Runs.{Accepted, Given, Right, Event, Tick, callOf, leftBy, guided, ifDone, marginsOf}
+use Rattle.flight.specs.DemandThree.{cleanWord, plannerWords, fallbackWords, commandWords, Shows}
+use Rattle.flight.proofs.Decoded.{decode-encode, state-fits}
+use Rattle.flight.proofs.Answered.{flag-answered, margin-word, command-words}
+use Rattle.flight.proofs.AnswerFits.{margin-fits, command-fits}
+use Rattle.flight.proofs.Going.{ticked-fits, ticked-never-refused}
+
+abbrev pub shieldOf : List ℕ → SimplexShield
+shieldOf image = stateAt image .shield
+
+-- ---- a word that is passed on: itself if its number is finite, else 0
+
+finite-number : (x : Float) → isFinite x ≡ true → T (not (isNan x))
+unfolding isFinite isNan
+finite-number nan e = no e
+finite-number (inf s) e = no e
+finite-number (fin s m x) e = tt
+
+pub finite-word-itself : (w : ℕ) → w < 4294967296 → isFinite (floatOf w) ≡ true → cleanWord w ≡ w
+finite-word-itself w h e = rw e (canon-itself w h (finite-number (floatOf w) e))
+
+pub other-word-zero : (w : ℕ) → isFinite (floatOf w) ≡ false → cleanWord w ≡ 0
+unfolding ofBits toBits
+other-word-zero w e = rw e
+
+-- every word of bytes is one of 32 bits
+pub word-lt : (b : List ℕ) → ((i : ℕ) → getD b i 0 < 256) → (k : ℕ) → word b k < 4294967296
+unfolding word
+word-lt b h k = omega (arith, h (4 * k), h (4 * k + 1), h (4 * k + 2), h (4 * k + 3))
+
+-- ---- a tick on bytes, from any source of references
+
+pub flag-zero : (b : Bool) → flag b ≡ 0 → b ≡ false
+flag-zero true e = absurd (omega (arith, e))
+flag-zero false e = refl
+
+pub flag-one : (b : Bool) → flag b ≡ 1 → b ≡ true
+flag-one true e = refl
+flag-one false e = absurd (omega (arith, e))
+
+flag-either : (b : Bool) → (flag b ≡ 0) ⊎ (flag b ≡ 1)
+flag-either true = inr refl
+flag-either false = inl refl
+
+module _ (source : Float → Reference) (image input : List ℕ) where
+  abbrev state : State
+  state = stateAt image
+
+  abbrev pub leaves : List ℕ
+  leaves = imageOf (ticked source state (inputAt input) .state)
+
+  abbrev pub answers : List ℕ
+  answers = answerOf (ticked source state (inputAt input) .answer)
+
+  abbrev pub fellBack : Bool
+  fellBack = ticked source state (inputAt input) .answer .fallback
+
+  abbrev pub margin : Float
+  margin = guidance source state (inputAt input) .margin
+
+  -- the image that it leaves is one that a tick takes, with the shield that its margin led to
+  pub leads : Accepted image → Accepted leaves × Leads (margin ∷ []) (shieldOf image) (shieldOf leaves)
+  leads a =
+      let i = inputAt input in
+      let back = decode-encode (ticked source state i .state) (ticked-fits source state input (state-fits image)) in
+      (
+        ticked-never-refused source image input a,
+        subst (λ (t : State). Leads (margin ∷ []) (state .shield) (t .shield)) (sym back) (tick-leads source state i),
+      )
+
+  pub flag-word : word answers FLAG ≡ flag fellBack
+  flag-word = flag-answered (ticked source state (inputAt input) .answer)
+
+  words-of : (v : Vec3) → ticked source state (inputAt input) .answer .command ≡ record { 0 = v } → commandWords answers ≡ wordsOf (floatsOfVec v)
+  words-of v e =
+      let w = command-words (ticked source state (inputAt input) .answer) (command-fits source state input) in
+      rw (w .0, w .1, w .2, e)
+
+  planner-words : fellBack ≡ false → commandWords answers ≡ plannerWords input
+  unfolding inputAt vec float
+  planner-words e =
+      let i = inputAt input in
+      words-of (sanitise3 (i .agile .0)) (tick-planner source state i e ∙ planner-is source state i)
+
+  fallback-words : fellBack ≡ true → commandWords answers ≡ fallbackWords (guidance source state (inputAt input))
+  fallback-words e =
+      let i = inputAt input in
+      words-of (sanitise3 (guidance source state i .fallback .0)) (tick-fallback source state i e)
+
+  margin-shown : word answers MARGIN ≡ bits margin
+  margin-shown =
+      let i = inputAt input in
+      let e = tick-margin source state i in
+      margin-word (ticked source state i .answer) (rw e (margin-fits source state i)) ∙ ap bits e
+
+  pub shows : (Flying : Type 0) → (fellBack ≡ false) ↔ Flying → Shows Flying input (guidance source state (inputAt input)) (called Done leaves answers)
+  shows Flying f =
+      record {
+        accepted = refl;
+        flag = rw flag-word (flag-either fellBack);
+        flies = (λ e. f .0 (flag-zero fellBack (sym flag-word ∙ e)), λ x. flag-word ∙ ap flag (f .1 x));
+        planner = λ e. planner-words (flag-zero fellBack (sym flag-word ∙ e));
+        fallback = λ e. fallback-words (flag-one fellBack (sym flag-word ∙ e));
+        margin = margin-shown;
+      }
+
+-- ---- what each kind of call does to the shield
+
+-- one that steps it by m if it is done; refused it keeps every byte
+unless-refused : (o : Outcome) (image later answer answered : List ℕ) (m : Float) → Accepted image
+    → Accepted later × Leads (m ∷ []) (shieldOf image) (shieldOf later)
+    → Accepted (unless o (called Done later answered) image answer .image)
+    × Leads (ifDone o m) (shieldOf image) (shieldOf (unless o (called Done later answered) image answer .image))
+unless-refused Done image later answer answered m a t = t
+unless-refused ImageLength image later answer answered m a t = (a, stays refl)
+unless-refused InputLength image later answer answered m a t = (a, stays refl)
+unless-refused AnswerLength image later answer answered m a t = (a, stays refl)
+unless-refused BrokenImage image later answer answered m a t = (a, stays refl)
+
+pub lawful : (image : List ℕ) (e : Event) → Accepted image → Accepted (leftBy image e) × Leads (marginsOf image e) (shieldOf image) (shieldOf (leftBy image e))
+unfolding leftBy callOf tickCall marginsOf guided tick
+lawful image (Tick t) a =
+    let source = referenceAt (stateAt image .segment) in
+    unless-refused (tickRefusal image (length (t .input)) (length (t .answer))) image (leaves source image (t .input)) (t .answer) (answers source image (t .input))
+    (margin source image (t .input)) a (leads source image (t .input) a)
+
+-- a tick of right lengths is done
+pub done : (image : List ℕ) (t : Given) → Right t → Accepted image
+    → tickCall image (t .input) (t .answer) ≡ called Done (leaves (referenceAt (stateAt image .segment)) image (t .input)) (answers (referenceAt (stateAt image .segment)) image (t .input))
+unfolding tickCall tick
+done image t r a = rw (r .0, r .1, a)
+
+pub one-margin : (image : List ℕ) (t : Given) → Right t → Accepted image → marginsOf image (Tick t) ≡ guided image (t .input) .margin ∷ []
+unfolding marginsOf
+one-margin image t r a = rw (r .0, r .1, a)

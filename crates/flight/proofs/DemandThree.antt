@@ -151,4 +151,5 @@ module _ (setup : List ℕ) (ticks : List Given) (r : AllRight ticks) (k : ℕ) 
         planner = d .planner;
         fallback = d .fallback;
         margin = d .margin;
+        margin-read = d .margin-read;
       }

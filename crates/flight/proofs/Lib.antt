@@ -2,11 +2,11 @@ pub mod Decoded
 pub mod Answered
 pub mod Fitting
 pub mod Going
+pub mod AnswerFits
+pub mod Shown
 pub mod Kept
+pub mod DemandThree
+pub mod Middle
 pub mod Level
 pub mod Shams
 pub mod OneAnswer
-pub mod AnswerFits
-pub mod Shown
-pub mod DemandThree
-pub mod Middle

@@ -87,9 +87,9 @@ module _ (setup : List ℕ) where
         let source = referenceAt (stateAt image .segment) in
         let i = inputAt (t .input) in
         rw done-here (
-          engaged-written (ticked source (stateAt image) i .state)
-          ∙ ap (λ (h : SimplexShield). flag (h .engaged)) (tick-keeps-shield source (stateAt image) i)
-          ∙ sym (flag-word source image (t .input))
+        engaged-written (ticked source (stateAt image) i .state)
+        ∙ ap (λ (h : SimplexShield). flag (h .engaged)) (tick-keeps-shield source (stateAt image) i)
+        ∙ sym (flag-word source image (t .input))
         )
 
   starts-with-the-fallback : word (start setup) ENGAGED ≡ 1

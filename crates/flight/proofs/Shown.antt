@@ -28,9 +28,10 @@ use Rattle.flight.specs.Image.{stateAt, imageOf}
 use Rattle.flight.specs.Calls.{inputAt, answerOf}
 use Rattle.flight.specs.Entry.{called, unless, tickRefusal, tickCall}
 use Rattle.flight.specs.Runs.{Accepted, Given, Right, Event, Tick, callOf, leftBy, guided, ifDone, marginsOf}
+use Rattle.flight.specs.Fits.{F32}
 use Rattle.flight.specs.DemandThree.{cleanWord, plannerWords, fallbackWords, commandWords, Shows}
 use Rattle.flight.proofs.Decoded.{decode-encode, state-fits}
-use Rattle.flight.proofs.Answered.{flag-answered, margin-word, command-words}
+use Rattle.flight.proofs.Answered.{flag-answered, margin-answered, margin-word, command-words}
 use Rattle.flight.proofs.AnswerFits.{margin-fits, command-fits}
 use Rattle.flight.proofs.Going.{ticked-fits, ticked-never-refused}
 
@@ -91,8 +92,7 @@ module _ (source : Float → Reference) (image input : List ℕ) where
   pub leads : Accepted image → Accepted leaves × Leads (margin ∷ []) (shieldOf image) (shieldOf leaves)
   leads a =
       let i = inputAt input in
-      let back = decode-encode (ticked source state i .state) (ticked-fits source state input (state-fits image)) in
-      (
+      let back = decode-encode (ticked source state i .state) (ticked-fits source state input (state-fits image)) in (
         ticked-never-refused source image input a,
         subst (λ (t : State). Leads (margin ∷ []) (state .shield) (t .shield)) (sym back) (tick-leads source state i),
       )
@@ -116,11 +116,13 @@ module _ (source : Float → Reference) (image input : List ℕ) where
       let i = inputAt input in
       words-of (sanitise3 (guidance source state i .fallback .0)) (tick-fallback source state i e)
 
-  margin-shown : word answers MARGIN ≡ bits margin
+  margin-shown : (word answers MARGIN ≡ bits margin) × (float answers MARGIN ≡ margin)
   margin-shown =
       let i = inputAt input in
+      let a = ticked source state i .answer in
       let e = tick-margin source state i in
-      margin-word (ticked source state i .answer) (rw e (margin-fits source state i)) ∙ ap bits e
+      let f : F32 (a .margin) = rw e (margin-fits source state i) in
+      (margin-word a f ∙ ap bits e, margin-answered a f ∙ e)
 
   pub shows : (Flying : Type 0) → (fellBack ≡ false) ↔ Flying → Shows Flying input (guidance source state (inputAt input)) (called Done leaves answers)
   shows Flying f =
@@ -130,28 +132,36 @@ module _ (source : Float → Reference) (image input : List ℕ) where
         flies = (λ e. f .0 (flag-zero fellBack (sym flag-word ∙ e)), λ x. flag-word ∙ ap flag (f .1 x));
         planner = λ e. planner-words (flag-zero fellBack (sym flag-word ∙ e));
         fallback = λ e. fallback-words (flag-one fellBack (sym flag-word ∙ e));
-        margin = margin-shown;
+        margin = margin-shown .0;
+        margin-read = margin-shown .1;
       }
 
 -- ---- what each kind of call does to the shield
 
--- one that steps it by m if it is done; refused it keeps every byte
-unless-refused : (o : Outcome) (image later answer answered : List ℕ) (m : Float) → Accepted image
-    → Accepted later × Leads (m ∷ []) (shieldOf image) (shieldOf later)
-    → Accepted (unless o (called Done later answered) image answer .image)
-    × Leads (ifDone o m) (shieldOf image) (shieldOf (unless o (called Done later answered) image answer .image))
-unless-refused Done image later answer answered m a t = t
-unless-refused ImageLength image later answer answered m a t = (a, stays refl)
-unless-refused InputLength image later answer answered m a t = (a, stays refl)
-unless-refused AnswerLength image later answer answered m a t = (a, stays refl)
-unless-refused BrokenImage image later answer answered m a t = (a, stays refl)
+-- What holds of the image that a call leaves and of the margins that it steps the shield by, if it is done, and of this image and no margin, holds
+-- of the call, done or refused.
+pub unless-refused : (P : List ℕ → List Float → Type 0) (o : Outcome) (image later answer answered : List ℕ) (m : Float)
+    → P later (m ∷ []) → P image [] → P (unless o (called Done later answered) image answer .image) (ifDone o m)
+unless-refused P Done image later answer answered m d r = d
+unless-refused P ImageLength image later answer answered m d r = r
+unless-refused P InputLength image later answer answered m d r = r
+unless-refused P AnswerLength image later answer answered m d r = r
+unless-refused P BrokenImage image later answer answered m d r = r
+
+-- so of a tick
+pub either-way : (P : List ℕ → List Float → Type 0) (image : List ℕ) (t : Given)
+    → let source = referenceAt (stateAt image .segment) in
+    P (leaves source image (t .input)) (margin source image (t .input) ∷ []) → P image [] → P (leftBy image (Tick t)) (marginsOf image (Tick t))
+unfolding leftBy callOf tickCall marginsOf guided tick
+either-way P image t d r =
+    let source = referenceAt (stateAt image .segment) in
+    unless-refused P (tickRefusal image (length (t .input)) (length (t .answer))) image (leaves source image (t .input)) (t .answer)
+    (answers source image (t .input)) (margin source image (t .input)) d r
 
 pub lawful : (image : List ℕ) (e : Event) → Accepted image → Accepted (leftBy image e) × Leads (marginsOf image e) (shieldOf image) (shieldOf (leftBy image e))
-unfolding leftBy callOf tickCall marginsOf guided tick
 lawful image (Tick t) a =
-    let source = referenceAt (stateAt image .segment) in
-    unless-refused (tickRefusal image (length (t .input)) (length (t .answer))) image (leaves source image (t .input)) (t .answer) (answers source image (t .input))
-    (margin source image (t .input)) a (leads source image (t .input) a)
+    either-way (λ (x : List ℕ) (ms : List Float). Accepted x × Leads ms (shieldOf image) (shieldOf x)) image t
+    (leads (referenceAt (stateAt image .segment)) image (t .input) a) (a, stays refl)
 
 -- a tick of right lengths is done
 pub done : (image : List ℕ) (t : Given) → Right t → Accepted image

@@ -35,7 +35,7 @@ abbrev pub commandWords : List ℕ → List ℕ
 commandWords answer = word answer COMMAND ∷ word answer (COMMAND + 1) ∷ word answer (COMMAND + 2) ∷ []
 
 -- A tick of that input, guided so, left c: it was accepted; the flag is 0 or 1, and 0 exactly if the planner is to fly; it names whose command is
--- passed on; and the margin is shown.
+-- passed on; and the margin is shown, so that it can be read off.
 pub record Shows (Flying : Type 0) (input : List ℕ) (g : Guided) (c : Called) : Type 0 where
   pub accepted : number (c .outcome) ≡ 0
   pub flag : (word (c .answer) FLAG ≡ 0) ⊎ (word (c .answer) FLAG ≡ 1)
@@ -43,6 +43,7 @@ pub record Shows (Flying : Type 0) (input : List ℕ) (g : Guided) (c : Called) 
   pub planner : word (c .answer) FLAG ≡ 0 → commandWords (c .answer) ≡ plannerWords input
   pub fallback : word (c .answer) FLAG ≡ 1 → commandWords (c .answer) ≡ fallbackWords g
   pub margin : word (c .answer) MARGIN ≡ bits (g .margin)
+  pub margin-read : float (c .answer) MARGIN ≡ g .margin
 
 -- the user's middle: finite, not above exit and not below enter, each of them included
 pub record InBand (enter exit m : Float) : Type 0 where

@@ -7,3 +7,4 @@ pub mod Kept
 pub mod Calls
 pub mod OneAnswer
 pub mod Runs
+pub mod Figures

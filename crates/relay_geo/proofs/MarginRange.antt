@@ -94,16 +94,11 @@ pub infinite-psi-max-leaves-rate-part : (set : RecoverableSet) (psi eOmegaSq : F
 infinite-psi-max-leaves-rate-part set psi w k e =
     rate-part-alone set psi w k (rw e (infinity-under psi (rateMargin set psi w) (both (isFinite psi) (isFinite w) (both (isFinite psi && isFinite w) (finiteAbove 0·0 (set .«lambda_j»)) k .0) .0)))
 
--- ---- document 01's worked figures of the set (1, 1, 1.75), and a tie of zeros, at which the rate part -0 is taken
-
-abbrev 1·75 : Float
-1·75 = f32 0x3fe0_0000
+-- ---- a tie of zeros: the rate part, -0, is taken
 
 abbrev -0·0 : Float
 -0·0 = f32 0x8000_0000
 
-pub margin-figures : (margin (newSet 1·0 1·0 1·75) (f32 0x3e80_0000) (f32 0x4040_0000) ≡ 0·5)
-    × (margin (newSet 1·0 1·0 1·75) 1·75 0·5 ≡ 0·0)
-    × (margin (newSet -0·0 1·0 0·5) 0·5 0·0 ≡ -0·0)
+pub tie-takes-rate-part : margin (newSet -0·0 1·0 0·5) 0·5 0·0 ≡ -0·0
 unfolding margin isFinite lt le sub mul div ofBits
-margin-figures = (refl, refl, refl)
+tie-takes-rate-part = refl

@@ -1,5 +1,4 @@
 pub mod Gate
 pub mod Clock
 pub mod Leg
-pub mod Figures
 pub mod OneAnswer

@@ -3,6 +3,7 @@
 mod quintic; // quintic.rt: one axis
 mod segment; // segment.rt: three axes
 mod governor; // governor.rt: the reference clock
+mod lent; // lent.rt: the reference clock, lent
 
 pub use governor::Advanced;
 pub use governor::RefGovernor;

@@ -1,0 +1,14 @@
+// `advance` over a governor that the caller lends: the Rust's `&mut self`.
+use crate::governor::RefGovernor;
+ghost use mathlib.Core.Path.{_≡_};
+ghost use Rattle.relay_traj.specs.Governor.{advance};
+
+impl RefGovernor {
+    pub fn advance_lent(&mut self, track_err: f32, dt: f32) -> f32
+        ensures { λ r. ⌜ (r ≡ advance (now (self .entry)) «track_err» dt .time) × (now (self .exit) ≡ advance (now (self .entry)) «track_err» dt .governor) ⌝ }
+    {
+        let next = (*self).advance(track_err, dt);
+        *self = next.governor;
+        next.time
+    }
+}

@@ -4,3 +4,4 @@ pub mod Controller
 pub mod Set
 pub mod Latch
 pub mod Shield
+pub mod Lent

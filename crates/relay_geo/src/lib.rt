@@ -2,6 +2,7 @@
 // vectors, attitude, controller, set, shield.
 mod attitude; // attitude.rt: attitudes from quaternions, axes and headings
 mod controller; // controller.rt: errors, torques and rates
+mod lent; // lent.rt: the shield's step over a lent shield
 mod set; // set.rt: the recoverable set and its margin
 mod shield; // shield.rt: the simplex shield, which picks the planner's command or the fallback
 mod vectors; // vectors.rt: vectors and 3x3 matrices
@@ -20,6 +21,7 @@ pub use attitude::thrust_axis_ned;
 pub use attitude::thrust_of;
 pub use controller::GeoAtt;
 pub use controller::GeoGains;
+pub use lent::Picked;
 pub use set::RecoverableSet;
 pub use shield::Shielded;
 pub use shield::SimplexShield;

@@ -15,3 +15,4 @@ pub mod Finite
 pub mod Squares
 pub mod Determined
 pub mod OneAnswer
+pub mod Lent

@@ -31,6 +31,7 @@ use denote.Signature.{plain}
 use denote.Steps.{only, opens, closes, owned, peeks, heard, nothing}
 use denote.Struct.Steps.{spelt}
 use denote.Struct.Laws as LL
+use Rattle.relay_math.proofs.Lent.{opened, answered, closed}
 use denote.Triple.Entry.{onEntry}
 use denote.Triple.Spec.{Meets, tripleOf}
 use denote.Triple.Statement.{Contract, Triple}
@@ -70,19 +71,25 @@ governed = LL.vals T.the-type T′.the-laws
 abbrev advanced : Advanced → List Val
 advanced = LL.vals N.the-type N′.the-laws
 
--- what the answer's parts are
-parts : (r : Advanced) (v : Val) → Is N.the-row r (v ∷ []) → Is T.the-row (r .governor) (governed (r .governor)) × Is f32 (r .time) (low (r .time))
-parts r v is = let each = LL.owed N.the-type N′.the-laws r (v ∷ []) is in (each .0, each .1 .0)
+-- the parts of what `advance` answers
+parts : (n : Advanced) → Is N.the-row n (advanced n) → Is T.the-row (n .governor) (governed (n .governor)) × Is f32 (n .time) (low (n .time))
+parts n is = let each = LL.owed N.the-type N′.the-laws n (advanced n) is in (each .0, each .1 .0)
 
 module _ {M : Type 1} (𝓤 : URA M) (H : Heap 𝓤) (A : Atoms 𝓤) (at-mem : Memory → SProp 𝓤) (run : Routine → Fun 𝓤) where
   -- the contract that the proof cites
   abbrev Advance : Contract 𝓤
   Advance = tripleOf 𝓤 H A advance.signature (advance.spec 𝓤 H A at-mem run)
 
-  advance-of : (h : RefGovernor) (err dt : Float) (r : Advanced) → ent 𝓤 (ensured 𝓤 H A advance.ended (advance.clauses 𝓤 H A at-mem run) tt (h, (err, (dt, tt))) tt r) (fact 𝓤 (r ≡ spec.advance h err dt))
-  advance-of h err dt r = exE 𝓤 _ (λ ws. snd∗ 𝓤 (sem 𝓤 H A (lasts advance.ended tt (h, (err, (dt, tt))) ws)) (fact 𝓤 (r ≡ spec.advance h err dt)))
+  abbrev Said : RefGovernor → Float → Float → Advanced → SProp 𝓤
+  Said h err dt r = ensured 𝓤 H A advance.ended (advance.clauses 𝓤 H A at-mem run) tt (h, (err, (dt, tt))) tt r
+
+  said : (h : RefGovernor) (err dt : Float) (r : Advanced) → ent 𝓤 (Said h err dt r) (fact 𝓤 (r ≡ spec.advance h err dt))
+  said h err dt r = exE 𝓤 _ (λ ws. snd∗ 𝓤 (sem 𝓤 H A (lasts advance.ended tt (h, (err, (dt, tt))) ws)) (fact 𝓤 (r ≡ spec.advance h err dt)))
 
 module _ {M : Type 1} (𝓤 : URA M) (H : Heap 𝓤) (A : Atoms 𝓤) (W : Given 𝓤 H A) (at-mem : Memory → SProp 𝓤) (run : Routine → Fun 𝓤) (κ : Lft) (q : Share) (b o : ℕ) (γ : GName) (h : RefGovernor) (err dt : Float) (is-err : Is f32 err (low err)) (is-dt : Is f32 dt (low dt)) where
+  abbrev n : Advanced
+  n = spec.advance h err dt
+
   abbrev x : Arg
   x = (record { ptr = (b, o); name = γ; now = h }, (err, (dt, tt)))
 
@@ -92,14 +99,13 @@ module _ {M : Type 1} (𝓤 : URA M) (H : Heap 𝓤) (A : Atoms 𝓤) (W : Given
   abbrev Post : Val → SProp 𝓤
   Post = walkOf 𝓤 H A lent.ended stayed (lent.clauses 𝓤 H A at-mem run) .post (((κ, tt), (q, tt), tt, x, at), tt)
 
-  exits : (r : Advanced) → r ≡ spec.advance h err dt → Is f32 (r .time) (low (r .time)) → ent 𝓤 (sep 𝓤 (A .obs γ (T.the-row .coded .code (r .governor))) (sep 𝓤 (A .bor κ (Body (mem T.the-row) b o γ)) (A .lft κ q))) (Post (vfloat binary32 (r .time)))
-  exits r e is =
-      qed W (‵ (fobs γ (T.the-row .coded .code (r .governor))) ∷ ‵ (fbor κ (Body (mem T.the-row) b o γ)) ∷ ‵ (flft κ q) ∷ []) ∵
-      suffices ! _ (ends-at 𝓤 H A lent.ended stayed (lent.clauses 𝓤 H A at-mem run) W (((κ, tt), (q, tt), tt, x, at), tt) (vfloat binary32 (r .time)) (r .time) (r .governor, (tt, (tt, tt))) (tt, (tt, (tt, tt)))) $
-      says ! (ap (λ (n : Advanced). n .time) e, ap (λ (n : Advanced). n .governor) e) $ nothing ! $ move ! (3 ∷ 0 ∷ []) $ join ! $
-      frame ! $ feqI ! (List Val) (vptr b o ∷ []) (vptr b o ∷ []) refl $ fjoin3 ! $
+  exits : Is f32 (n .time) (low (n .time)) → ent 𝓤 (sep 𝓤 (A .obs γ (T.the-row .coded .code (n .governor))) (sep 𝓤 (A .bor κ (Body (mem T.the-row) b o γ)) (A .lft κ q))) (Post (vfloat binary32 (n .time)))
+  exits is =
+      qed W (‵ (fobs γ (T.the-row .coded .code (n .governor))) ∷ ‵ (fbor κ (Body (mem T.the-row) b o γ)) ∷ ‵ (flft κ q) ∷ []) ∵
+      suffices ! _ (ends-at 𝓤 H A lent.ended stayed (lent.clauses 𝓤 H A at-mem run) W (((κ, tt), (q, tt), tt, x, at), tt) (vfloat binary32 (n .time)) (n .time) (n .governor, (tt, (tt, tt))) (tt, (tt, (tt, tt)))) $ says ! (refl, refl) $
+      nothing ! $ move ! (3 ∷ 0 ∷ []) $ join ! $ frame ! $ feqI ! (List Val) (vptr b o ∷ []) (vptr b o ∷ []) refl $ fjoin3 ! $
       nothing ! $ owned ! f32 (Is f32) (float-makes 𝓤 H A W binary32) dt _ is-dt $ fjoin ! $ owned ! f32 (Is f32) (float-makes 𝓤 H A W binary32) err _ is-err $ fjoin ! $ move ! (1 ∷ 0 ∷ []) $ fjoin ! $
-      owned ! f32 (Is f32) (float-makes 𝓤 H A W binary32) (r .time) _ is $ move ! (1 ∷ 0 ∷ []) $ done !
+      owned ! f32 (Is f32) (float-makes 𝓤 H A W binary32) (n .time) _ is $ move ! (1 ∷ 0 ∷ []) $ done !
 
   abbrev to-advance : Advance 𝓤 H A at-mem run .Ghost
   to-advance = ((tt, tt, tt, (h, (err, (dt, tt))), (governed h, (low err, (low dt, tt)))), tt)
@@ -115,25 +121,21 @@ module _ {M : Type 1} (𝓤 : URA M) (H : Heap 𝓤) (A : Atoms 𝓤) (W : Given
         qed W ((‵ (flft κ q) ⊛ ‵ ftrue) ∷ ‵ (owns (MutRef (named 0) κ T.the-row ∷ f32 ∷ f32 ∷ []) x at) ∷ []) ∵ enter ! C Λ code.function (vptr b o ∷ vfloat binary32 err ∷ vfloat binary32 dt ∷ []) _ $
         alloc1 ! (λ l₀. alloc1 ! (λ l₁. alloc1 ! (λ l₂. alloc1 ! (λ l₃. alloc1 ! (λ l₄. alloc1 ! (λ l₅. alloc0 ! $ params1 ! $
         pass1 ! (init ! 8 refl (tt, tt)) $ pass1 ! (init ! 6 refl (float-lawful 𝓤 H A W binary32 .typed err _ is-err .0)) $ pass1 ! (init ! 4 refl (float-lawful 𝓤 H A W binary32 .typed dt _ is-dt .0)) $ pass0 ! $
-        -- [_5; …; _4; …; _3; …; _2; …; _1; …; room for _0; …; the token; what the parameters own]
-        move ! (13 ∷ []) $ fsplit ! $ fsplit3 ! $ drop ! $ move ! (15 ∷ []) $ split ! $ move ! (2 ∷ 3 ∷ 0 ∷ []) $
-        opens ! tt T.the-row {h = h} b o (λ vs. spelt ! T.the-row (Is T.the-row) (shows 𝓤 H A T.the-row) governed (LL.tells T.the-type T′.the-laws) fullShare h vs b o $
-        move ! (1 ∷ []) $ peeks ! T.the-row (Is T.the-row) (shows 𝓤 H A T.the-row) h (governed h) (λ was. move ! (1 ∷ 0 ∷ []) $
-        -- [the governor's cell; what it owns; the open borrow; obs; auth; …; …; room for _5; …; room for _4; …; _3; …; _2; …; _1; …; room for _0; …]
-        assigns ! (of-opd ! (load ! (from ! (hop ! (look ! 15 refl) (stop !))) (look-raw ! 0 refl))) (from ! (stop !)) (init ! 7 refl (LL.lawful T.the-type T′.the-laws 𝓤 H A W .typed h _ was .0)) $
+        -- [_5; …; _4; …; _3; …; _2; …; _1; …; _0; …; the token; what the parameters own]
+        move ! (13 ∷ []) $ fsplit ! $ fsplit3 ! $ drop ! $ move ! (15 ∷ []) $ split ! $ move ! (2 ∷ 3 ∷ 0 ∷ []) $ opened T.the-type T′.the-laws ! tt h b o (λ was.
+        -- [the governor's cell; the open borrow; obs; auth; …; …; _5; …; _4; …; _3; …; _2; …; _1; …; _0; …]
+        assigns ! (of-opd ! (load ! (from ! (hop ! (look ! 14 refl) (stop !))) (look-raw ! 0 refl))) (from ! (stop !)) (init ! 6 refl (LL.lawful T.the-type T′.the-laws 𝓤 H A W .typed h _ was .0)) $
         use0 W (raw (Advance 𝓤 H A at-mem run .pre to-advance)) (goes-advance was) $
-        calls-at ! fm (Advance 𝓤 H A at-mem run) known to-advance (and-then ! (load ! (from ! (stop !)) (look ! 8 refl)) (and-then ! (load ! (from ! (stop !)) (look ! 14 refl)) (and-then ! (load ! (from ! (stop !)) (look ! 12 refl)) (no-more !)))) (λ v.
-        use1 W (later (some (λ (r : Advanced). (‵ ftrue ⊛ ‵ (N.the-row .own r (v ∷ []))) ⊛ raw (ensured 𝓤 H A advance.ended (advance.clauses 𝓤 H A at-mem run) tt (h, (err, (dt, tt))) tt r)))) (id⊢ 𝓤 _) $ await ! tt $ pick ! (λ r.
-        split ! $ move ! (1 ∷ []) $ use1 W (raw (fact 𝓤 (r ≡ spec.advance h err dt))) (advance-of 𝓤 H A at-mem run h err dt r) $ heard ! (r ≡ spec.advance h err dt) (λ e. split ! $ drop ! $
-        peeks ! N.the-row (Is N.the-row) (shows 𝓤 H A N.the-row) r (v ∷ []) (λ is.
-        land ! (from ! (stop !)) (init ! 10 refl (LL.lawful N.the-type N′.the-laws 𝓤 H A W .typed r _ is .0)) $ rewrite ! 10 (λ (u : Val). ‵ (fat fullShare N′.mir l₄ 0 u)) (ap only (LL.tells N.the-type N′.the-laws r _ is)) refl $
-        -- [what the answer owns; the governor's cell; …; as before, with _5 and _4 there]
-        assigns ! (of-opd ! (load ! (from ! (fld ! refl (stop !))) (look-in ! 10 (sub ! 0 refl (whole !))))) (from ! (hop ! (look ! 16 refl) (stop !))) (store-raw ! 1 refl (LL.lawful T.the-type T′.the-laws 𝓤 H A W .typed (r .governor) _ (parts r v is .0) .0)) $
-        assigns ! (of-opd ! (load ! (from ! (fld ! refl (stop !))) (look-in ! 10 (sub ! 1 refl (whole !))))) (from ! (stop !)) (init ! 18 refl (float-lawful 𝓤 H A W binary32 .typed (r .time) _ (parts r v is .1) .0)) $
-        drop ! $ move ! (1 ∷ []) $ drop ! $ owned ! T.the-row (Is T.the-row) (LL.makes T.the-type T′.the-plain 𝓤 H A) (r .governor) _ (parts r v is .0) $ move ! (1 ∷ 0 ∷ []) $ closes ! tt T.the-row (r .governor) (governed (r .governor)) b o $
+        calls-at ! fm (Advance 𝓤 H A at-mem run) known to-advance (and-then ! (load ! (from ! (stop !)) (look ! 7 refl)) (and-then ! (load ! (from ! (stop !)) (look ! 13 refl)) (and-then ! (load ! (from ! (stop !)) (look ! 11 refl)) (no-more !)))) (λ v.
+        use1 W (later (some (λ (r : Advanced). (‵ ftrue ⊛ ‵ (N.the-row .own r (v ∷ []))) ⊛ raw (Said 𝓤 H A at-mem run h err dt r)))) (id⊢ 𝓤 _) $
+        answered N.the-type N′.the-laws ! v n (Said 𝓤 H A at-mem run h err dt) (said 𝓤 H A at-mem run h err dt) (λ is.
+        land ! (from ! (stop !)) (init ! 8 refl (LL.lawful N.the-type N′.the-laws 𝓤 H A W .typed n _ is .0)) $
+        assigns ! (of-opd ! (load ! (from ! (fld ! refl (stop !))) (look-in ! 8 (sub ! 0 refl (whole !))))) (from ! (hop ! (look ! 14 refl) (stop !))) (store-raw ! 0 refl (LL.lawful T.the-type T′.the-laws 𝓤 H A W .typed (n .governor) _ (parts n is .0) .0)) $
+        assigns ! (of-opd ! (load ! (from ! (fld ! refl (stop !))) (look-in ! 8 (sub ! 1 refl (whole !))))) (from ! (stop !)) (init ! 16 refl (float-lawful 𝓤 H A W binary32 .typed (n .time) _ (parts n is .1) .0)) $
+        closed T.the-type T′.the-laws ! tt T′.the-plain (n .governor) b o (parts n is .0) $
         returns ! (look ! 15 refl) $ forget ! 5 refl $ forget ! 7 refl $ forget ! 9 refl $ forget ! 11 refl $ forget ! 13 refl $ forget ! 15 refl $
         move ! (15 ∷ 16 ∷ []) $ free1 ! $ move ! (13 ∷ 14 ∷ []) $ free1 ! $ move ! (11 ∷ 12 ∷ []) $ free1 ! $ move ! (9 ∷ 10 ∷ []) $ free1 ! $ move ! (7 ∷ 8 ∷ []) $ free1 ! $ move ! (5 ∷ 6 ∷ []) $ free1 ! $ free0 ! $
-        keep ! (0 ∷ 1 ∷ 2 ∷ []) $ by ! (exits r e (parts r v is .1))))))))))))))
+        keep ! (0 ∷ 1 ∷ 2 ∷ []) $ by ! (exits (parts n is .1)))))))))))
 
 module _ {M : Type 1} (𝓤 : URA M) (H : Heap 𝓤) (A : Atoms 𝓤) (W : Given 𝓤 H A) (at-mem : Memory → SProp 𝓤) (run : Routine → Fun 𝓤) where
   lent-walks : (C : Calls 𝓤 H) (Λ : Loops 𝓤 H) → FmC 𝓤 H (W .laws) C → Triple 𝓤 (C #advance) (Advance 𝓤 H A at-mem run) → Walks 𝓤 H A lent.ended stayed (WpFn 𝓤 H C Λ code.function) (lent.clauses 𝓤 H A at-mem run)

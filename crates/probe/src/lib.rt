@@ -2,6 +2,7 @@
 // A routine that may refuse answers by an enum, which no C call can return: here it is a struct with a flag (specs/Answers.antt).
 mod adrc; // adrc.rt: relay_adrc
 mod geo; // geo.rt: relay_geo
+mod lent; // lent.rt: the routines over a lent state
 mod numbers; // numbers.rt: relay_math
 mod pos; // pos.rt: relay_pos
 mod traj; // traj.rt: relay_traj

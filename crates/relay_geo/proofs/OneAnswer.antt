@@ -1,11 +1,12 @@
 -- Of each public function here: no second answer fits its promise. Assumes nothing.
 use mathlib.Core.Path.{refl}
-use Rattle.relay_math.proofs.Determined.{OneAnswer, no-second}
+use Rattle.relay_math.proofs.Determined.{OneAnswer, no-second, both}
 use Rattle.relay_geo.proofs.attitude
 use Rattle.relay_geo.proofs.controller
 use Rattle.relay_geo.proofs.set
 use Rattle.relay_geo.proofs.shield
 use Rattle.relay_geo.proofs.vectors
+use Rattle.relay_geo.proofs.lent
 
 pub quat-to-rotmat-once : OneAnswer attitude.quat_to_rotmat.ended attitude.quat_to_rotmat.Reads.Post
 quat-to-rotmat-once κs a x y v w p q = (no-second p q, refl)
@@ -135,3 +136,6 @@ vee-once κs a x y v w p q = (no-second p q, refl)
 
 pub sanitise3-once : OneAnswer vectors.sanitise3.ended vectors.sanitise3.Reads.Post
 sanitise3-once κs a x y v w p q = (no-second p q, refl)
+
+pub simplex-shield-step-lent-once : OneAnswer lent.SimplexShield.step_lent.ended lent.SimplexShield.step_lent.Reads.Post
+simplex-shield-step-lent-once κs a x y v w p q = (no-second (p .0) (q .0), both (no-second (p .1) (q .1)) refl)

@@ -1,14 +1,14 @@
 -- Document 01's worked figures, those marked *: 25 numbers, each beside what the definitions compute. Definitions only.
 use mathlib.Core.Path.{_≡_}
 use lib.Ieee.{Float, nan}
-use Rattle.relay_math.specs.F32.{f32, 0·0, 0·5, 1·0, 2·0, 3·0}
+use Rattle.relay_math.specs.F32.{f32, 0·0, 0·5, 1·0, 2·0, 3·0, ∞}
 use Rattle.relay_math.specs.Sqrt.{sqrtf}
 use Rattle.relay_geo.specs.declared.set.RecoverableSet.{RecoverableSet}
 use Rattle.relay_geo.specs.Set.{newSet, margin}
 use Rattle.relay_traj.specs.declared.quintic.Quintic.{Quintic}
 use Rattle.relay_traj.specs.declared.quintic.Sample.{Sample}
 use Rattle.relay_traj.specs.declared.governor.RefGovernor.{RefGovernor}
-use Rattle.relay_traj.specs.Quintic.{4·0, 5·0, ∞, quintic, eval, peakAbsJerk}
+use Rattle.relay_traj.specs.Quintic.{4·0, 5·0, quintic, eval, peakAbsJerk}
 use Rattle.relay_traj.specs.Governor.{governor, gate}
 use Rattle.relay_adrc.specs.declared.axis.AxisTick.{AxisTick}
 use Rattle.relay_adrc.specs.declared.filter.CommandFilter.{CommandFilter}

@@ -22,7 +22,11 @@ pub extern "C" fn probe_simplexshield_step_lent(
 }
 
 #[no_mangle]
-pub extern "C" fn probe_refgovernor_advance_lent(g: &mut RefGovernor, track_err: f32, dt: f32) -> f32
+pub extern "C" fn probe_refgovernor_advance_lent(
+    g: &mut RefGovernor,
+    track_err: f32,
+    dt: f32,
+) -> f32
     ensures { λ r. ⌜ (r ≡ advance (now (g .entry)) «track_err» dt .time)
         × (now (g .exit) ≡ advance (now (g .entry)) «track_err» dt .governor) ⌝ }
 {

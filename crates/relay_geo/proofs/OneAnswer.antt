@@ -6,7 +6,6 @@ use Rattle.relay_geo.proofs.controller
 use Rattle.relay_geo.proofs.set
 use Rattle.relay_geo.proofs.shield
 use Rattle.relay_geo.proofs.vectors
-use Rattle.relay_geo.proofs.lent
 
 pub quat-to-rotmat-once : OneAnswer attitude.quat_to_rotmat.ended attitude.quat_to_rotmat.Reads.Post
 quat-to-rotmat-once κs a x y v w p q = (no-second p q, refl)
@@ -137,5 +136,5 @@ vee-once κs a x y v w p q = (no-second p q, refl)
 pub sanitise3-once : OneAnswer vectors.sanitise3.ended vectors.sanitise3.Reads.Post
 sanitise3-once κs a x y v w p q = (no-second p q, refl)
 
-pub simplex-shield-step-lent-once : OneAnswer lent.SimplexShield.step_lent.ended lent.SimplexShield.step_lent.Reads.Post
+pub simplex-shield-step-lent-once : OneAnswer shield.SimplexShield.step_lent.ended shield.SimplexShield.step_lent.Reads.Post
 simplex-shield-step-lent-once κs a x y v w p q = (no-second (p .0) (q .0), both (no-second (p .1) (q .1)) refl)

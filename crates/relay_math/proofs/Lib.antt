@@ -1,4 +1,4 @@
--- The proofs: tests, order and grains of floats, the root, sine and cosine, laws for callers. What a function owes stands in the folder of its name.
+-- The proofs: tests, order and grains of floats, the root, sine and cosine, laws for callers, steps of a walk over a lent struct. What a function owes stands in the folder of its name.
 pub mod Tests
 pub mod Order
 pub mod Grains

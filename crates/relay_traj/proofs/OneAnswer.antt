@@ -4,7 +4,6 @@ use Rattle.relay_math.proofs.Determined.{OneAnswer, no-second, both}
 use Rattle.relay_traj.proofs.governor
 use Rattle.relay_traj.proofs.quintic
 use Rattle.relay_traj.proofs.segment
-use Rattle.relay_traj.proofs.lent
 
 pub low-end-once : OneAnswer governor.low_end.ended governor.low_end.Reads.Post
 low-end-once κs a x y v w p q = (no-second p q, refl)
@@ -84,5 +83,5 @@ segment3-eval-once κs a x y v w p q = (no-second p q, refl)
 pub segment3-peak-abs-jerk-once : OneAnswer segment.Segment3.peak_abs_jerk.ended segment.Segment3.peak_abs_jerk.Reads.Post
 segment3-peak-abs-jerk-once κs a x y v w p q = (no-second p q, refl)
 
-pub ref-governor-advance-lent-once : OneAnswer lent.RefGovernor.advance_lent.ended lent.RefGovernor.advance_lent.Reads.Post
+pub ref-governor-advance-lent-once : OneAnswer governor.RefGovernor.advance_lent.ended governor.RefGovernor.advance_lent.Reads.Post
 ref-governor-advance-lent-once κs a x y v w p q = (no-second (p .0) (q .0), both (no-second (p .1) (q .1)) refl)

@@ -203,6 +203,7 @@ mod ours {
         RecoverableSet { k_r: f32, lambda_j: f32, psi_max: f32 }
         SimplexShield { set: RecoverableSet, engaged: bool, enter: f32, exit: f32 }
         Shielded { shield: SimplexShield, command: BodyRate, fallback: bool }
+        Picked { command: BodyRate, fallback: bool }
         Quintic { c5: f32, c4: f32, c3: f32, c2: f32, c1: f32, c0: f32, t_end: f32 }
         Sample { p: f32, v: f32, a: f32, j: f32 }
         JerkCoeffs { jc2: f32, jc1: f32, jc0: f32 }

@@ -22,6 +22,7 @@ structs! {
     RecoverableSet { k_r: f32, lambda_j: f32, psi_max: f32 }
     SimplexShield { set: RecoverableSet, engaged: bool, enter: f32, exit: f32 }
     Shielded { shield: SimplexShield, command: BodyRate, fallback: bool }
+    Picked { command: BodyRate, fallback: bool }
 }
 
 calls! {
@@ -57,4 +58,5 @@ calls! {
     probe_simplexshield_fallback_engaged = simplexshield_fallback_engaged(s: SimplexShield) -> bool;
     probe_simplexshield_filter = simplexshield_filter(s: SimplexShield, psi: f32, e_omega_sq: f32, agile: BodyRate, fallback: BodyRate) -> Shielded;
     probe_simplexshield_step = simplexshield_step(s: SimplexShield, margin: f32, agile: BodyRate, fallback: BodyRate) -> Shielded;
+    probe_simplexshield_step_lent = simplexshield_step_lent(s: &mut SimplexShield, margin: f32, agile: BodyRate, fallback: BodyRate) -> Picked;
 }

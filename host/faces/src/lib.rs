@@ -17,7 +17,7 @@ macro_rules! calls {
         $(
             #[inline]
             pub fn $name($($given: $kind),*) -> $answer {
-                // SAFETY: numbers, flags and structs of them go in and out by value; the function is proved total.
+                // SAFETY: numbers, flags and structs of them go in and out by value, or are lent for the call; the function is proved total.
                 unsafe { raw::$symbol($($given),*) }
             }
         )*

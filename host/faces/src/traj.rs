@@ -32,6 +32,7 @@ calls! {
     probe_refgovernor_new = refgovernor_new(err_lo: f32, err_hi: f32, g_min: f32) -> RefGovernor;
     probe_refgovernor_gate = refgovernor_gate(g: RefGovernor, track_err: f32) -> f32;
     probe_refgovernor_advance = refgovernor_advance(g: RefGovernor, track_err: f32, dt: f32) -> Advanced;
+    probe_refgovernor_advance_lent = refgovernor_advance_lent(g: &mut RefGovernor, track_err: f32, dt: f32) -> f32;
     probe_refgovernor_time = refgovernor_time(g: RefGovernor) -> f32;
     probe_refgovernor_reset = refgovernor_reset(g: RefGovernor) -> RefGovernor;
 }

@@ -210,6 +210,21 @@ fn shields() -> Vec<Routine> {
             },
         )
         .near(margin_at_a_threshold),
+        Routine::new(
+            "SimplexShield::step, lent",
+            &with(&SHIELD, &[Part::Number(2.0), RATE, RATE]),
+            |i| {
+                let mut shield: geo::SimplexShield = i.get();
+                let answer = geo::simplexshield_step_lent(&mut shield, i.get(), i.get(), i.get());
+                (shield, answer)
+            },
+            |i| {
+                let mut shield: SimplexShield = i.get();
+                let answer = shield.step(i.get(), i.get(), i.get());
+                (shield, answer)
+            },
+        )
+        .near(margin_at_a_threshold),
     ]
 }
 

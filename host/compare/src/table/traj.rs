@@ -133,12 +133,22 @@ fn governors() -> Vec<Routine> {
                 (governor, time)
             },
         )
-        .near(|rng, words| {
-            governor_at_the_band(rng, words);
-            // times that no constructor makes, and times at which a tick is lost
-            words[0] = rng.of(&[words[0], -0.0, 16384.0, 32768.0, f32::MAX, f32::INFINITY]).unwrap_or(0.0);
-            words[5] = rng.of(&[words[5], 0.001, 0.0, -0.0, f32::MAX, f32::INFINITY, 1e-45]).unwrap_or(0.0);
-        }),
+        .near(governor_at_an_edge),
+        Routine::new(
+            "RefGovernor::advance, lent",
+            &with(&GOVERNOR, &[Part::Number(5.0), Part::Step]),
+            |i| {
+                let mut governor: traj::RefGovernor = i.get();
+                let time = traj::refgovernor_advance_lent(&mut governor, i.get(), i.get());
+                (governor, time)
+            },
+            |i| {
+                let mut governor: RefGovernor = i.get();
+                let time = governor.advance(i.get(), i.get());
+                (governor, time)
+            },
+        )
+        .near(governor_at_an_edge),
         Routine::new("RefGovernor::time", &GOVERNOR, |i| traj::refgovernor_time(i.get()), |i| i.get::<RefGovernor>().time()),
         Routine::new(
             "RefGovernor::reset",
@@ -187,6 +197,13 @@ fn at_the_band(rng: &mut Rng, err: &mut f32, lo: &mut f32, hi: &mut f32, g_min: 
     if rng.flag() {
         *g_min = rng.near_one(&[0.0, 1.0]);
     }
+}
+
+/// A tick at the band's edges, from times that no constructor makes, and times at which a tick is lost.
+fn governor_at_an_edge(rng: &mut Rng, words: &mut [f32]) {
+    governor_at_the_band(rng, words);
+    words[0] = rng.of(&[words[0], -0.0, 16384.0, 32768.0, f32::MAX, f32::INFINITY]).unwrap_or(0.0);
+    words[5] = rng.of(&[words[5], 0.001, 0.0, -0.0, f32::MAX, f32::INFINITY, 1e-45]).unwrap_or(0.0);
 }
 
 fn governor_at_the_band(rng: &mut Rng, words: &mut [f32]) {

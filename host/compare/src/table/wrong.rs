@@ -20,7 +20,7 @@ pub fn all() -> Vec<Routine> {
     [geometry(), shield(), trajectory(), control()].into_iter().flatten().flatten().collect()
 }
 
-pub const COUNT: usize = 30;
+pub const COUNT: usize = 32;
 
 fn geometry() -> Vec<Option<Routine>> {
     vec![
@@ -131,6 +131,10 @@ fn shield() -> Vec<Option<Routine>> {
             answer.shield.exit = shield.exit;
             answer
         }),
+        instead("SimplexShield::step, lent", "a lent shield left as it was", |i| {
+            let shield: geo::SimplexShield = i.get();
+            (shield, geo::simplexshield_step_lent(&mut { shield }, i.get(), i.get(), i.get()))
+        }),
     ]
 }
 
@@ -155,6 +159,10 @@ fn trajectory() -> Vec<Option<Routine>> {
             let (g, (err, dt)): (traj::RefGovernor, (f32, f32)) = i.get();
             let dt = if dt.is_finite() { dt.clamp(1e-4, 0.1) } else { 1e-3 };
             traj::refgovernor_advance(g, err, dt)
+        }),
+        instead("RefGovernor::advance, lent", "a lent governor left as it was", |i| {
+            let governor: traj::RefGovernor = i.get();
+            (governor, traj::refgovernor_advance_lent(&mut { governor }, i.get(), i.get()))
         }),
     ]
 }

@@ -6,7 +6,6 @@ use Rattle.probe.proofs.geo
 use Rattle.probe.proofs.numbers
 use Rattle.probe.proofs.pos
 use Rattle.probe.proofs.traj
-use Rattle.probe.proofs.lent
 
 pub probe-adrcgains-new-once : OneAnswer adrc.probe_adrcgains_new.ended adrc.probe_adrcgains_new.Reads.Post
 probe-adrcgains-new-once κs a x y v w p q = (no-second p q, refl)
@@ -268,9 +267,3 @@ probe-refgovernor-time-once κs a x y v w p q = (no-second p q, refl)
 
 pub probe-refgovernor-reset-once : OneAnswer traj.probe_refgovernor_reset.ended traj.probe_refgovernor_reset.Reads.Post
 probe-refgovernor-reset-once κs a x y v w p q = (no-second p q, refl)
-
-pub probe-simplexshield-step-lent-once : OneAnswer lent.probe_simplexshield_step_lent.ended lent.probe_simplexshield_step_lent.Reads.Post
-probe-simplexshield-step-lent-once κs a x y v w p q = (no-second (p .0) (q .0), both (no-second (p .1) (q .1)) refl)
-
-pub probe-refgovernor-advance-lent-once : OneAnswer lent.probe_refgovernor_advance_lent.ended lent.probe_refgovernor_advance_lent.Reads.Post
-probe-refgovernor-advance-lent-once κs a x y v w p q = (no-second (p .0) (q .0), both (no-second (p .1) (q .1)) refl)

@@ -1,9 +1,15 @@
 -- Of each public function here: no second answer fits its promise. Assumes nothing.
-use mathlib.Core.Path.{refl}
-use Rattle.relay_math.proofs.Determined.{OneAnswer, no-second, both}
+use mathlib.Core.Path.{_≡_, refl}
+use lib.Ieee.{Float}
+use Rattle.relay_math.proofs.Determined.{OneAnswer, no-second}
 use Rattle.relay_geo.proofs.attitude
 use Rattle.relay_geo.proofs.controller
 use Rattle.relay_geo.proofs.set
+use Rattle.relay_math.specs.declared.BodyRate.{BodyRate}
+use Rattle.relay_geo.specs.declared.shield.SimplexShield.{SimplexShield}
+use Rattle.relay_geo.specs.declared.lent.Picked.{Picked}
+use Rattle.relay_geo.specs.Shield.{step}
+use Rattle.relay_geo.specs.Lent.{pickedOf}
 use Rattle.relay_geo.proofs.shield
 use Rattle.relay_geo.proofs.vectors
 
@@ -136,5 +142,9 @@ vee-once κs a x y v w p q = (no-second p q, refl)
 pub sanitise3-once : OneAnswer vectors.sanitise3.ended vectors.sanitise3.Reads.Post
 sanitise3-once κs a x y v w p q = (no-second p q, refl)
 
-pub simplex-shield-step-lent-once : OneAnswer shield.SimplexShield.step_lent.ended shield.SimplexShield.step_lent.Reads.Post
-simplex-shield-step-lent-once κs a x y v w p q = (no-second (p .0) (q .0), both (no-second (p .1) (q .1)) refl)
+-- `step_lent` is walked by hand, so its contract has no name to state this of: here it is of the promise as it is written.
+pub step-lent-once : (s : SimplexShield) (margin : Float) (agile fallback : BodyRate) (x y : Picked) (v w : SimplexShield)
+    → (x ≡ pickedOf (step s margin agile fallback)) × (v ≡ step s margin agile fallback .shield)
+    → (y ≡ pickedOf (step s margin agile fallback)) × (w ≡ step s margin agile fallback .shield)
+    → (x ≡ y) × (v ≡ w)
+step-lent-once s margin agile fallback x y v w p q = (no-second (p .0) (q .0), no-second (p .1) (q .1))

@@ -1,6 +1,9 @@
 -- Of each public function here: no second answer fits its promise. Assumes nothing.
-use mathlib.Core.Path.{refl}
-use Rattle.relay_math.proofs.Determined.{OneAnswer, no-second, both}
+use mathlib.Core.Path.{_≡_, refl}
+use lib.Ieee.{Float}
+use Rattle.relay_math.proofs.Determined.{OneAnswer, no-second}
+use Rattle.relay_traj.specs.declared.governor.RefGovernor.{RefGovernor}
+use Rattle.relay_traj.specs.Governor.{advance}
 use Rattle.relay_traj.proofs.governor
 use Rattle.relay_traj.proofs.quintic
 use Rattle.relay_traj.proofs.segment
@@ -83,5 +86,9 @@ segment3-eval-once κs a x y v w p q = (no-second p q, refl)
 pub segment3-peak-abs-jerk-once : OneAnswer segment.Segment3.peak_abs_jerk.ended segment.Segment3.peak_abs_jerk.Reads.Post
 segment3-peak-abs-jerk-once κs a x y v w p q = (no-second p q, refl)
 
-pub ref-governor-advance-lent-once : OneAnswer governor.RefGovernor.advance_lent.ended governor.RefGovernor.advance_lent.Reads.Post
-ref-governor-advance-lent-once κs a x y v w p q = (no-second (p .0) (q .0), both (no-second (p .1) (q .1)) refl)
+-- `advance_lent` is walked by hand, so its contract has no name to state this of: here it is of the promise as it is written.
+pub advance-lent-once : (g : RefGovernor) (err dt x y : Float) (v w : RefGovernor)
+    → (x ≡ advance g err dt .time) × (v ≡ advance g err dt .governor)
+    → (y ≡ advance g err dt .time) × (w ≡ advance g err dt .governor)
+    → (x ≡ y) × (v ≡ w)
+advance-lent-once g err dt x y v w p q = (no-second (p .0) (q .0), no-second (p .1) (q .1))

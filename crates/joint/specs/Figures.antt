@@ -92,7 +92,7 @@ filter = filterNew 2·0 1·0 0·125
 -- ---- the table: the document's line, and under it a row for each of its numbers
 
 pub record StarredFigures : Type 0 where
-  -- "Root of 4 is 2; of bits 0x00000001 is 0x1A3504F3."
+  -- "Root of 4 is 2; of bits 0x00000001 is 0x1A3504F3." (That `sqrtf` gives the root is `is-root` of relay_math.)
   pub root-of-4 : sqrtf 4·0 ≡ 2·0
   pub root-of-the-least : sqrtf (f32 0x0000_0001) ≡ f32 0x1a35_04f3
   -- "Set (1, 1, 1.75): psi 0.25, squared rate 3 gives 0.5; psi 1.75, squared rate 0.5 gives 0."

@@ -1,4 +1,4 @@
-// `step` over a shield that the caller lends: the Rust's `&mut self`.
+// `step` once more, over a shield that the caller lends, as the Rust's `&mut self` has it: thin over the one by value, which does the work.
 use crate::shield::SimplexShield;
 use relay_math::BodyRate;
 ghost use mathlib.Core.Path.{_≡_};

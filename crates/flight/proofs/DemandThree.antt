@@ -20,7 +20,7 @@ use Rattle.joint.specs.Tick.{guidance, referenceAt}
 use Rattle.joint.specs.Runs.{Leads}
 use Rattle.joint.specs.Runs as run
 use Rattle.joint.proofs.Shielding.{tick-keeps-shield}
-use Rattle.joint.proofs.Runs.{tick-leads, then, run-leads, leads-flies}
+use Rattle.joint.proofs.Runs.{tick-leads, then, Lawful, run-leads, leads-flies}
 use Rattle.flight.specs.declared.entry.Outcome.the-variants.{Done}
 use Rattle.flight.specs.Layout.{ENTER, EXIT, IMAGE-BYTES, SETUP-BYTES}
 use Rattle.flight.specs.Image.{shieldAt, stateAt}
@@ -39,43 +39,52 @@ pub set-up-starts : (image setup : List ℕ) → length image ≡ IMAGE-BYTES �
 unfolding setUpCall setUpRefusal start
 set-up-starts image setup p q = rw (p, q)
 
-module _ (setup : List ℕ) where
-  pub start-accepted : Accepted (start setup)
-  unfolding start
-  start-accepted = set-up-never-refused setup
+pub start-accepted : (setup : List ℕ) → Accepted (start setup)
+unfolding start
+start-accepted setup = set-up-never-refused setup
 
-  pub start-engaged : shieldOf (start setup) .engaged ≡ true
-  unfolding start setUp
-  start-engaged =
-      let i = setupAt setup in
-      ap (λ (s : State). s .shield .engaged) (decode-encode (setUp i) (set-up-fits setup)) ∙ starts-engaged (i .set) (i .enter) (i .exit)
+pub start-engaged : (setup : List ℕ) → shieldOf (start setup) .engaged ≡ true
+unfolding start setUp
+start-engaged setup =
+    let i = setupAt setup in
+    ap (λ (s : State). s .shield .engaged) (decode-encode (setUp i) (set-up-fits setup)) ∙ starts-engaged (i .set) (i .enter) (i .exit)
 
+-- by calls of any kind E, each of which keeps the shield or steps it by its margin
+module _ {E : Type 0} (left : List ℕ → E → List ℕ) (margins : List ℕ → E → List Float) (law : Lawful left margins shieldOf Accepted) (setup : List ℕ) where
   -- after any calls the image is one that a tick takes, and its shield is where the margins led it
-  pub ran : (calls : List Event) → Accepted (imageAfter (start setup) calls) × Leads (marginsAlong (start setup) calls) (shieldOf (start setup)) (shieldOf (imageAfter (start setup) calls))
-  ran calls = run-leads leftBy marginsOf shieldOf Accepted lawful (start setup) calls start-accepted
+  pub ran : (calls : List E)
+      → let image = run.after left (start setup) calls in
+      Accepted image × Leads (run.marginsAlong left margins (start setup) calls) (shieldOf (start setup)) (shieldOf image)
+  ran calls = run-leads left margins shieldOf Accepted law (start setup) calls (start-accepted setup)
 
   -- every later image keeps the thresholds
-  pub thresholds-kept : (calls : List Event)
-      → (float (imageAfter (start setup) calls) ENTER ≡ enterOf setup) × (float (imageAfter (start setup) calls) EXIT ≡ exitOf setup)
+  pub keeps-thresholds : (calls : List E)
+      → let image = run.after left (start setup) calls in
+      (float image ENTER ≡ enterOf setup) × (float image EXIT ≡ exitOf setup)
   unfolding stateAt shieldAt
-  thresholds-kept calls = (ran calls .1 .enter, ran calls .1 .exit)
+  keeps-thresholds calls = (ran calls .1 .enter, ran calls .1 .exit)
 
   -- what a tick shows then, from any source of references
-  pub shows-then : (calls : List Event) (source : Float → Reference) (input : List ℕ)
-      → let image = imageAfter (start setup) calls in
+  pub shows-then : (calls : List E) (source : Float → Reference) (input : List ℕ)
+      → let image = run.after left (start setup) calls in
       let g = guidance source (stateAt image) (inputAt input) in
-      Shows (Flies (enterOf setup) (exitOf setup) (marginsAlong (start setup) calls ++ g .margin ∷ [])) input g
+      Shows (Flies (enterOf setup) (exitOf setup) (run.marginsAlong left margins (start setup) calls ++ g .margin ∷ [])) input g
       (called Done (leaves source image input) (answers source image input))
   unfolding stateAt shieldAt
   shows-then calls source input =
-      let image = imageAfter (start setup) calls in
+      let image = run.after left (start setup) calls in
       let s = stateAt image in
       let i = inputAt input in
       let led = then (ran calls .1) (tick-leads source s i) in
       let kept = ap (λ (h : SimplexShield). h .engaged) (tick-keeps-shield source s i) in
-      let flying : Type 0 = Flies (enterOf setup) (exitOf setup) (marginsAlong (start setup) calls ++ guidance source s i .margin ∷ []) in
-      let rule = leads-flies led start-engaged (in-order (start setup) start-accepted) in
+      let flying : Type 0 = Flies (enterOf setup) (exitOf setup) (run.marginsAlong left margins (start setup) calls ++ guidance source s i .margin ∷ []) in
+      let rule = leads-flies led (start-engaged setup) (in-order (start setup) (start-accepted setup)) in
       shows source image input flying (subst (λ (b : Bool). (b ≡ false) ↔ flying) kept rule)
+
+module _ (setup : List ℕ) where
+  pub thresholds-kept : (calls : List Event)
+      → (float (imageAfter (start setup) calls) ENTER ≡ enterOf setup) × (float (imageAfter (start setup) calls) EXIT ≡ exitOf setup)
+  thresholds-kept = keeps-thresholds leftBy marginsOf lawful setup
 
   -- ---- the demand
 
@@ -92,7 +101,7 @@ module _ (setup : List ℕ) where
   unfolding guided
   demand-three calls t r =
       let image = imageAfter (start setup) calls in
-      rw (done image t r (ran calls .0)) (shows-then calls (referenceAt (stateAt image .segment)) (t .input))
+      rw (done image t r (ran leftBy marginsOf lawful setup calls .0)) (shows-then leftBy marginsOf lawful setup calls (referenceAt (stateAt image .segment)) (t .input))
 
 -- ---- the same by places, for a list of ticks with right lengths
 

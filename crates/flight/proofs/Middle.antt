@@ -17,11 +17,11 @@ use Rattle.flight.specs.Layout.{FLAG, ENGAGED}
 use Rattle.flight.specs.Image.{shieldAt, stateAt}
 use Rattle.flight.specs.Calls.{inputAt}
 use Rattle.flight.specs.Entry.{Called, called, tickCall}
-use Rattle.flight.specs.Runs.{start, Given, Right, Event, Tick, callOf, leftBy, guided, imageAfter}
+use Rattle.flight.specs.Runs.{start, Given, Right, Event, Tick, callOf, leftBy, guided, marginsOf, imageAfter}
 use Rattle.flight.specs.DemandThree.{enterOf, exitOf, InBand}
 use Rattle.flight.proofs.Decoded.{engaged-written}
 use Rattle.flight.proofs.Going.{in-order, flag-of-image}
-use Rattle.flight.proofs.Shown.{shieldOf, leaves, answers, fellBack, flag-word, flag-zero, flag-one, done}
+use Rattle.flight.proofs.Shown.{shieldOf, leaves, answers, fellBack, flag-word, flag-zero, flag-one, lawful, done}
 use Rattle.flight.proofs.DemandThree.{start-accepted, start-engaged, ran}
 
 in-band : (enter exit m : Float) → InBand enter exit m → (b : Bool) → latch enter exit b m ≡ b
@@ -47,14 +47,14 @@ module _ (setup : List ℕ) where
     m = guided image (t .input) .margin
 
     done-here : call ≡ called Done (leaves (referenceAt (stateAt image .segment)) image (t .input)) (answers (referenceAt (stateAt image .segment)) image (t .input))
-    done-here = done image t r (ran setup calls .0)
+    done-here = done image t r (ran leftBy marginsOf lawful setup calls .0)
 
     -- the flag's word is the latch of the margin, by whoever had control before
     latched : word (call .answer) FLAG ≡ flag (latch (enterOf setup) (exitOf setup) (shieldOf image .engaged) m)
     unfolding guided stateAt shieldAt
     latched =
         let source = referenceAt (stateAt image .segment) in
-        let l = ran setup calls .1 in
+        let l = ran leftBy marginsOf lawful setup calls .1 in
         let e = tick-latch source (stateAt image) (inputAt (t .input)) ∙ same-latch (l .enter) (l .exit) (shieldOf image .engaged) m in
         ap (λ (c : Called). word (c .answer) FLAG) done-here ∙ flag-word source image (t .input) ∙ ap flag e
 
@@ -68,7 +68,7 @@ module _ (setup : List ℕ) where
 
     -- who had control before stands in the image
     before : word image ENGAGED ≡ flag (shieldOf image .engaged)
-    before = flag-of-image image (ran setup calls .0)
+    before = flag-of-image image (ran leftBy marginsOf lawful setup calls .0)
 
     -- Between the thresholds nothing changes hands: the flag is the image's.
     pub in-band-as-before : InBand (enterOf setup) (exitOf setup) m → word (call .answer) FLAG ≡ word image ENGAGED

@@ -6,7 +6,7 @@ use lib.Ieee.{Float}
 use lib.ListN.{length, getD, take}
 use Rattle.joint.specs.declared.stages.Guided.{Guided}
 use Rattle.joint.specs.SetUp.{setUp}
-use Rattle.joint.specs.Tick.{guidance, referenceAt}
+use Rattle.joint.specs.Tick.{guidance, referenceAt, tick}
 use Rattle.joint.specs.Runs as run
 use Rattle.flight.specs.declared.entry.Outcome.{Outcome}
 use Rattle.flight.specs.declared.entry.Outcome.the-variants.{Done, ImageLength, InputLength, AnswerLength, BrokenImage}
@@ -18,6 +18,10 @@ use Rattle.flight.specs.Entry.{Called, tickRefusal, tickCall}
 -- an image that a tick takes
 abbrev pub Accepted : List ℕ → Type 0
 Accepted image = tickRefusal image INPUT-BYTES ANSWER-BYTES ≡ Done
+
+-- the image that an accepted tick leaves
+unfoldable pub ticked : List ℕ → List ℕ → List ℕ
+ticked image input = imageOf (tick (stateAt image) (inputAt input) .state)
 
 -- a run starts at the image that set-up's definition makes, of any input at all
 unfoldable pub start : List ℕ → List ℕ

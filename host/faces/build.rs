@@ -1,15 +1,14 @@
 use std::path::Path;
 
-/// Links the proved archives. `make` builds them first; without them there is nothing to test.
+/// Links the test face. `make archives` builds it first; without it there is nothing to test.
 fn main() {
-    let root = Path::new(env!("CARGO_MANIFEST_DIR")).join("../../target/staticlib");
-    for name in ["fosavalo", "probe"] {
-        let archive = root.join(format!("lib{name}.a"));
-        println!("cargo:rerun-if-changed={}", archive.display());
-        if !archive.exists() {
-            panic!("{} is missing: run `make archives` first", archive.display());
-        }
-        println!("cargo:rustc-link-lib=static={name}");
+    let folder = Path::new(env!("CARGO_MANIFEST_DIR")).join("../../target/staticlib");
+    let archive = folder.join("libprobe.a");
+    println!("cargo:rerun-if-changed={}", archive.display());
+    if !archive.exists() {
+        eprintln!("{} is missing: run `make archives` at the top of the repository", archive.display());
+        std::process::exit(1);
     }
-    println!("cargo:rustc-link-search=native={}", root.display());
+    println!("cargo:rustc-link-search=native={}", folder.display());
+    println!("cargo:rustc-link-lib=static=probe");
 }

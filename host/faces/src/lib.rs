@@ -1,4 +1,4 @@
-//! The proved archives as safe Rust functions: `fosavalo` is what a simulator links, `probe` is the test face.
+//! The proved archives as safe Rust functions: `fosavalo`, what a simulator links, by its own crate, and `probe`, the test face.
 //! Nothing checks these declarations against the Rattle source but the tests that call them.
 //!
 //! The numbers of relay_math stand here; `geo`, `traj`, `adrc` and `pos` have the calls of those crates, a method `f` of a
@@ -43,6 +43,8 @@ pub mod geo;
 pub mod pos;
 pub mod traj;
 
+pub use fosavalo::calls::{cosf, setup, sinf, tick};
+
 /// Three numbers with no meaning of their own.
 #[repr(C)]
 #[derive(Clone, Copy, Debug)]
@@ -60,48 +62,12 @@ pub struct Torque(pub Vec3);
 
 mod raw {
     extern "C" {
-        pub fn fosavalo_sinf(x: f32) -> f32;
-        pub fn fosavalo_cosf(x: f32) -> f32;
-        pub fn fosavalo_setup(image: *mut u8, image_len: usize, input: *const u8, input_len: usize) -> u32;
-        pub fn fosavalo_tick(
-            image: *mut u8,
-            image_len: usize,
-            input: *const u8,
-            input_len: usize,
-            answer: *mut u8,
-            answer_len: usize,
-        ) -> u32;
         pub fn probe_sqrtf(x: f32) -> f32;
         pub fn probe_sincos(x: f32, sine: &mut f32) -> f32;
         pub fn probe_fabsf(x: f32) -> f32;
         pub fn probe_is_finite(x: f32) -> bool;
         pub fn probe_finite_or(x: f32, d: f32) -> f32;
     }
-}
-
-pub fn sinf(x: f32) -> f32 {
-    // SAFETY: a number in, a number out; the function is proved total.
-    unsafe { raw::fosavalo_sinf(x) }
-}
-
-pub fn cosf(x: f32) -> f32 {
-    // SAFETY: as above.
-    unsafe { raw::fosavalo_cosf(x) }
-}
-
-/// Writes a fresh image. Gives document 01's number; unless that is 0, nothing is changed.
-#[inline]
-pub fn setup(image: &mut [u8], input: &[u8]) -> u32 {
-    // SAFETY: each pointer goes with its slice's own length, the function is proved to stay within them, and borrowing keeps
-    // the slices apart.
-    unsafe { raw::fosavalo_setup(image.as_mut_ptr(), image.len(), input.as_ptr(), input.len()) }
-}
-
-/// One joint tick. Gives document 01's number; unless that is 0, nothing is changed.
-#[inline]
-pub fn tick(image: &mut [u8], input: &[u8], answer: &mut [u8]) -> u32 {
-    // SAFETY: as above.
-    unsafe { raw::fosavalo_tick(image.as_mut_ptr(), image.len(), input.as_ptr(), input.len(), answer.as_mut_ptr(), answer.len()) }
 }
 
 pub fn sqrtf(x: f32) -> f32 {

@@ -1,0 +1,96 @@
+use crate::words::Take;
+use crate::{calls, Answer, Pilot, Refusal, SetUp, TickInput, ANSWER_BYTES, IMAGE_BYTES};
+use std::fmt;
+
+/// The state that goes from tick to tick: 380 bytes that may be copied, stored and sent.
+///
+/// ```
+/// use fosavalo::{BodyRate, Image, Pilot, SetUp, TickInput};
+///
+/// let mut image = Image::set_up(&SetUp::falcon_quad())?; // enter 0.5, exit 1
+/// let mut fly = |rate| image.tick(&TickInput { gyro: BodyRate([rate, 0.0, 0.0]), ..TickInput::default() }).map(|a| (a.margin, a.pilot));
+///
+/// assert_eq!(fly(1.75)?, (0.9375, Pilot::Fallback)); // a fresh shield is engaged, and the band does not release it
+/// assert_eq!(fly(1.0)?, (1.75, Pilot::Planner)); // above exit
+/// assert_eq!(fly(1.75)?, (0.9375, Pilot::Planner)); // in the band nothing changes hands
+/// assert_eq!(fly(1.875)?, (0.484375, Pilot::Fallback)); // below enter
+/// # Ok::<(), fosavalo::Refusal>(())
+/// ```
+#[derive(Clone, PartialEq, Eq, Hash)]
+pub struct Image {
+    bytes: [u8; IMAGE_BYTES],
+}
+
+impl Image {
+    /// A fresh image. Today no set-up is refused.
+    pub fn set_up(set_up: &SetUp) -> Result<Self, Refusal> {
+        let mut bytes = [0; IMAGE_BYTES];
+        Refusal::check(calls::setup(&mut bytes, &set_up.to_bytes()))?;
+        Ok(Image { bytes })
+    }
+
+    /// An image from bytes; refused where these are not 380. Whether it is broken is found by the next tick.
+    ///
+    /// ```
+    /// use fosavalo::{Image, Refusal, TickInput};
+    ///
+    /// let mut blank = Image::from_bytes(&[0; 380])?;
+    /// assert_eq!(blank.tick(&TickInput::default()), Err(Refusal::BrokenImage));
+    /// assert_eq!(Image::from_bytes(&[0; 379]), Err(Refusal::ImageLength));
+    /// # Ok::<(), Refusal>(())
+    /// ```
+    pub fn from_bytes(bytes: &[u8]) -> Result<Self, Refusal> {
+        Ok(Image { bytes: bytes.try_into().map_err(|_| Refusal::ImageLength)? })
+    }
+
+    /// The bytes.
+    pub fn as_bytes(&self) -> &[u8; IMAGE_BYTES] {
+        &self.bytes
+    }
+
+    /// One tick. Where it is refused the image stays as it is.
+    pub fn tick(&mut self, input: &TickInput) -> Result<Answer, Refusal> {
+        let mut answer = [0; ANSWER_BYTES];
+        Refusal::check(calls::tick(&mut self.bytes, &input.to_bytes(), &mut answer))?;
+        Answer::from_bytes(&answer)
+    }
+
+    /// The lower threshold, as set-up left it.
+    pub fn enter(&self) -> f32 {
+        f32::from_bits(self.word(13))
+    }
+
+    /// The upper threshold, as set-up left it.
+    pub fn exit(&self) -> f32 {
+        f32::from_bits(self.word(14))
+    }
+
+    /// Who flew at the last tick; the fallback before the first.
+    pub fn pilot(&self) -> Pilot {
+        if self.word(15) == 0 {
+            Pilot::Planner
+        } else {
+            Pilot::Fallback
+        }
+    }
+
+    /// The time along the trajectory, s.
+    pub fn time(&self) -> f32 {
+        f32::from_bits(self.word(16))
+    }
+
+    fn word(&self, at: usize) -> u32 {
+        Take(self.bytes.get(4 * at..).unwrap_or_default()).word()
+    }
+}
+
+impl fmt::Debug for Image {
+    fn fmt(&self, f: &mut fmt::Formatter<'_>) -> fmt::Result {
+        f.debug_struct("Image")
+            .field("enter", &self.enter())
+            .field("exit", &self.exit())
+            .field("pilot", &self.pilot())
+            .field("time", &self.time())
+            .finish_non_exhaustive()
+    }
+}

@@ -1,0 +1,55 @@
+//! A proved flight core for camera quadrotors: a shield that decides at each tick whether the planner or a fallback flies, with the
+//! attitude, trajectory and rate control around it.
+//!
+//! ```
+//! use fosavalo::{Image, Pilot, SetUp, TickInput};
+//!
+//! // the state that goes from tick to tick: 380 bytes, nothing allocated
+//! let mut image = Image::set_up(&SetUp::falcon_quad())?;
+//!
+//! // level and still: the margin is far above `exit`, so the planner flies
+//! let answer = image.tick(&TickInput::default())?;
+//! assert_eq!(answer.pilot, Pilot::Planner);
+//! assert_eq!(answer.margin, 1.75);
+//! # Ok::<(), fosavalo::Refusal>(())
+//! ```
+//!
+//! What is proved holds for every bit of every number here: nothing panics, a NaN is an input like any other, and what each call
+//! answers is one equation (`docs/THEOREMS.md` in the repository names the theorems). The rule that the shield keeps:
+//!
+//! > The planner flies at a tick exactly if some tick, this one or an earlier one, had a finite margin above `exit`, and no tick after
+//! > that one had a margin that was non-finite or below `enter`.
+//!
+//! | You have | You want |
+//! |---|---|
+//! | numbers | [`SetUp`], [`Image::set_up`], [`TickInput`], [`Image::tick`], [`Answer`] |
+//! | bytes of your own | [`calls`]: the C calls as they are, on slices |
+//! | a refusal's number | [`Refusal`] |
+//! | an angle | [`sinf`], [`cosf`] |
+//!
+//! Words are little-endian, floats as their bits; `include/fosavalo.h` is the same face for C. The crate has no dependency but
+//! `libfosavalo.a`, which `make archives` builds.
+
+#![warn(missing_docs)]
+
+pub mod calls;
+mod image;
+mod refusal;
+mod setup;
+mod tick;
+mod words;
+
+pub use calls::{cosf, sinf};
+pub use image::Image;
+pub use refusal::Refusal;
+pub use setup::{AdrcGains, Gains, Governor, GyroFilter, RecoverableSet, Segment, SetUp};
+pub use tick::{Answer, BodyRate, Pilot, TickInput, Torque};
+
+/// The length of an image.
+pub const IMAGE_BYTES: usize = 380;
+/// The length of what set-up is given.
+pub const SETUP_BYTES: usize = 200;
+/// The length of what a tick is given.
+pub const TICK_BYTES: usize = 68;
+/// The length of what a tick answers.
+pub const ANSWER_BYTES: usize = 40;

@@ -1,0 +1,78 @@
+use std::fmt;
+
+/// Why a call was refused: document 01's number, with its meaning in words. Where several hold it is the lowest. A refused call
+/// changed no byte.
+///
+/// ```
+/// use fosavalo::Refusal;
+///
+/// let refusal = Refusal::BrokenImage;
+/// assert_eq!(refusal.number(), 4);
+/// assert_eq!(refusal.to_string(), "refused (4): the image is none that set-up or a tick leaves");
+/// ```
+#[derive(Clone, Copy, Debug, PartialEq, Eq, Hash)]
+#[non_exhaustive]
+pub enum Refusal {
+    /// 1: the image is not 380 bytes long.
+    ImageLength,
+    /// 2: the input is not 200 bytes long at set-up, 68 at a tick.
+    InputLength,
+    /// 3: the answer is not 40 bytes long.
+    AnswerLength,
+    /// 4: no set-up and no tick leaves such an image.
+    BrokenImage,
+    /// A number that this version of the crate has no words for.
+    Other(u32),
+}
+
+impl Refusal {
+    /// What a call's number says: nothing for 0, else the refusal.
+    ///
+    /// ```
+    /// use fosavalo::Refusal;
+    ///
+    /// assert_eq!(Refusal::check(0), Ok(()));
+    /// assert_eq!(Refusal::check(2), Err(Refusal::InputLength));
+    /// assert_eq!(Refusal::check(77), Err(Refusal::Other(77)));
+    /// ```
+    pub fn check(number: u32) -> Result<(), Refusal> {
+        Err(match number {
+            0 => return Ok(()),
+            1 => Refusal::ImageLength,
+            2 => Refusal::InputLength,
+            3 => Refusal::AnswerLength,
+            4 => Refusal::BrokenImage,
+            other => Refusal::Other(other),
+        })
+    }
+
+    /// Document 01's number.
+    pub fn number(self) -> u32 {
+        match self {
+            Refusal::ImageLength => 1,
+            Refusal::InputLength => 2,
+            Refusal::AnswerLength => 3,
+            Refusal::BrokenImage => 4,
+            Refusal::Other(number) => number,
+        }
+    }
+
+    /// The meaning in words.
+    pub fn meaning(self) -> &'static str {
+        match self {
+            Refusal::ImageLength => "the image is not 380 bytes long",
+            Refusal::InputLength => "the input is not 200 bytes long at set-up, 68 at a tick",
+            Refusal::AnswerLength => "the answer is not 40 bytes long",
+            Refusal::BrokenImage => "the image is none that set-up or a tick leaves",
+            Refusal::Other(_) => "a number that this version of the crate has no words for",
+        }
+    }
+}
+
+impl fmt::Display for Refusal {
+    fn fmt(&self, f: &mut fmt::Formatter<'_>) -> fmt::Result {
+        write!(f, "refused ({}): {}", self.number(), self.meaning())
+    }
+}
+
+impl std::error::Error for Refusal {}

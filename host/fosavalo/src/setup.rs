@@ -1,0 +1,172 @@
+use crate::words::{Put, Take};
+use crate::{Refusal, SETUP_BYTES};
+
+/// Gains of the attitude controller, axis by axis.
+#[derive(Clone, Copy, Debug, PartialEq)]
+pub struct Gains {
+    /// Attitude gains. The fallback's rate command is minus these times the attitude error (twice the sine of the angle).
+    pub k_r: [f32; 3],
+    /// Rate gains.
+    pub k_omega: [f32; 3],
+    /// Inertia, kg m².
+    pub j: [f32; 3],
+}
+
+/// What the margin is measured against: the smaller of `psi_max - psi` and `2 k_r (2 - psi) / lambda_j - |rate|²`, where psi is one
+/// minus the cosine of the angle between the attitude and the wanted one.
+#[derive(Clone, Copy, Debug, PartialEq)]
+pub struct RecoverableSet {
+    /// The attitude gain that the set was worked out with.
+    pub k_r: f32,
+    /// The largest inertia; a set whose `lambda_j` is not finite and above 0 has margin minus infinity.
+    pub lambda_j: f32,
+    /// The psi at which nothing is left.
+    pub psi_max: f32,
+}
+
+/// Slows the clock of the trajectory as the tracking error grows from `err_lo` to `err_hi`, to `g_min` of its pace.
+#[derive(Clone, Copy, Debug, PartialEq)]
+pub struct Governor {
+    /// Up to this error, in metres, the clock keeps its full pace.
+    pub err_lo: f32,
+    /// From this error on it keeps the least.
+    pub err_hi: f32,
+    /// The least pace, 0 to 1.
+    pub g_min: f32,
+}
+
+/// A flight from one state to another along a quintic on each axis: north, east, down, in metres and seconds.
+#[derive(Clone, Copy, Debug, PartialEq)]
+pub struct Segment {
+    /// Position at the start.
+    pub p0: [f32; 3],
+    /// Velocity at the start.
+    pub v0: [f32; 3],
+    /// Acceleration at the start.
+    pub a0: [f32; 3],
+    /// Position at the end.
+    pub pf: [f32; 3],
+    /// Velocity at the end.
+    pub vf: [f32; 3],
+    /// Acceleration at the end.
+    pub af: [f32; 3],
+    /// The duration.
+    pub t: f32,
+}
+
+/// Gains of the rate controller of one axis.
+#[derive(Clone, Copy, Debug, PartialEq)]
+pub struct AdrcGains {
+    /// The observer's bandwidth, rad/s.
+    pub omega_o: f32,
+    /// The controller's bandwidth, rad/s.
+    pub omega_c: f32,
+    /// Angular acceleration for one unit of torque, rad/s².
+    pub b0: f32,
+    /// The motors' lag, s.
+    pub tau: f32,
+}
+
+/// The low-pass filter of the gyro. It passes everything unless `fc > 0`, `fs > 0` and `fc < fs / 2`.
+#[derive(Clone, Copy, Debug, PartialEq)]
+pub struct GyroFilter {
+    /// The cut-off, Hz.
+    pub fc: f32,
+    /// Ticks a second.
+    pub fs: f32,
+}
+
+/// All that a flight is set up with. Every bit pattern is taken; what is no use is mended.
+///
+/// ```
+/// use fosavalo::{Image, SetUp};
+///
+/// // thresholds that are none: enter becomes 0.1, exit twice that
+/// let image = Image::set_up(&SetUp { enter: f32::NAN, exit: -1.0, ..SetUp::falcon_quad() })?;
+/// assert_eq!((image.enter(), image.exit()), (0.1, 0.2));
+/// # Ok::<(), fosavalo::Refusal>(())
+/// ```
+#[derive(Clone, Copy, Debug, PartialEq)]
+pub struct SetUp {
+    /// Gains of the attitude controller.
+    pub gains: Gains,
+    /// What the margin is measured against.
+    pub set: RecoverableSet,
+    /// Below this margin the fallback takes over. Kept if finite and above 0, else 0.1.
+    pub enter: f32,
+    /// Above this margin the planner gets control back. Kept if finite and above `enter`, else twice `enter`.
+    pub exit: f32,
+    /// The pace of the trajectory's clock.
+    pub governor: Governor,
+    /// The trajectory.
+    pub segment: Segment,
+    /// Roll, pitch and yaw.
+    pub adrc: [AdrcGains; 3],
+    /// The gyro's filter.
+    pub filter: GyroFilter,
+}
+
+impl SetUp {
+    /// relay's own gains for its quadrotor, hovering at the origin: a set of (1, 1, 1.75), enter 0.5, exit 1, no filter.
+    pub const fn falcon_quad() -> Self {
+        let tilt = AdrcGains { omega_o: 40.0, omega_c: 12.0, b0: 60.0, tau: 0.0125 };
+        SetUp {
+            gains: Gains { k_r: [0.6, 0.6, 0.15], k_omega: [0.12, 0.12, 0.35], j: [0.0217, 0.0217, 0.04] },
+            set: RecoverableSet { k_r: 1.0, lambda_j: 1.0, psi_max: 1.75 },
+            enter: 0.5,
+            exit: 1.0,
+            governor: Governor { err_lo: 0.2, err_hi: 1.0, g_min: 0.25 },
+            segment: Segment { p0: [0.0; 3], v0: [0.0; 3], a0: [0.0; 3], pf: [0.0; 3], vf: [0.0; 3], af: [0.0; 3], t: 1.0 },
+            adrc: [tilt, tilt, AdrcGains { omega_o: 30.0, omega_c: 3.0, b0: 18.0, tau: 0.025 }],
+            filter: GyroFilter { fc: 0.0, fs: 1000.0 },
+        }
+    }
+
+    /// The fifty words.
+    ///
+    /// ```
+    /// use fosavalo::SetUp;
+    ///
+    /// let set_up = SetUp::falcon_quad();
+    /// assert_eq!(SetUp::from_bytes(&set_up.to_bytes()), Ok(set_up));
+    /// ```
+    pub fn to_bytes(&self) -> [u8; SETUP_BYTES] {
+        let mut bytes = [0; SETUP_BYTES];
+        let mut to = Put::to(&mut bytes);
+        let (g, s) = (&self.gains, &self.segment);
+        [g.k_r, g.k_omega, g.j].into_iter().for_each(|v| to.floats(v));
+        to.floats([self.set.k_r, self.set.lambda_j, self.set.psi_max, self.enter, self.exit]);
+        to.floats([self.governor.err_lo, self.governor.err_hi, self.governor.g_min]);
+        [s.p0, s.v0, s.a0, s.pf, s.vf, s.af].into_iter().for_each(|v| to.floats(v));
+        to.floats([s.t]);
+        self.adrc.into_iter().for_each(|a| to.floats([a.omega_o, a.omega_c, a.b0, a.tau]));
+        to.floats([self.filter.fc, self.filter.fs]);
+        bytes
+    }
+
+    /// From fifty words; refused where these are not 200 bytes.
+    pub fn from_bytes(bytes: &[u8]) -> Result<Self, Refusal> {
+        if bytes.len() != SETUP_BYTES {
+            return Err(Refusal::InputLength);
+        }
+        let mut from = Take(bytes);
+        Ok(SetUp {
+            gains: Gains { k_r: from.floats(), k_omega: from.floats(), j: from.floats() },
+            set: RecoverableSet { k_r: from.float(), lambda_j: from.float(), psi_max: from.float() },
+            enter: from.float(),
+            exit: from.float(),
+            governor: Governor { err_lo: from.float(), err_hi: from.float(), g_min: from.float() },
+            segment: Segment {
+                p0: from.floats(),
+                v0: from.floats(),
+                a0: from.floats(),
+                pf: from.floats(),
+                vf: from.floats(),
+                af: from.floats(),
+                t: from.float(),
+            },
+            adrc: std::array::from_fn(|_| AdrcGains { omega_o: from.float(), omega_c: from.float(), b0: from.float(), tau: from.float() }),
+            filter: GyroFilter { fc: from.float(), fs: from.float() },
+        })
+    }
+}

@@ -1,0 +1,142 @@
+use crate::words::{Put, Take};
+use crate::{Refusal, ANSWER_BYTES, TICK_BYTES};
+
+/// An angular velocity about the body's axes, rad/s.
+#[derive(Clone, Copy, Debug, Default, PartialEq)]
+pub struct BodyRate(pub [f32; 3]);
+
+/// What the rate controller asks of the motors about the body's axes, in the unit of [`AdrcGains::b0`](crate::AdrcGains::b0).
+#[derive(Clone, Copy, Debug, Default, PartialEq)]
+pub struct Torque(pub [f32; 3]);
+
+/// Whose rate command is flown.
+#[derive(Clone, Copy, Debug, PartialEq, Eq, Hash)]
+pub enum Pilot {
+    /// The flag is 0.
+    Planner,
+    /// The flag is 1.
+    Fallback,
+}
+
+/// What a tick is given. Every bit pattern is taken.
+///
+/// ```
+/// use fosavalo::{BodyRate, TickInput};
+///
+/// let input = TickInput { planner: BodyRate([0.0, 0.0, 0.2]), yaw: 0.5, ..TickInput::default() };
+/// assert_eq!(TickInput::from_bytes(&input.to_bytes()), Ok(input));
+/// ```
+#[derive(Clone, Copy, Debug, PartialEq)]
+pub struct TickInput {
+    /// As measured, not filtered.
+    pub gyro: BodyRate,
+    /// The estimated attitude: a quaternion, w x y z.
+    pub attitude: [f32; 4],
+    /// How far the aircraft is from the trajectory, in metres.
+    pub tracking_error: f32,
+    /// The wanted heading, rad. One that is no number, or beyond 128 in size, leaves no wanted attitude: the fallback flies.
+    pub yaw: f32,
+    /// Its rate, rad/s.
+    pub yaw_rate: f32,
+    /// Since the last tick, s.
+    pub dt: f32,
+    /// What the planner wants.
+    pub planner: BodyRate,
+    /// Which part of the last answer's torque the motors delivered, 0 to 1 on each axis.
+    pub delivered: [f32; 3],
+}
+
+impl Default for TickInput {
+    /// Level and still at a millisecond's step, the planner wanting nothing, everything delivered.
+    fn default() -> Self {
+        TickInput {
+            gyro: BodyRate::default(),
+            attitude: [1.0, 0.0, 0.0, 0.0],
+            tracking_error: 0.0,
+            yaw: 0.0,
+            yaw_rate: 0.0,
+            dt: 0.001,
+            planner: BodyRate::default(),
+            delivered: [1.0; 3],
+        }
+    }
+}
+
+impl TickInput {
+    /// The seventeen words.
+    pub fn to_bytes(&self) -> [u8; TICK_BYTES] {
+        let mut bytes = [0; TICK_BYTES];
+        let mut to = Put::to(&mut bytes);
+        to.floats(self.gyro.0);
+        to.floats(self.attitude);
+        to.floats([self.tracking_error, self.yaw, self.yaw_rate, self.dt]);
+        to.floats(self.planner.0);
+        to.floats(self.delivered);
+        bytes
+    }
+
+    /// From seventeen words; refused where these are not 68 bytes.
+    pub fn from_bytes(bytes: &[u8]) -> Result<Self, Refusal> {
+        if bytes.len() != TICK_BYTES {
+            return Err(Refusal::InputLength);
+        }
+        let mut from = Take(bytes);
+        Ok(TickInput {
+            gyro: BodyRate(from.floats()),
+            attitude: from.floats(),
+            tracking_error: from.float(),
+            yaw: from.float(),
+            yaw_rate: from.float(),
+            dt: from.float(),
+            planner: BodyRate(from.floats()),
+            delivered: from.floats(),
+        })
+    }
+}
+
+/// What a tick answers. Torque and command are finite; the time and the margin are never NaN.
+#[derive(Clone, Copy, Debug, PartialEq)]
+pub struct Answer {
+    /// For the motors.
+    pub torque: Torque,
+    /// The rate that is flown: the pilot's command, its non-finite numbers made zero.
+    pub command: BodyRate,
+    /// Whose it is.
+    pub pilot: Pilot,
+    /// The time along the trajectory, s; it may reach +infinity.
+    pub time: f32,
+    /// One minus the cosine of the attitude's error; NaN where there is no wanted attitude.
+    pub psi: f32,
+    /// What is left before the set is lost; minus infinity where that is not known.
+    pub margin: f32,
+}
+
+impl Answer {
+    /// The ten words.
+    pub fn to_bytes(&self) -> [u8; ANSWER_BYTES] {
+        let mut bytes = [0; ANSWER_BYTES];
+        let mut to = Put::to(&mut bytes);
+        to.floats(self.torque.0);
+        to.floats(self.command.0);
+        to.word(u32::from(self.pilot == Pilot::Fallback));
+        to.floats([self.time, self.psi, self.margin]);
+        bytes
+    }
+
+    /// From ten words; refused where these are not 40 bytes. A flag that is neither 0 nor 1, which no tick writes, counts as the
+    /// fallback's.
+    pub fn from_bytes(bytes: &[u8]) -> Result<Self, Refusal> {
+        if bytes.len() != ANSWER_BYTES {
+            return Err(Refusal::AnswerLength);
+        }
+        let mut from = Take(bytes);
+        Ok(Answer {
+            torque: Torque(from.floats()),
+            command: BodyRate(from.floats()),
+            pilot: if from.word() == 0 { Pilot::Planner } else { Pilot::Fallback },
+            time: from.float(),
+            psi: from.float(),
+            margin: from.float(),
+        })
+    }
+}

@@ -1,0 +1,108 @@
+//! Any bytes at all: nothing panics, what is written is read back, and the typed calls are the C calls.
+
+use fosavalo::{calls, Answer, Image, Refusal, SetUp, TickInput, ANSWER_BYTES, IMAGE_BYTES, SETUP_BYTES, TICK_BYTES};
+
+/// Bytes that look like anything: random ones, with words of special floats among them.
+struct Bytes(u64);
+
+impl Bytes {
+    fn next(&mut self) -> u64 {
+        self.0 = self.0.wrapping_add(0x9e37_79b9_7f4a_7c15);
+        let x = (self.0 ^ (self.0 >> 30)).wrapping_mul(0xbf58_476d_1ce4_e5b9);
+        let x = (x ^ (x >> 27)).wrapping_mul(0x94d0_49bb_1331_11eb);
+        x ^ (x >> 31)
+    }
+
+    fn fill(&mut self, bytes: &mut [u8]) {
+        const SPECIAL: [u32; 8] = [0, 0x8000_0000, 0x7fc0_0000, 0xff80_0001, 0x7f80_0000, 0xff80_0000, 0x3f80_0000, 0x0000_0001];
+        for four in bytes.chunks_exact_mut(4) {
+            let x = self.next();
+            let word = if x & 3 == 0 { SPECIAL[(x >> 8) as usize % SPECIAL.len()] } else { (x >> 32) as u32 };
+            four.copy_from_slice(&word.to_le_bytes());
+        }
+    }
+}
+
+#[test]
+fn words_go_there_and_back() {
+    let mut rng = Bytes(1);
+    let (mut set_up, mut tick, mut answer) = ([0; SETUP_BYTES], [0; TICK_BYTES], [0; ANSWER_BYTES]);
+    for _ in 0..100_000 {
+        rng.fill(&mut set_up);
+        rng.fill(&mut tick);
+        rng.fill(&mut answer);
+        answer[24..28].copy_from_slice(&((rng.next() & 1) as u32).to_le_bytes());
+        assert_eq!(SetUp::from_bytes(&set_up).map(|s| s.to_bytes()), Ok(set_up));
+        assert_eq!(TickInput::from_bytes(&tick).map(|t| t.to_bytes()), Ok(tick));
+        assert_eq!(Answer::from_bytes(&answer).map(|a| a.to_bytes()), Ok(answer));
+    }
+}
+
+#[test]
+fn the_typed_calls_are_the_c_calls() {
+    let mut rng = Bytes(2);
+    let (mut set_up, mut tick) = ([0; SETUP_BYTES], [0; TICK_BYTES]);
+    for _ in 0..2_000 {
+        rng.fill(&mut set_up);
+        let mut bytes = [0xa5; IMAGE_BYTES];
+        assert_eq!(calls::setup(&mut bytes, &set_up), 0);
+        let mut image = SetUp::from_bytes(&set_up).and_then(|s| Image::set_up(&s)).expect("no set-up is refused");
+        assert_eq!(image.as_bytes(), &bytes);
+        for _ in 0..20 {
+            rng.fill(&mut tick);
+            let mut answer = [0xa5; ANSWER_BYTES];
+            assert_eq!(calls::tick(&mut bytes, &tick, &mut answer), 0);
+            let typed = TickInput::from_bytes(&tick).and_then(|t| image.tick(&t)).expect("no tick from set-up is refused");
+            assert_eq!(typed.to_bytes(), answer);
+            assert_eq!(image.as_bytes(), &bytes);
+            assert_eq!((image.pilot(), image.time().to_bits()), (typed.pilot, typed.time.to_bits()));
+        }
+    }
+}
+
+/// Images of any bytes: a tick answers or refuses with 4, and then nothing is changed.
+#[test]
+fn images_of_any_bytes() {
+    let mut rng = Bytes(3);
+    let (mut bytes, mut refused) = ([0; IMAGE_BYTES], 0);
+    for round in 0..100_000 {
+        if round % 2 == 0 {
+            rng.fill(&mut bytes);
+        } else {
+            // a whole image with one word replaced
+            calls::setup(&mut bytes, &SetUp::falcon_quad().to_bytes());
+            let at = 4 * (rng.next() % (IMAGE_BYTES as u64 / 4)) as usize;
+            rng.fill(&mut bytes[at..at + 4]);
+        }
+        let mut image = Image::from_bytes(&bytes).expect("it is 380 bytes long");
+        let _ = format!("{image:?} {} {} {}", image.enter(), image.exit(), image.time());
+        if let Err(refusal) = image.tick(&TickInput::default()) {
+            assert_eq!(refusal, Refusal::BrokenImage);
+            assert_eq!(image.as_bytes(), &bytes);
+            refused += 1;
+        }
+    }
+    assert!((50_000..60_000).contains(&refused), "{refused}");
+}
+
+#[test]
+fn wrong_lengths() {
+    for n in 0..500 {
+        let bytes = vec![0; n];
+        assert_eq!(Image::from_bytes(&bytes).is_ok(), n == IMAGE_BYTES);
+        assert_eq!(SetUp::from_bytes(&bytes).is_ok(), n == SETUP_BYTES);
+        assert_eq!(TickInput::from_bytes(&bytes).is_ok(), n == TICK_BYTES);
+        assert_eq!(Answer::from_bytes(&bytes).is_ok(), n == ANSWER_BYTES);
+    }
+}
+
+/// Every number has words, and the number is kept.
+#[test]
+fn refusals() {
+    assert_eq!(Refusal::check(0), Ok(()));
+    for number in (1..20).chain([u32::MAX]) {
+        let refusal = Refusal::check(number).expect_err("a number above 0 is a refusal");
+        assert_eq!(refusal.number(), number);
+        assert!(refusal.to_string().contains(&format!("({number}): ")));
+    }
+}

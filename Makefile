@@ -1,21 +1,33 @@
-# make table       build the proved archives, and print roots, sines and cosines beside the hardware's and document 01's
+# make fly         prove and build the core, then fly a slow pass above a stage: a table and a picture, our shield beside the earlier rule
+#                  `make fly SCENARIO=my.txt` flies that file instead (docs/FLYING.md); INSTALL=no installs nothing for the picture
 # make test        the gate: proofs, must-fail edits, programs, the host's comparisons; its last line is `N passed, 0 failed`
+# make table       roots, sines and cosines beside the hardware's and document 01's
 # make exhaustive  every f32 (some minutes)
 # make routines    every routine beside the Rust's, ROWS rows of input each: `make routines ROWS=100000000` (without it, the gate's million)
 # make ticks       the joint tick beside the Rust's calls, TICKS accepted ticks: `make ticks TICKS=100000000` (without it, the gate's five million)
 # make bench       times, as ratios to the other side in one run
-.PHONY: table test archives exhaustive routines ticks bench clean
+# make docs        the safe crate's pages, host/target/doc/fosavalo/index.html
+.PHONY: fly test table archives core exhaustive routines ticks bench docs clean
 
-HOST = cd host && cargo
+CARGO = cargo
+HOST = cd host && $(CARGO)
 
-table: archives
-	@$(HOST) run --release --offline --quiet --bin table
+fly: core
+	@$(CARGO) build --manifest-path host/Cargo.toml --release --offline --package fly
+	@INSTALL=$(INSTALL) tools/gnuplot
+	@echo && host/target/release/fly $(SCENARIO)
 
 test:
 	@tools/gate
 
+core:
+	@tools/archives fosavalo
+
 archives:
 	@tools/archives
+
+table: archives
+	@$(HOST) run --release --offline --quiet --bin table
 
 exhaustive: archives
 	@$(HOST) run --release --offline --quiet --bin exhaustive
@@ -28,6 +40,9 @@ ticks: archives
 
 bench: archives
 	@$(HOST) run --release --offline --quiet --bin bench
+
+docs: core
+	@$(HOST) doc --release --offline --no-deps --package fosavalo
 
 clean:
 	rm -rf target host/target

@@ -1,0 +1,93 @@
+# Draws a flight, for gnuplot 5.2 or later. `fly` says before it what `stem` (of the files), `terminal` (svg or png), `title`, the
+# thresholds, the range of margins and the rest are. One row for each rule: the whole flight at the left, a tenth of a second tick by tick at the right.
+
+planner = "#2a9d8f"
+fallback = "#e76f51"
+ink = "#264653"
+grey = "#6b7780"
+band = "#fbf3dc"
+
+if (terminal eq "svg") {
+    dot = 0.35
+    set terminal svg size 1200,760 font "Helvetica,Arial,sans-serif,15" background "#ffffff" dynamic
+} else {
+    dot = 0.6
+    set terminal pngcairo size 1800,1140 font "Sans,10" fontscale 1.6 linewidth 1.5 background "#ffffff"
+}
+set output stem.".".terminal
+
+# a size of letters as the terminal counts it
+letters(px) = sprintf(",%g", terminal eq "svg" ? px : px / 1.5)
+
+height = most - least
+bottom = least - 0.20 * height
+top = most + 0.06 * height
+strip = bottom + 0.10 * height
+
+set multiplot
+set border 3 linecolor rgb grey
+set tics nomirror scale 0.5 textcolor rgb grey
+set grid noxtics noytics
+unset key
+set style fill solid 1.0 noborder
+set yrange [bottom:top]
+set ytics
+
+# the head: what it is, and what the colours mean
+set label 1 title at screen 0.055,0.962 font letters(20) textcolor rgb ink
+set object 1 rect from screen 0.055,0.895 to screen 0.075,0.915 fillcolor rgb planner fillstyle solid noborder
+set label 2 "the planner flies" at screen 0.081,0.905 textcolor rgb ink
+set object 2 rect from screen 0.215,0.895 to screen 0.235,0.915 fillcolor rgb fallback fillstyle solid noborder
+set label 3 "the fallback flies" at screen 0.241,0.905 textcolor rgb ink
+set object 3 rect from screen 0.385,0.895 to screen 0.405,0.915 fillcolor rgb band fillstyle solid border linecolor rgb "#e0d3a8"
+set label 4 "between the thresholds" at screen 0.411,0.905 textcolor rgb ink
+
+do for [row = 0:1] {
+    points = stem.(row == 0 ? "-shield.points" : "-earlier.points")
+    changes = row == 0 ? changes_shield : changes_earlier
+    rule = row == 0 ? "Our shield: back to the planner above exit" : "The earlier rule: back to the planner above enter"
+    set tmargin at screen (row == 0 ? 0.83 : 0.41)
+    set bmargin at screen (row == 0 ? 0.52 : 0.10)
+
+    # the whole flight
+    set lmargin at screen 0.075
+    set rmargin at screen 0.655
+    set xrange [0:seconds]
+    set xtics auto
+    set format x "%g"
+    set format y "%g"
+    set ylabel "margin" textcolor rgb grey offset 0.5,0
+    set xlabel (row == 1 ? "seconds" : "") textcolor rgb grey offset 0,0.3
+    set label 10 rule at graph 0,1.08 font letters(16) textcolor rgb ink
+    set label 11 sprintf("control changed hands %d times", changes) at graph 1,1.08 right font letters(16) textcolor rgb (row == 0 ? planner : fallback)
+    set label 12 sprintf("enter %g", enter) at graph 1.006, first enter left font letters(13) textcolor rgb grey
+    set label 13 (finite_exit ? sprintf("exit %g", exit) : "") at graph 1.006, first exit left font letters(13) textcolor rgb grey
+    set object 10 rect from graph 0, first enter to graph 1, first exit fillcolor rgb band fillstyle solid noborder behind
+    set object 11 rect from graph 0, first bottom to graph 1, first strip fillcolor rgb planner fillstyle solid noborder behind
+    set arrow 10 from graph 0, first enter to graph 1, first enter nohead linecolor rgb grey dashtype 2 linewidth 1 front
+    set arrow 11 from graph 0, first exit to graph 1, first exit nohead linecolor rgb (finite_exit ? grey : band) dashtype 2 linewidth 1 front
+    # no stretch so short that it cannot be seen
+    pixel = seconds / 1200
+    plot points index 1 using 1:(bottom):1:($2 - $1 > pixel || $2 == $1 ? $2 : $1 + pixel):(bottom):(strip) with boxxyerror linecolor rgb fallback, \
+         points index 0 using 1:2 with lines linecolor rgb ink linewidth 1
+
+    # a tenth of a second, tick by tick
+    unset label 11
+    unset label 12
+    unset label 13
+    set lmargin at screen 0.725
+    set rmargin at screen 0.975
+    set xrange [0:close_ms]
+    set xlabel (row == 1 ? "milliseconds" : "") textcolor rgb grey offset 0,0.3
+    set ylabel ""
+    set format y ""
+    set label 10 sprintf("from %.3f s, tick by tick", close_from) at graph 0,1.08 font letters(16) textcolor rgb ink
+    plot points index 2 using 1:(bottom):($1 - 0.52):($1 + 0.52):(bottom):($3 == 1 ? strip : NaN) with boxxyerror linecolor rgb fallback, \
+         points index 2 using 1:2 with lines linecolor rgb ink linewidth 1, \
+         points index 2 using 1:($3 == 1 ? $2 : NaN) with points pointtype 7 pointsize dot linecolor rgb fallback, \
+         points index 2 using 1:($3 == 0 ? $2 : NaN) with points pointtype 7 pointsize dot linecolor rgb planner
+    unset label
+    unset object
+    unset arrow
+}
+unset multiplot

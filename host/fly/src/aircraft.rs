@@ -1,0 +1,86 @@
+//! A quadrotor of about a kilogram: a rigid body, motors that lag and saturate, a gyro with noise, an attitude from that gyro.
+
+use crate::random::Random;
+use crate::vector::{add, axes, cross, dot, error, scale, sub, turned, Quat, M3, V3};
+
+pub const GRAVITY: f64 = 9.81;
+
+/// Inertia, kg m².
+const J: V3 = [0.0217, 0.0217, 0.04];
+/// Angular acceleration for one unit of torque, rad/s²; the controller believes 60, 60, 18.
+const EFFECT: V3 = [55.0, 55.0, 16.5];
+/// The motors' lag, s, and that of the thrust.
+const LAG: V3 = [0.0125, 0.0125, 0.025];
+const THRUST_LAG: f64 = 0.03;
+/// The most that the motors give.
+const MOST: V3 = [1.0, 1.0, 0.5];
+/// A load that hangs a little off the middle, rad/s².
+const IMBALANCE: V3 = [0.4, -0.3, 0.1];
+/// Deviation of the gyro's noise, rad/s: the sensor's own and the frame's shaking.
+const GYRO_NOISE: f64 = 0.02;
+/// How fast the estimate is drawn to the truth, 1/s (gravity and a compass would do it).
+const DRAWN: f64 = 0.5;
+/// Drag, 1/s.
+const DRAG: f64 = 0.15;
+
+const SUBSTEPS: usize = 4;
+
+pub struct Aircraft {
+    pub position: V3,
+    pub velocity: V3,
+    attitude: Quat,
+    rate: V3,
+    /// What the motors give now.
+    torque: V3,
+    thrust: f64,
+    estimate: Quat,
+}
+
+/// What the sensors say.
+pub struct Sensed {
+    pub gyro: V3,
+    pub attitude: Quat,
+}
+
+impl Aircraft {
+    /// Level and still.
+    pub fn at(position: V3) -> Self {
+        let level = [1.0, 0.0, 0.0, 0.0];
+        Aircraft { position, velocity: [0.0; 3], attitude: level, rate: [0.0; 3], torque: [0.0; 3], thrust: GRAVITY, estimate: level }
+    }
+
+    /// Reads the gyro and carries the estimate on.
+    pub fn sense(&mut self, dt: f64, random: &mut Random) -> Sensed {
+        let gyro = add(self.rate, random.normal3(GYRO_NOISE));
+        let off = error(&axes(self.estimate), &axes(self.attitude));
+        self.estimate = turned(self.estimate, scale(dt, sub(gyro, scale(DRAWN, off))));
+        Sensed { gyro, attitude: self.estimate }
+    }
+
+    /// Flies for dt with these commands; which part of the torque the motors can give.
+    pub fn fly(&mut self, torque: V3, thrust: f64, dt: f64) -> V3 {
+        let given: V3 = std::array::from_fn(|k| torque[k].clamp(-MOST[k], MOST[k]));
+        let h = dt / SUBSTEPS as f64;
+        for _ in 0..SUBSTEPS {
+            let spin: V3 = std::array::from_fn(|k| J[k] * self.rate[k]);
+            let gyroscopic = cross(self.rate, spin);
+            let [_, _, down]: M3 = axes(self.attitude);
+            let push = add([0.0, 0.0, GRAVITY], scale(-self.thrust, down));
+            self.position = add(self.position, scale(h, self.velocity));
+            self.velocity = add(self.velocity, scale(h, sub(push, scale(DRAG, self.velocity))));
+            self.attitude = turned(self.attitude, scale(h, self.rate));
+            for k in 0..3 {
+                self.rate[k] += h * (EFFECT[k] * self.torque[k] + IMBALANCE[k] - gyroscopic[k] / J[k]);
+                self.torque[k] += h * (given[k] - self.torque[k]) / LAG[k];
+            }
+            self.thrust += h * (thrust.clamp(0.0, 2.0 * GRAVITY) - self.thrust) / THRUST_LAG;
+        }
+        std::array::from_fn(|k| if given[k] == torque[k] { 1.0 } else { given[k] / torque[k] })
+    }
+
+    /// The thrust that gives this acceleration downwards, at the tilt as it is.
+    pub fn thrust_for(&self, down: f64) -> f64 {
+        let [_, _, b3] = axes(self.attitude);
+        (GRAVITY - down) / dot(b3, [0.0, 0.0, 1.0]).max(0.5)
+    }
+}

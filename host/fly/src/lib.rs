@@ -1,0 +1,11 @@
+//! Flights through the proved core: a slow pass in a closed loop, scenarios from files, what was flown as a table and as CSV.
+
+pub mod aircraft;
+pub mod flight;
+pub mod output;
+pub mod pass;
+pub mod planner;
+pub mod random;
+pub mod scenario;
+pub mod table;
+pub mod vector;

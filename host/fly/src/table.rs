@@ -1,0 +1,56 @@
+//! What happened, in a few lines.
+
+use crate::flight::{Flight, RULES};
+use crate::pass;
+use fosavalo::Refusal;
+use std::fmt::Write;
+
+/// Both rules on one line.
+pub struct Pair {
+    pub name: String,
+    /// In the order of `RULES`.
+    pub flights: [Flight; 2],
+}
+
+impl Pair {
+    pub fn new(name: impl Into<String>, fly: impl Fn(crate::flight::Rule) -> Result<Flight, Refusal>) -> Result<Self, Refusal> {
+        let [shield, earlier] = RULES;
+        Ok(Pair { name: name.into(), flights: [fly(shield)?, fly(earlier)?] })
+    }
+}
+
+/// The pass with every seed.
+pub fn passes() -> Result<Vec<Pair>, Refusal> {
+    pass::SEEDS.into_iter().map(|seed| Pair::new(format!("seed {seed}"), |rule| pass::fly(seed, rule))).collect()
+}
+
+pub fn table(title: &str, pairs: &[Pair]) -> String {
+    let mut text = format!("{title}\n\n");
+    let width = pairs.iter().map(|pair| pair.name.len()).max().unwrap_or(0).max(6);
+    let group = |text: &mut String, left: &str, right: &str| {
+        let line = format!("{:width$}   {left:^39}   {right:^39}", "");
+        let _ = writeln!(text, "{}", line.trim_end());
+    };
+    group(&mut text, "OUR SHIELD", "THE EARLIER RULE");
+    group(&mut text, "back to the planner above exit", "back to the planner above enter");
+    let head = format!("{:>7} {:>12} {:>9} {:>8}", "changes", "worst second", "planner", "jolts");
+    group(&mut text, &head, &head);
+    for pair in pairs {
+        let [ours, earlier] = &pair.flights;
+        let cells = |flight: &Flight| {
+            let (_, worst) = flight.busiest(1.0);
+            format!("{:7} {worst:12} {:7.1} % {:8.1}", flight.changes().len(), 100.0 * flight.planner_share(), flight.jolts())
+        };
+        let _ = writeln!(text, "{:width$}   {:^39}   {:^39}", pair.name, cells(ours), cells(earlier));
+    }
+    text.push_str(
+        "\nchanges: how often control changed hands; worst second: the most changes within one second; planner: its part of the\n\
+         ticks; jolts: by how much the commanded rate jumps from tick to tick, rad/s added up over a second.\n",
+    );
+    for flight in pairs.iter().flat_map(|pair| &pair.flights) {
+        if let Some(tick) = flight.strays() {
+            let _ = writeln!(text, "note: from tick {tick} on {:?} differs from its rule on the same margins", flight.rule);
+        }
+    }
+    text
+}

@@ -1,0 +1,105 @@
+//! Scenarios: what is read, and what is said of a bad one.
+
+use fly::flight::{Flight, Rule};
+use fly::scenario::{Scenario, MOST_TICKS};
+use fosavalo::Pilot;
+
+fn mistake(text: &str) -> String {
+    match Scenario::read(text.as_bytes()) {
+        Ok(_) => "none".to_string(),
+        Err(mistake) => mistake.to_string(),
+    }
+}
+
+#[test]
+fn mistakes_name_their_line_and_field() {
+    let field = "exit 1\n\ngyro";
+    assert_eq!(mistake(&format!("{field} 1 2\ntick 1")), "line 3: gyro: takes 3 numbers, here are 2");
+    assert_eq!(mistake(&format!("{field} 1 2 3 4 # four\ntick 1")), "line 3: gyro: takes 3 numbers, here are 4");
+    assert_eq!(mistake(&format!("{field} 1 2 o\ntick 1")), "line 3: gyro: `o` is no number");
+    assert_eq!(mistake("enter 1e39\ntick 1"), "line 1: enter: `1e39` is beyond f32; write inf or -inf");
+    assert_eq!(mistake("enter 0x123456789\ntick 1"), "line 1: enter: `0x123456789` is no pattern of 32 bits");
+    assert_eq!(mistake("enter 0x+1\ntick 1"), "line 1: enter: `0x+1` is no pattern of 32 bits");
+    assert_eq!(mistake("enter\ntick 1"), "line 1: enter: takes 1 number, here are 0");
+    assert_eq!(mistake("enter 1\nenter 2\ntick 1"), "line 2: enter: given before, in line 1");
+    assert_eq!(mistake("adrc_yaw 1 2 3 4\nadrc 1 2 3 4 1 2 3 4 1 2 3 4\ntick 1"), "line 2: adrc: given before, in line 1");
+    assert_eq!(mistake("tick 1\nenter 2\n"), "line 2: enter: belongs to the set-up, which stands before the first tick");
+    assert_eq!(mistake("tick\n"), "line 1: tick: how many? as in `tick 100`");
+    assert_eq!(mistake("tick -1\n"), "line 1: tick: `-1` is no whole number above 0");
+    assert_eq!(mistake("tick 0\n"), "line 1: tick: `0` is no whole number above 0");
+    assert_eq!(mistake("tick 5 gyro 1 2\n"), "line 1: gyro: takes 3 numbers, here are 2");
+    assert_eq!(mistake("tick 5 gyro 1 2 3 yaw\n"), "line 1: yaw: takes 1 number, here are 0");
+    assert!(mistake("tick 5 enter 1\n").starts_with("line 1: tick: `enter` is no field of an input; there are gyro, attitude, "));
+    assert_eq!(mistake("row 1 2 3\n"), "line 1: row: takes 17 numbers, here are 3");
+    assert!(mistake("\n\nGyro 0 0 0\n").starts_with("line 3: Gyro: no such field; there are k_r, "));
+    assert!(mistake("enter 0.5\n").starts_with("no ticks: "));
+    assert_eq!(mistake(&format!("tick {MOST_TICKS}\ntick 1")), "line 2: tick: more than 1000000 ticks in all");
+    assert_eq!(mistake("tick 99999999999999999999\n"), "line 1: tick: `99999999999999999999` is no whole number above 0");
+    assert_eq!(
+        Scenario::read(b"enter 1\n\xff\ntick 1\n").map(|_| ()).map_err(|m| m.to_string()),
+        Err("line 2: not UTF-8 text".to_string())
+    );
+    assert_eq!(mistake("\u{feff}enter 1\r\ntick 1\r\n"), "none");
+}
+
+#[test]
+fn what_is_read() {
+    let text = "enter 0x3f000000\nfc 80\nadrc_pitch 1 2 3 4\nyaw nan\ntick 2\nyaw 1\ntick 4 yaw 2 gyro 4 0 0 # evenly\n\
+                row 1 2 3 4 5 6 7 8 9 10 11 12 13 14 15 16 17";
+    let Scenario { set_up, inputs } = Scenario::read(text.as_bytes()).expect("it is a scenario");
+    assert_eq!((set_up.enter, set_up.exit, set_up.filter.fc, set_up.adrc[1].tau, set_up.adrc[2].b0), (0.5, 1.0, 80.0, 4.0, 18.0));
+    assert!(inputs[0].yaw.is_nan() && inputs[1].yaw.is_nan());
+    let led: Vec<(f32, f32)> = inputs[2..6].iter().map(|input| (input.yaw, input.gyro.0[0])).collect();
+    assert_eq!(led, [(1.25, 1.0), (1.5, 2.0), (1.75, 3.0), (2.0, 4.0)]);
+    let last = inputs[6];
+    assert_eq!(
+        (last.gyro.0, last.attitude, last.dt, last.planner.0, last.delivered),
+        ([1.0, 2.0, 3.0], [4.0, 5.0, 6.0, 7.0], 11.0, [12.0, 13.0, 14.0], [15.0, 16.0, 17.0])
+    );
+    assert_eq!(inputs.len(), 7);
+}
+
+/// Any bytes, and scenarios with a byte changed: a flight or a mistake, never a panic.
+#[test]
+fn any_bytes() {
+    let whole = include_bytes!("../scenarios/headings.txt");
+    let mut x = 1u64;
+    let mut random = || {
+        x = x.wrapping_mul(6364136223846793005).wrapping_add(1442695040888963407);
+        (x >> 33) as usize
+    };
+    for round in 0..3000 {
+        let mut bytes = whole.to_vec();
+        for _ in 0..1 + round % 5 {
+            let at = random() % bytes.len();
+            match random() % 3 {
+                0 => bytes[at] = random() as u8,
+                1 => drop(bytes.drain(at..(at + random() % 20).min(bytes.len()))),
+                _ => bytes.insert(at, b" \n#xn.-+e09"[random() % 11]),
+            }
+        }
+        if let Ok(scenario) = Scenario::read(&bytes) {
+            let few = &scenario.inputs[..scenario.inputs.len().min(1000)];
+            Flight::of(&scenario.set_up, Rule::Shield, few).expect("no set-up is refused");
+        }
+    }
+}
+
+/// The examples do what their comments say.
+#[test]
+fn the_examples() {
+    let pilots = |bytes: &[u8], rule| {
+        let scenario = Scenario::read(bytes).expect("it is a scenario");
+        let flight = Flight::of(&scenario.set_up, rule, &scenario.inputs).expect("no set-up is refused");
+        assert_eq!(flight.strays(), None);
+        flight
+    };
+    let band = include_bytes!("../scenarios/band.txt");
+    assert_eq!((pilots(band, Rule::Shield).changes().len(), pilots(band, Rule::Earlier).changes().len()), (7, 15));
+    let headings = pilots(include_bytes!("../scenarios/headings.txt"), Rule::Shield);
+    let flew: Vec<Pilot> = [100, 220, 300, 380, 450, 560].iter().map(|at| headings.ticks[*at].answer.pilot).collect();
+    use Pilot::{Fallback, Planner};
+    assert_eq!(flew, [Planner, Fallback, Planner, Fallback, Planner, Planner]);
+    assert_eq!(headings.ticks[450].answer.command.0, [0.0; 3]);
+    assert_eq!(headings.ticks.last().map(|tick| tick.answer.time), Some(f32::INFINITY));
+}

@@ -7,7 +7,8 @@
 # make ticks       the joint tick beside the Rust's calls, TICKS accepted ticks: `make ticks TICKS=100000000` (without it, the gate's five million)
 # make bench       times, as ratios to the other side in one run
 # make docs        the safe crate's pages, host/target/doc/fosavalo/index.html
-.PHONY: fly test table archives core exhaustive routines ticks bench docs clean
+# make map         docs/MAP.md anew, from the sources
+.PHONY: fly test table archives core exhaustive routines ticks bench docs map clean
 
 CARGO = cargo
 HOST = cd host && $(CARGO)
@@ -43,6 +44,9 @@ bench: archives
 
 docs: core
 	@$(HOST) doc --release --offline --no-deps --package fosavalo
+
+map:
+	@$(HOST) run --release --offline --quiet --bin map
 
 clean:
 	rm -rf target host/target

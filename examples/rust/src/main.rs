@@ -1,0 +1,44 @@
+//! Sets up an image, ticks it along a slow pass and prints who flies; then two calls that are refused.
+//!
+//!   make core && cargo run --offline --manifest-path examples/rust/Cargo.toml
+
+use fosavalo::{calls, BodyRate, GyroFilter, Image, Pilot, Refusal, Segment, SetUp, TickInput};
+
+/// Roll rates that take the margin above exit, into the band, below enter, into the band again and out at the top.
+const RATES: [f32; 8] = [1.8, 1.0, 1.75, 1.8, 1.9, 1.8, 1.75, 1.0];
+
+fn main() -> Result<(), Refusal> {
+    // three metres to the north in eight seconds, with no gyro filter
+    let set_up = SetUp {
+        segment: Segment { pf: [3.0, 0.0, 0.0], t: 8.0, ..SetUp::falcon_quad().segment },
+        filter: GyroFilter { fc: 0.0, fs: 1000.0 },
+        ..SetUp::falcon_quad()
+    };
+    let mut image = Image::set_up(&set_up)?;
+    println!("{image:?}");
+
+    for (tick, rate) in RATES.iter().enumerate() {
+        let input = TickInput {
+            gyro: BodyRate([*rate, 0.0, 0.0]),
+            tracking_error: 0.1,
+            planner: BodyRate([0.5, -0.25, 0.125]),
+            ..TickInput::default()
+        };
+        let answer = image.tick(&input)?;
+        let who = match answer.pilot {
+            Pilot::Planner => "planner",
+            Pilot::Fallback => "fallback",
+        };
+        println!("tick {}: margin {:7.4}, {who:8} flies {:?}, torque {:?}", tick + 1, answer.margin, answer.command.0, answer.torque.0);
+    }
+
+    // an image whose latch is neither 0 nor 1; then an answer that is too short, by the calls on bytes
+    let mut bytes = *image.as_bytes();
+    bytes[4 * 15] = 2;
+    let broken = Image::from_bytes(&bytes)?.tick(&TickInput::default());
+    println!("broken image: {}", broken.map_or_else(|refusal| refusal.to_string(), |_| "taken".to_string()));
+    let mut bytes = *image.as_bytes();
+    let number = calls::tick(&mut bytes, &TickInput::default().to_bytes(), &mut [0; 39]);
+    println!("answer of 39 bytes: {}, image {}", number, if &bytes == image.as_bytes() { "unchanged" } else { "CHANGED" });
+    Ok(())
+}

@@ -1,0 +1,360 @@
+//! docs/MAP.md: a line for each routine of the Rust, with our file, its promise and its tests, as the sources have them.
+
+use std::fmt::Write;
+use std::path::{Path, PathBuf};
+
+/// A module of the Rust: its number, its crate here, its text, the host's comparison, its routines in the Rust's order.
+struct Module {
+    number: &'static str,
+    krate: &'static str,
+    rust: &'static str,
+    compared: &'static str,
+    routines: &'static [&'static str],
+}
+
+const MODULES: [Module; 5] = [
+    Module {
+        number: "004",
+        krate: "relay_math",
+        rust: "relay-math/src/lib.rs",
+        compared: "host/compare/src/numbers.rs",
+        routines: &["sqrtf", "sinf", "cosf", "fabsf", "is_finite"],
+    },
+    Module {
+        number: "000",
+        krate: "relay_geo",
+        rust: "relay-geo/plain/src/lib.rs",
+        compared: "host/compare/src/table/geo.rs",
+        routines: &[
+            "GRAVITY_NED",
+            "cross",
+            "dot",
+            "norm",
+            "normalize",
+            "identity3",
+            "transpose3",
+            "matmul3",
+            "vee",
+            "quat_to_rotmat",
+            "desired_attitude",
+            "thrust_axis_ned",
+            "flatness_omega_ff",
+            "GeoGains::FALCON_QUAD",
+            "GeoAtt::new",
+            "GeoAtt::psi",
+            "GeoAtt::attitude_error",
+            "GeoAtt::attitude_error_reduced",
+            "GeoAtt::moment_reduced",
+            "GeoAtt::moment",
+            "GeoAtt::desired_rate",
+            "GeoAtt::tick",
+            "sanitise3",
+            "RecoverableSet::new",
+            "RecoverableSet::margin",
+            "RecoverableSet::recoverable",
+            "SimplexShield::new",
+            "SimplexShield::fallback_engaged",
+            "SimplexShield::filter",
+            "SimplexShield::step",
+        ],
+    },
+    Module {
+        number: "001",
+        krate: "relay_traj",
+        rust: "relay-traj/plain/src/lib.rs",
+        compared: "host/compare/src/table/traj.rs",
+        routines: &[
+            "fin",
+            "Quintic::new",
+            "Quintic::duration",
+            "Quintic::eval",
+            "Quintic::jerk_coeffs",
+            "Quintic::peak_abs_jerk",
+            "Sample",
+            "Segment3::new",
+            "Segment3::rest_to_rest",
+            "Segment3::duration",
+            "Segment3::eval",
+            "Segment3::peak_abs_jerk",
+            "Sample3",
+            "clamp_to",
+            "gate_factor",
+            "RefGovernor::new",
+            "RefGovernor::gate",
+            "RefGovernor::advance",
+            "RefGovernor::time",
+            "RefGovernor::reset",
+        ],
+    },
+    Module {
+        number: "002",
+        krate: "relay_adrc",
+        rust: "relay-adrc/plain/src/lib.rs",
+        compared: "host/compare/src/table/adrc.rs",
+        routines: &[
+            "AdrcGains::new",
+            "AdrcGains::with_tau",
+            "AdrcGains::from_bandwidth",
+            "AdrcGains::well_separated",
+            "AdrcGains::eso_dt_stable",
+            "AdrcAxis::new",
+            "AdrcAxis::disturbance",
+            "AdrcAxis::tick",
+            "AdrcAxis::reset",
+            "AdrcAxis::set_delivered_fraction",
+            "sanitise",
+            "Biquad::lowpass",
+            "Biquad::passthrough",
+            "Biquad::filter",
+            "GyroLpf::new",
+            "GyroLpf::filter",
+            "AdrcRate::new",
+            "AdrcRate::falcon_quad",
+            "AdrcRate::tick",
+            "AdrcRate::reset",
+            "AdrcRate::set_delivered_fraction",
+            "AdrcRate::disturbance",
+            "clamp_sym",
+            "CommandFilter::new",
+            "CommandFilter::step",
+            "CommandFilter::value",
+            "CommandFilter::rate",
+            "CommandFilter::reset",
+            "CommandFilter3::new",
+            "CommandFilter3::step",
+            "CommandFilter3::reset",
+        ],
+    },
+    Module {
+        number: "003",
+        krate: "relay_pos",
+        rust: "relay-pos/plain/src/lib.rs",
+        compared: "host/compare/src/table/pos.rs",
+        routines: &["euler_to_quaternion"],
+    },
+];
+
+/// Ours without a Rust original: crate, function, what it is.
+const ADDED: [(&str, &str, &str); 11] = [
+    ("joint", "set_up", "set-up over values"),
+    ("joint", "prepare", "the tick's first stage: fractions, gyro filter, governor"),
+    ("joint", "reference_at", "the second: where the trajectory is"),
+    ("joint", "guide", "the third: attitudes, fallback, psi, margin"),
+    ("joint", "finish", "the fourth: shield, rate controller"),
+    ("joint", "tick", "all four"),
+    ("flight", "setup", "set-up on lent bytes"),
+    ("flight", "tick", "the joint tick on lent bytes"),
+    ("flight", "tick_refusal", "what a tick would be refused for"),
+    ("fosavalo", "fosavalo_setup", "the C call"),
+    ("fosavalo", "fosavalo_tick", "the C call"),
+];
+
+pub fn root() -> PathBuf {
+    Path::new(env!("CARGO_MANIFEST_DIR")).join("../..")
+}
+
+fn text(path: impl AsRef<Path>) -> Result<String, String> {
+    let path = root().join(path);
+    std::fs::read_to_string(&path).map_err(|error| format!("{}: {error}", path.display()))
+}
+
+/// The line, counted from 1, at which a routine of this name begins: `Type::name` within an `impl Type`, `name` outside of any.
+fn line_of(text: &str, routine: &str) -> Option<usize> {
+    let (owner, name) = routine.split_once("::").map_or((None, routine), |(owner, name)| (Some(owner), name));
+    let mut inside: Option<&str> = None;
+    for (at, line) in text.lines().enumerate() {
+        if let Some(rest) = line.strip_prefix("impl ") {
+            inside = rest.split([' ', '{']).next();
+        } else if line.starts_with('}') {
+            inside = None;
+        }
+        let item = line.trim_start();
+        let item = item.strip_prefix("pub ").unwrap_or(item);
+        let item = item.strip_prefix("extern \"C\" ").unwrap_or(item);
+        let is_constant = item.strip_prefix("const ").is_some_and(|rest| rest.strip_prefix(name).is_some_and(|rest| rest.starts_with(':')));
+        let item = item.strip_prefix("const ").unwrap_or(item);
+        let is_function = item.strip_prefix("fn ").is_some_and(|rest| rest.strip_prefix(name).is_some_and(|rest| rest.starts_with('(')));
+        let is_struct = item.strip_prefix("struct ").is_some_and(|rest| rest.split([' ', '(', '{']).next() == Some(name));
+        if inside == owner && (is_function || is_constant || is_struct) {
+            return Some(at + 1);
+        }
+    }
+    None
+}
+
+/// Our file that has the routine, and its text.
+fn ours(krate: &str, routine: &str) -> Result<(String, String), String> {
+    let folder = format!("crates/{krate}/src");
+    let entries = std::fs::read_dir(root().join(&folder)).map_err(|error| format!("{folder}: {error}"))?;
+    let mut names: Vec<String> = entries.flatten().map(|entry| entry.file_name().to_string_lossy().into_owned()).collect();
+    names.sort();
+    for name in names.iter().filter(|name| name.ends_with(".rt")) {
+        let text = text(format!("{folder}/{name}"))?;
+        if line_of(&text, routine).is_some() {
+            return Ok((name.clone(), text));
+        }
+    }
+    Err(format!("no file of {folder} has {routine}"))
+}
+
+/// The promise above a function's body, a clause each; a constant or a struct has none.
+fn promise(text: &str, routine: &str) -> Vec<String> {
+    let Some(line) = line_of(text, routine).filter(|line| text.lines().nth(line - 1).is_some_and(|line| line.contains("fn "))) else {
+        return Vec::new();
+    };
+    let head: Vec<&str> = text.lines().skip(line).map(str::trim).take_while(|line| !line.is_empty() && *line != "{").collect();
+    let head = head.join(" ");
+    let clauses = head.split("ensures").skip(1).filter_map(|clause| clause.split_once('{'));
+    let plain = clauses.map(|(_, said)| {
+        let said = said.trim().trim_end_matches('}').trim();
+        // `λ r.` only names the answer
+        let said = said.split_once(". ").filter(|(head, _)| head.starts_with('λ')).map_or(said, |(_, rest)| rest);
+        said.replace(['⌜', '⌝', '«', '»'], "").split_whitespace().collect::<Vec<_>>().join(" ")
+    });
+    plain.collect()
+}
+
+/// The file of definitions that has this name: the crate's own first.
+fn definition(krate: &str, name: &str) -> Result<Option<String>, String> {
+    let crates = std::fs::read_dir(root().join("crates")).map_err(|error| format!("crates: {error}"))?;
+    let mut crates: Vec<String> = crates.flatten().map(|entry| entry.file_name().to_string_lossy().into_owned()).collect();
+    crates.sort_by_key(|other| (other != krate, other.clone()));
+    for folder in crates.iter().map(|krate| format!("crates/{krate}/specs")) {
+        let Ok(entries) = std::fs::read_dir(root().join(&folder)) else { continue };
+        let mut names: Vec<String> = entries.flatten().map(|entry| entry.file_name().to_string_lossy().into_owned()).collect();
+        names.sort();
+        for file in names.iter().filter(|file| file.ends_with(".antt")) {
+            let text = text(format!("{folder}/{file}"))?;
+            let mut heads = text.lines().filter_map(|line| line.split_once(" : ")).map(|(head, _)| head);
+            if heads.any(|head| head.split(' ').next_back() == Some(name) && !head.starts_with([' ', '-'])) {
+                return Ok(Some(format!("{folder}/{file}")));
+            }
+        }
+    }
+    Ok(None)
+}
+
+/// Each clause, with a link to the definition that it names.
+fn promised(krate: &str, clauses: &[String]) -> Result<String, String> {
+    let mut cells = Vec::new();
+    for clause in clauses {
+        let named = clause.split_once('≡').map_or(clause.as_str(), |(_, right)| right);
+        let name = named.split_whitespace().next().unwrap_or_default();
+        let file = definition(krate, name)?;
+        let label = |path: &str| path.rsplit('/').next().unwrap_or_default().to_string();
+        cells.push(format!("`{clause}`{}", file.map_or(String::new(), |path| format!(" ({})", link(&label(&path), &path)))));
+    }
+    Ok(cells.join("; "))
+}
+
+/// The name under which the test face has it.
+fn face(routine: &str) -> String {
+    routine.to_lowercase().replace("::", "_")
+}
+
+/// The tests of a file whose text uses any of these words.
+fn tests_using(text: &str, words: &[String]) -> Vec<String> {
+    let mut found: Vec<String> = Vec::new();
+    let (mut test, mut next) = (None, false);
+    for line in text.lines() {
+        if line.trim() == "#[test]" {
+            next = true;
+        } else if let Some(rest) = line.strip_prefix("fn ") {
+            test = rest.split('(').next().filter(|_| next).map(str::to_string);
+            next = false;
+        }
+        if let Some(name) = test.as_ref().filter(|_| words.iter().any(|word| line.contains(word.as_str()))) {
+            if !found.contains(name) {
+                found.push(name.clone());
+            }
+        }
+    }
+    found
+}
+
+/// From docs/.
+fn link(label: &str, path: &str) -> String {
+    match path.strip_prefix("docs/") {
+        Some(path) => format!("[{label}]({path})"),
+        None => format!("[{label}](../{path})"),
+    }
+}
+
+/// The whole page.
+pub fn page() -> Result<String, String> {
+    let mut page = String::from(
+        "# Map\n\n\
+         A line for each routine of the Rust: where it stands there, in which of our files it is under the same name, what it promises, and\n\
+         what tests it. A promise names a definition, whose file stands behind it; it is proved for every argument. `make map` writes this page\n\
+         from the sources, and the gate sees that it is current.\n\n\
+         **Tests.** *Rows* is the routine's row in the host's comparison with the Rust: a million cases in the gate, as many as you like with\n\
+         `make routines ROWS=n`. *Figures* are tests of document 01's worked figures and of edges, in\n\
+         [host/compare/tests/figures.rs](../host/compare/tests/figures.rs). *Wrong* counts the versions that look right and are not, of which\n\
+         the comparison has to catch each ([wrong.rs](../host/compare/src/table/wrong.rs)).\n",
+    );
+    let figures = text("host/compare/tests/figures.rs")?;
+    let wrong = text("host/compare/src/table/wrong.rs")?;
+    for module in &MODULES {
+        let rust_path = format!("docs/src/crates/{}", module.rust);
+        let rust = text(&rust_path)?;
+        let compared = text(module.compared)?;
+        let _ = write!(page, "\n## {}: `{}`\n\n", module.number, module.krate);
+        let _ = writeln!(page, "The Rust is {}.\n", link(&rust_path, &rust_path));
+        let _ = writeln!(page, "| Routine | Rust | Ours | Promise | Tests |\n|---|---|---|---|---|");
+        for routine in module.routines {
+            let there = line_of(&rust, routine)
+                .map_or("written out".to_string(), |line| link(&format!("line {line}"), &format!("{rust_path}#L{line}")));
+            let (file, code) = ours(module.krate, routine)?;
+            let promised = match (promise(&code, routine), routine.starts_with("Sample")) {
+                (clauses, _) if !clauses.is_empty() => promised(module.krate, &clauses)?,
+                (_, false) => "a constant".to_string(),
+                (_, true) => "a struct of floats".to_string(),
+            };
+            let mut tests = Vec::new();
+            let row = if module.krate == "relay_math" { format!("{routine}(") } else { format!("\"{routine}\"") };
+            if compared.contains(&row) {
+                tests.push(link("rows", module.compared));
+            }
+            let names = tests_using(&figures, &[format!("::{}(", face(routine))]);
+            if !names.is_empty() {
+                tests.push(format!("figures: {}", names.iter().map(|name| format!("`{name}`")).collect::<Vec<_>>().join(", ")));
+            }
+            let instead = wrong.matches(&format!("instead(\"{routine}\"")).count();
+            if instead > 0 {
+                tests.push(format!("wrong: {instead}"));
+            }
+            if let Some(sampled) = [("Sample", "Quintic::eval"), ("Sample3", "Segment3::eval")].iter().find(|(name, _)| name == routine) {
+                tests.push(format!("in those of `{}`", sampled.1));
+            }
+            if tests.is_empty() {
+                return Err(format!("{routine} has no test"));
+            }
+            let our_path = format!("crates/{}/src/{file}", module.krate);
+            let _ = writeln!(page, "| `{routine}` | {there} | {} | {promised} | {} |", link(&file, &our_path), tests.join("; "));
+        }
+    }
+    let _ = write!(
+        page,
+        "\n## Added: set-up and the joint tick\n\n\
+         Document 01 is their original. They are run against the Rust's calls made in its order, and the third demand is checked by looking\n\
+         back over the margins: {} (`make ticks TICKS=n` for as many as you like).\n\n\
+         | Routine | Ours | Promise | What |\n|---|---|---|---|\n",
+        link("host/compare/tests/joint.rs", "host/compare/tests/joint.rs"),
+    );
+    for (krate, routine, what) in ADDED {
+        let (file, code) = ours(krate, routine)?;
+        let path = format!("crates/{krate}/src/{file}");
+        let promised = promised(krate, &promise(&code, routine))?;
+        let _ = writeln!(page, "| `{routine}` | {} | {promised} | {what} |", link(&format!("{krate}/{file}"), &path));
+    }
+    page.push_str(
+        "\nNot ported: `reduce`, `sin_poly`, `cos_poly` as published (our own steps stand in, [ANGLES.md](ANGLES.md)), `atan2f`, `acosf`,\n\
+         `remainderf`; of 003 all but `euler_to_quaternion`; 005; the Kani blocks.\n",
+    );
+    Ok(page)
+}
+
+/// The routines on the page.
+pub fn routines() -> impl Iterator<Item = &'static str> {
+    MODULES.iter().flat_map(|module| module.routines.iter().copied())
+}

@@ -16,7 +16,7 @@ HOST = cd host && $(CARGO)
 fly: core
 	@$(CARGO) build --manifest-path host/Cargo.toml --release --offline --package fly
 	@INSTALL=$(INSTALL) tools/gnuplot
-	@echo && host/target/release/fly $(SCENARIO)
+	@echo && host/target/release/fly $(if $(SCENARIO),"$(SCENARIO)")
 
 test:
 	@tools/gate

@@ -1,5 +1,6 @@
 # Draws a flight, for gnuplot 5.2 or later. `fly` says before it what `stem` (of the files), `terminal` (svg or png), `title`, the
-# thresholds, the range of margins and the rest are. One row for each rule: the whole flight at the left, a tenth of a second tick by tick at the right.
+# thresholds, the range of margins and the rest are. One row for each rule: the whole flight at the left, a tenth of a second tick by
+# tick at the right.
 
 planner = "#2a9d8f"
 fallback = "#e76f51"
@@ -9,10 +10,10 @@ band = "#fbf3dc"
 
 if (terminal eq "svg") {
     dot = 0.35
-    set terminal svg size 1200,760 font "Helvetica,Arial,sans-serif,15" background "#ffffff" dynamic
+    set terminal svg size 1200,760 font "Helvetica,Arial,sans-serif,15" background "#ffffff" dynamic noenhanced
 } else {
     dot = 0.6
-    set terminal pngcairo size 1800,1140 font "Sans,10" fontscale 1.6 linewidth 1.5 background "#ffffff"
+    set terminal pngcairo size 1800,1140 font "Sans,10" fontscale 1.6 linewidth 1.5 background "#ffffff" noenhanced
 }
 set output stem.".".terminal
 

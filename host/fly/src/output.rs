@@ -34,9 +34,9 @@ pub fn csv(flight: &Flight, to: impl Write) -> io::Result<()> {
         let given = [i.tracking_error, i.yaw, i.yaw_rate, i.dt];
         let input = i.gyro.0.iter().chain(&i.attitude).chain(&given).chain(&i.planner.0).chain(&i.delivered);
         for x in input.chain(&a.torque.0).chain(&a.command.0) {
-            write!(to, ",{x}")?;
+            write!(to, ",{x:?}")?;
         }
-        writeln!(to, ",{},{},{},{}", u8::from(a.pilot == Pilot::Fallback), a.time, a.psi, a.margin)?;
+        writeln!(to, ",{},{:?},{:?},{:?}", u8::from(a.pilot == Pilot::Fallback), a.time, a.psi, a.margin)?;
     }
     to.flush()
 }

@@ -31,6 +31,8 @@
 //! `libfosavalo.a`, which `make archives` builds.
 
 #![warn(missing_docs)]
+// no input makes a call panic
+#![deny(clippy::panic, clippy::unwrap_used, clippy::expect_used, clippy::indexing_slicing)]
 
 pub mod calls;
 mod image;

@@ -9,6 +9,14 @@ use std::fmt;
 /// let refusal = Refusal::BrokenImage;
 /// assert_eq!(refusal.number(), 4);
 /// assert_eq!(refusal.to_string(), "refused (4): the image is none that set-up or a tick leaves");
+///
+/// // an error like any other
+/// fn fly() -> Result<(), Box<dyn std::error::Error>> {
+///     let mut image = fosavalo::Image::from_bytes(&[0; 380])?;
+///     image.tick(&fosavalo::TickInput::default())?;
+///     Ok(())
+/// }
+/// assert!(fly().is_err());
 /// ```
 #[derive(Clone, Copy, Debug, PartialEq, Eq, Hash)]
 #[non_exhaustive]

@@ -95,6 +95,19 @@ impl TickInput {
 }
 
 /// What a tick answers. Torque and command are finite; the time and the margin are never NaN.
+///
+/// ```
+/// use fosavalo::{BodyRate, Image, Pilot, SetUp, TickInput};
+///
+/// // a heading that is no number: nothing is known of the margin, and the fallback stands still
+/// let mut image = Image::set_up(&SetUp::falcon_quad())?;
+/// let answer = image.tick(&TickInput { yaw: f32::NAN, ..TickInput::default() })?;
+/// assert_eq!(answer.pilot, Pilot::Fallback);
+/// assert_eq!(answer.command, BodyRate([0.0; 3]));
+/// assert_eq!(answer.margin, f32::NEG_INFINITY);
+/// assert!(answer.psi.is_nan());
+/// # Ok::<(), fosavalo::Refusal>(())
+/// ```
 #[derive(Clone, Copy, Debug, PartialEq)]
 pub struct Answer {
     /// For the motors.

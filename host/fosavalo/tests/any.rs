@@ -96,6 +96,28 @@ fn wrong_lengths() {
     }
 }
 
+/// The header says the same lengths and numbers.
+#[test]
+fn the_header() {
+    let header = include_str!("../../../include/fosavalo.h");
+    let defined = |name: &str| {
+        let line = header.lines().find_map(|line| line.strip_prefix("#define FOSAVALO_")?.strip_prefix(name)?.strip_prefix(' '));
+        line.and_then(|rest| rest.split_whitespace().next()?.parse::<usize>().ok())
+    };
+    for (name, length) in [("IMAGE", IMAGE_BYTES), ("SETUP", SETUP_BYTES), ("TICK", TICK_BYTES), ("ANSWER", ANSWER_BYTES)] {
+        assert_eq!(defined(&format!("{name}_BYTES")), Some(length), "{name}");
+    }
+    for (name, refusal, lengths) in [
+        ("WRONG_IMAGE_LENGTH", Refusal::ImageLength, vec![IMAGE_BYTES]),
+        ("WRONG_INPUT_LENGTH", Refusal::InputLength, vec![SETUP_BYTES, TICK_BYTES]),
+        ("WRONG_ANSWER_LENGTH", Refusal::AnswerLength, vec![ANSWER_BYTES]),
+        ("BROKEN_IMAGE", Refusal::BrokenImage, vec![]),
+    ] {
+        assert_eq!(defined(name), Some(refusal.number() as usize), "{name}");
+        assert!(lengths.iter().all(|length| refusal.meaning().contains(&length.to_string())), "{refusal}");
+    }
+}
+
 /// Every number has words, and the number is kept.
 #[test]
 fn refusals() {

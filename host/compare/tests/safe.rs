@@ -1,0 +1,24 @@
+//! The safe crate beside what the comparison knows of the calls.
+
+use compare::joint::bytes;
+use faces::{adrc, geo, Vec3};
+
+#[test]
+fn the_same_lengths() {
+    use fosavalo::{ANSWER_BYTES, IMAGE_BYTES, SETUP_BYTES, TICK_BYTES};
+    assert_eq!((IMAGE_BYTES, SETUP_BYTES, TICK_BYTES, ANSWER_BYTES), (bytes::IMAGE, bytes::SETUP, bytes::TICK, bytes::ANSWER));
+}
+
+/// Its falcon_quad has relay's gains.
+#[test]
+fn the_same_gains() {
+    let ours = fosavalo::SetUp::falcon_quad();
+    let vec = |Vec3(x, y, z): Vec3| [x, y, z];
+    let gains = geo::geogains_falcon_quad();
+    assert_eq!((ours.gains.k_r, ours.gains.k_omega, ours.gains.j), (vec(gains.k_r), vec(gains.k_omega), vec(gains.j)));
+    let rate = adrc::adrcrate_falcon_quad();
+    for (own, axis) in ours.adrc.iter().zip([rate.roll, rate.pitch, rate.yaw]) {
+        let adrc::AdrcGains { omega_o, omega_c, b0, tau } = axis.g;
+        assert_eq!((own.omega_o, own.omega_c, own.b0, own.tau), (omega_o, omega_c, b0, tau));
+    }
+}

@@ -43,9 +43,10 @@ pub struct Sensed {
 }
 
 impl Aircraft {
-    /// Level and still.
-    pub fn at(position: V3) -> Self {
-        let level = [1.0, 0.0, 0.0, 0.0];
+    /// Level and still, with this heading.
+    pub fn at(position: V3, yaw: f64) -> Self {
+        let half = (0.5 * yaw) as f32;
+        let level = [f64::from(fosavalo::cosf(half)), 0.0, 0.0, f64::from(fosavalo::sinf(half))];
         Aircraft { position, velocity: [0.0; 3], attitude: level, rate: [0.0; 3], torque: [0.0; 3], thrust: GRAVITY, estimate: level }
     }
 

@@ -29,9 +29,7 @@ fn run() -> Result<(), String> {
     let mut words = std::env::args_os().skip(1);
     while let Some(word) = words.next() {
         match word.to_str() {
-            Some("--help" | "-h") => {
-                return say(&format!("{USAGE}\n"));
-            }
+            Some("--help" | "-h") => return say(&format!("{USAGE}\n")),
             Some("--out") => folder = words.next().map(PathBuf::from).ok_or("--out wants a folder")?,
             Some(option) if option.starts_with('-') => return Err(format!("`{option}` is no option\n\n{USAGE}")),
             _ if scenario.is_some() => return Err(format!("one scenario at a time\n\n{USAGE}")),

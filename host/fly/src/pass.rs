@@ -4,7 +4,7 @@ use crate::aircraft::Aircraft;
 use crate::flight::{Flight, Rule};
 use crate::planner::{Planner, Reference};
 use crate::random::Random;
-use crate::vector::{norm, sub, Quat, V3};
+use crate::vector::{norm, sub, V3};
 use fosavalo::{Answer, BodyRate, Governor, GyroFilter, Pilot, RecoverableSet, Refusal, Segment, SetUp, TickInput, Torque};
 
 pub const SECONDS: f64 = 20.0;
@@ -54,23 +54,23 @@ fn reference(time: f32) -> Reference {
 pub fn fly(seed: u64, rule: Rule) -> Result<Flight, Refusal> {
     let (mut flight, mut image) = Flight::begin(&set_up(), rule)?;
     let (mut whims, mut noise) = (Random::new(2 * seed), Random::new(2 * seed + 1));
-    let (mut aircraft, mut planner) = (Aircraft::at(FROM), Planner::new(&mut whims));
     let dt = f64::from(DT);
+    let yaw_at = |k: u64| PAN * (k as f64 * dt - 0.5 * SECONDS);
+    let (mut aircraft, mut planner) = (Aircraft::at(FROM, yaw_at(0)), Planner::new(&mut whims));
     let mut delivered = [1.0; 3];
     let mut last =
         Answer { torque: Torque([0.0; 3]), command: BodyRate([0.0; 3]), pilot: Pilot::Fallback, time: 0.0, psi: 0.0, margin: 0.0 };
     for k in 0..TICKS {
         let (sensed, reference) = (aircraft.sense(dt, &mut noise), reference(last.time));
-        let yaw = PAN * (k as f64 * dt - 0.5 * SECONDS);
+        let yaw = yaw_at(k);
         let wanted = Planner::wanted(aircraft.position, aircraft.velocity, &reference);
         let rate = planner.rate(sensed.attitude, wanted, yaw, dt, &mut whims);
         let single = |v: V3| v.map(|x| x as f32);
-        let attitude: Quat = sensed.attitude;
         last = flight.tick(
             &mut image,
             TickInput {
                 gyro: BodyRate(single(sensed.gyro)),
-                attitude: attitude.map(|x| x as f32),
+                attitude: sensed.attitude.map(|x| x as f32),
                 tracking_error: norm(sub(aircraft.position, reference.position)) as f32,
                 yaw: yaw as f32,
                 yaw_rate: PAN as f32,

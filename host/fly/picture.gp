@@ -4,6 +4,7 @@
 
 planner = "#2a9d8f"
 fallback = "#e76f51"
+both = "#7b2d3b"
 ink = "#264653"
 grey = "#6b7780"
 band = "#fbf3dc"
@@ -21,9 +22,9 @@ set output stem.".".terminal
 letters(px) = sprintf(",%g", terminal eq "svg" ? px : px / 1.5)
 
 height = most - least
-bottom = least - 0.20 * height
+bottom = least - 0.23 * height
 top = most + 0.06 * height
-strip = bottom + 0.10 * height
+strip = bottom + 0.13 * height
 
 set multiplot
 set border 3 linecolor rgb grey
@@ -36,12 +37,13 @@ set ytics
 
 # the head: what it is, and what the colours mean
 set label 1 title at screen 0.055,0.962 font letters(20) textcolor rgb ink
-set object 1 rect from screen 0.055,0.895 to screen 0.075,0.915 fillcolor rgb planner fillstyle solid noborder
-set label 2 "the planner flies" at screen 0.081,0.905 textcolor rgb ink
-set object 2 rect from screen 0.215,0.895 to screen 0.235,0.915 fillcolor rgb fallback fillstyle solid noborder
-set label 3 "the fallback flies" at screen 0.241,0.905 textcolor rgb ink
-set object 3 rect from screen 0.385,0.895 to screen 0.405,0.915 fillcolor rgb band fillstyle solid border linecolor rgb "#e0d3a8"
-set label 4 "between the thresholds" at screen 0.411,0.905 textcolor rgb ink
+array colours[4] = [planner, fallback, both, band]
+array meanings[4] = ["the planner flies", "the fallback flies", sprintf("both, within %d ticks", bit), "between the thresholds"]
+array places[4] = [0.055, 0.20, 0.347, 0.525]
+do for [k = 1:4] {
+    set object k rect from screen places[k],0.895 to screen places[k] + 0.02,0.915 fillcolor rgb colours[k] fillstyle solid noborder
+    set label 1 + k meanings[k] at screen places[k] + 0.026,0.905 textcolor rgb ink
+}
 
 do for [row = 0:1] {
     points = stem.(row == 0 ? "-shield.points" : "-earlier.points")
@@ -67,9 +69,8 @@ do for [row = 0:1] {
     set object 11 rect from graph 0, first bottom to graph 1, first strip fillcolor rgb planner fillstyle solid noborder behind
     set arrow 10 from graph 0, first enter to graph 1, first enter nohead linecolor rgb grey dashtype 2 linewidth 1 front
     set arrow 11 from graph 0, first exit to graph 1, first exit nohead linecolor rgb (finite_exit ? grey : band) dashtype 2 linewidth 1 front
-    # no stretch so short that it cannot be seen
-    pixel = seconds / 1200
-    plot points index 1 using 1:(bottom):1:($2 - $1 > pixel || $2 == $1 ? $2 : $1 + pixel):(bottom):(strip) with boxxyerror linecolor rgb fallback, \
+    plot points index 1 using 1:(bottom):1:2:(bottom):($3 == 1 ? strip : NaN) with boxxyerror linecolor rgb fallback, \
+         points index 1 using 1:(bottom):1:2:(bottom):($3 == 2 ? strip : NaN) with boxxyerror linecolor rgb both, \
          points index 0 using 1:2 with lines linecolor rgb ink linewidth 1
 
     # a tenth of a second, tick by tick

@@ -10,8 +10,9 @@ use std::process::{Command, Stdio};
 
 /// How long the close-up is, s.
 const CLOSE: f64 = 0.1;
-/// Points along the picture's width.
+/// Points along the picture's width, and bits of the strip that says who flew.
 const POINTS: usize = 1200;
+const BITS: usize = 600;
 
 pub fn file_name(rule: Rule) -> &'static str {
     match rule {
@@ -41,7 +42,7 @@ pub fn csv(flight: &Flight, to: impl Write) -> io::Result<()> {
     to.flush()
 }
 
-/// Three blocks for gnuplot: the margin over time, the stretches that the fallback flew, the ticks of the close-up.
+/// Three blocks for gnuplot: the margin over time, who flew when, the ticks of the close-up.
 fn points(flight: &Flight, close: f64) -> String {
     let mut text = String::new();
     let per_point = flight.ticks.len().div_ceil(POINTS).max(1);
@@ -63,12 +64,10 @@ fn points(flight: &Flight, close: f64) -> String {
         }
     }
     text.push_str("\n\n");
-    for (from, to) in fallback(flight) {
-        let _ = writeln!(text, "{from:.6} {to:.6}");
+    for (from, to, flew) in strip(flight) {
+        let _ = writeln!(text, "{from:.6} {to:.6} {}", flew as u8);
     }
-    // an empty block would shift the next one
-    let end = flight.seconds();
-    let _ = writeln!(text, "{end:.6} {end:.6}\n\n");
+    text.push_str("\n\n");
     for tick in flight.ticks.iter().filter(|tick| (close..close + CLOSE).contains(&tick.seconds)) {
         let margin = if tick.answer.margin.is_finite() { tick.answer.margin.to_string() } else { "NaN".to_string() };
         let _ = writeln!(text, "{:.3} {margin} {}", 1000.0 * (tick.seconds - close), u8::from(tick.answer.pilot == Pilot::Fallback));
@@ -76,21 +75,39 @@ fn points(flight: &Flight, close: f64) -> String {
     text
 }
 
-/// The stretches that the fallback flew. More than can be seen are joined.
-fn fallback(flight: &Flight) -> Vec<(f64, f64)> {
-    let mut stretches: Vec<(f64, f64)> = Vec::new();
-    let gap = if flight.changes().len() > 4 * POINTS { flight.seconds() / (2 * POINTS) as f64 } else { 0.0 };
-    let mut ticks = flight.ticks.iter().peekable();
-    while let Some(tick) = ticks.next() {
-        if tick.answer.pilot == Pilot::Fallback {
-            let end = ticks.peek().map_or(tick.seconds, |next| next.seconds);
-            match stretches.last_mut() {
-                Some(last) if tick.seconds - last.1 <= gap => last.1 = end,
-                _ => stretches.push((tick.seconds, end)),
-            }
+/// Stretches of the strip: from, to, and who flew. A bit of the strip in which control changed hands there and back is nobody's.
+fn strip(flight: &Flight) -> Vec<(f64, f64, Flew)> {
+    let (per_bit, mut before) = (per_bit(flight), Pilot::Fallback);
+    let mut stretches: Vec<(f64, f64, Flew)> = Vec::new();
+    let mut bits = flight.ticks.chunks(per_bit).peekable();
+    while let Some(bit) = bits.next() {
+        let (Some(first), Some(last)) = (bit.first(), bit.last()) else { continue };
+        let changes = bit.iter().filter(|tick| std::mem::replace(&mut before, tick.answer.pilot) != tick.answer.pilot).count();
+        let fallback = bit.iter().filter(|tick| tick.answer.pilot == Pilot::Fallback).count();
+        let flew = match changes {
+            0 | 1 if 2 * fallback > bit.len() => Flew::Fallback,
+            0 | 1 => Flew::Planner,
+            _ => Flew::Both,
+        };
+        let end = bits.peek().and_then(|next| next.first()).map_or(last.seconds, |next| next.seconds);
+        match stretches.last_mut() {
+            Some(stretch) if stretch.2 == flew => stretch.1 = end,
+            _ => stretches.push((first.seconds, end, flew)),
         }
     }
     stretches
+}
+
+#[derive(Clone, Copy, PartialEq, Eq)]
+enum Flew {
+    Planner,
+    Fallback,
+    Both,
+}
+
+/// The ticks of a bit of the strip.
+fn per_bit(flight: &Flight) -> usize {
+    flight.ticks.len().div_ceil(BITS).max(1)
 }
 
 /// What `picture.gp` is told.
@@ -105,13 +122,14 @@ fn settings(stem: &Path, title: &str, pair: &Pair, close: f64) -> String {
     let quoted = |text: &str| format!("'{}'", text.replace('\'', "''"));
     format!(
         "stem = {}\ntitle = {}\nenter = {enter}\nexit = {}\nfinite_exit = {}\nleast = {least}\nmost = {most}\nseconds = {}\n\
-         close_from = {close:.3}\nclose_ms = {}\nchanges_shield = {}\nchanges_earlier = {}\n",
+         close_from = {close:.3}\nclose_ms = {}\nbit = {}\nchanges_shield = {}\nchanges_earlier = {}\n",
         quoted(&stem.to_string_lossy()),
         quoted(title),
         if exit.is_finite() { exit } else { enter + band },
         u8::from(exit.is_finite()),
         ours.seconds() + 1e-3,
         1000.0 * CLOSE,
+        per_bit(ours),
         ours.changes().len(),
         earlier.changes().len(),
     )

@@ -1,5 +1,6 @@
 # make fly         prove and build the core, then fly a slow pass above a stage: a table and a picture, our shield beside the earlier rule
 #                  `make fly SCENARIO=my.txt` flies that file instead (docs/FLYING.md); INSTALL=no installs nothing for the picture
+# make choices     the pass with other choices of set, filter and noise: what hangs on them
 # make test        the gate: proofs, must-fail edits, programs, the host's comparisons; its last line is `N passed, 0 failed`
 # make table       roots, sines and cosines beside the hardware's and document 01's
 # make exhaustive  every f32 (some minutes)
@@ -8,7 +9,7 @@
 # make bench       times, as ratios to the other side in one run
 # make docs        the safe crate's pages, host/target/doc/fosavalo/index.html
 # make map         docs/MAP.md anew, from the sources
-.PHONY: fly test table archives core exhaustive routines ticks bench docs map clean
+.PHONY: fly choices test table archives core exhaustive routines ticks bench docs map clean
 
 CARGO = cargo
 HOST = cd host && $(CARGO)
@@ -17,6 +18,10 @@ fly: core
 	@$(CARGO) build --manifest-path host/Cargo.toml --release --offline --package fly
 	@INSTALL=$(INSTALL) tools/gnuplot
 	@echo && host/target/release/fly $(if $(SCENARIO),"$(SCENARIO)")
+
+choices: core
+	@$(CARGO) build --manifest-path host/Cargo.toml --release --offline --quiet --package fly
+	@host/target/release/fly --choices
 
 test:
 	@tools/gate

@@ -16,8 +16,6 @@ const THRUST_LAG: f64 = 0.03;
 const MOST: V3 = [1.0, 1.0, 0.5];
 /// A load that hangs a little off the middle, rad/s².
 const IMBALANCE: V3 = [0.4, -0.3, 0.1];
-/// Deviation of the gyro's noise, rad/s: the sensor's own and the frame's shaking.
-const GYRO_NOISE: f64 = 0.02;
 /// How fast the estimate is drawn to the truth, 1/s (gravity and a compass would do it).
 const DRAWN: f64 = 0.5;
 /// Drag, 1/s.
@@ -50,9 +48,9 @@ impl Aircraft {
         Aircraft { position, velocity: [0.0; 3], attitude: level, rate: [0.0; 3], torque: [0.0; 3], thrust: GRAVITY, estimate: level }
     }
 
-    /// Reads the gyro and carries the estimate on.
-    pub fn sense(&mut self, dt: f64, random: &mut Random) -> Sensed {
-        let gyro = add(self.rate, random.normal3(GYRO_NOISE));
+    /// Reads the gyro, with noise of this deviation, and carries the estimate on.
+    pub fn sense(&mut self, gyro_noise: f64, dt: f64, random: &mut Random) -> Sensed {
+        let gyro = add(self.rate, random.normal3(gyro_noise));
         let off = error(&axes(self.estimate), &axes(self.attitude));
         self.estimate = turned(self.estimate, scale(dt, sub(gyro, scale(DRAWN, off))));
         Sensed { gyro, attitude: self.estimate }

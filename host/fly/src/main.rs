@@ -2,17 +2,19 @@
 
 use fly::flight::Flight;
 use fly::scenario::Scenario;
-use fly::table::{passes, table, Pair};
+use fly::table::{choices, passes, table, Pair};
 use fly::{output, pass};
 use std::io::Write;
 use std::path::{Path, PathBuf};
 use std::process::ExitCode;
 
 const USAGE: &str = "fly [SCENARIO] [--out FOLDER]
+fly --choices
 
 Without a scenario: the slow pass above a stage in a closed loop, five seeds, our shield and the earlier rule side by side.
 With one: the flight of that file (host/fly/scenarios has examples, docs/FLYING.md says how one is written).
-Every tick goes to FOLDER (target/fly) as CSV, with a picture where gnuplot is there.";
+Every tick goes to FOLDER (target/fly) as CSV, with a picture where gnuplot is there.
+With --choices: the pass with other choices of set, filter and noise, and how often control changed hands.";
 
 fn main() -> ExitCode {
     match run() {
@@ -30,6 +32,7 @@ fn run() -> Result<(), String> {
     while let Some(word) = words.next() {
         match word.to_str() {
             Some("--help" | "-h") => return say(&format!("{USAGE}\n")),
+            Some("--choices") => return say(&choices().map_err(|refusal| refusal.to_string())?),
             Some("--out") => folder = words.next().map(PathBuf::from).ok_or("--out wants a folder")?,
             Some(option) if option.starts_with('-') => return Err(format!("`{option}` is no option\n\n{USAGE}")),
             _ if scenario.is_some() => return Err(format!("one scenario at a time\n\n{USAGE}")),
@@ -37,7 +40,7 @@ fn run() -> Result<(), String> {
         }
     }
     let (name, title, pairs) = match &scenario {
-        None => ("pass".to_string(), pass::title(), passes().map_err(|refusal| refusal.to_string())?),
+        None => ("pass".to_string(), pass::title(), passes(&pass::SHOWN).map_err(|refusal| refusal.to_string())?),
         Some(path) => from_file(path)?,
     };
     say(&table(&title, &pairs))?;

@@ -19,22 +19,65 @@ const TO: V3 = [0.0, 3.0, -4.0];
 /// How fast the wanted heading turns, rad/s: the camera stays on the middle of the stage.
 const PAN: f64 = -0.04;
 
-pub fn set_up() -> SetUp {
+/// What a pass is flown with, as far as the outcome hangs on it.
+#[derive(Clone, Copy)]
+pub struct Choice {
+    pub name: &'static str,
+    pub set: RecoverableSet,
+    pub enter: f32,
+    pub exit: f32,
+    /// The gyro filter's cut-off, Hz; 0 for none.
+    pub fc: f32,
+    /// Deviation of the gyro's noise, rad/s: the sensor's own and the frame's shaking.
+    pub gyro_noise: f64,
+}
+
+/// The one that is drawn. The set is tight, for the camera: level, the margin is 0.09 less the squared rate, which is 14 degrees a second
+/// at enter and 8 at exit.
+pub const SHOWN: Choice = Choice {
+    name: "as shown",
+    set: RecoverableSet { k_r: 0.0009, lambda_j: 0.04, psi_max: 0.5 },
+    enter: 0.03,
+    exit: 0.07,
+    fc: 200.0,
+    gyro_noise: 0.02,
+};
+
+/// And others, so that a reader sees what hangs on the choice.
+pub const CHOICES: [Choice; 9] = [
+    SHOWN,
+    Choice { name: "exit 0.06", exit: 0.06, ..SHOWN },
+    Choice { name: "filter at 120 Hz", fc: 120.0, ..SHOWN },
+    Choice { name: "no filter", fc: 0.0, ..SHOWN },
+    Choice { name: "noise 0.03 rad/s", gyro_noise: 0.03, ..SHOWN },
+    Choice { name: "noise 0.03 rad/s, no filter", gyro_noise: 0.03, fc: 0.0, ..SHOWN },
+    Choice { name: "noise 0.005 rad/s", gyro_noise: 0.005, ..SHOWN },
+    Choice { name: "no noise", gyro_noise: 0.0, ..SHOWN },
+    // the attitude's error carries the margin, not the rate: 20 degrees at enter, 14 at exit
+    Choice {
+        name: "a set bounded by the attitude",
+        set: RecoverableSet { k_r: 0.6, lambda_j: 0.04, psi_max: 0.12 },
+        enter: 0.06,
+        exit: 0.09,
+        ..SHOWN
+    },
+];
+
+pub fn set_up(choice: &Choice) -> SetUp {
     let single = |v: V3| v.map(|x| x as f32);
     SetUp {
-        // drawn tightly, for the camera: level, the margin is 0.09 less the squared rate, which is 14 degrees a second at enter, 8 at exit
-        set: RecoverableSet { k_r: 0.0009, lambda_j: 0.04, psi_max: 0.5 },
-        enter: 0.03,
-        exit: 0.07,
+        set: choice.set,
+        enter: choice.enter,
+        exit: choice.exit,
         governor: Governor { err_lo: 0.3, err_hi: 1.5, g_min: 0.25 },
         segment: Segment { p0: single(FROM), pf: single(TO), t: SECONDS as f32, ..SetUp::falcon_quad().segment },
-        filter: GyroFilter { fc: 200.0, fs: 1000.0 },
+        filter: GyroFilter { fc: choice.fc, fs: 1000.0 },
         ..SetUp::falcon_quad()
     }
 }
 
 pub fn title() -> String {
-    let SetUp { enter, exit, .. } = set_up();
+    let Choice { enter, exit, .. } = SHOWN;
     format!("A slow pass above a stage: {SECONDS} s in {TICKS} ticks, enter {enter}, exit {exit}")
 }
 
@@ -51,8 +94,8 @@ fn reference(time: f32) -> Reference {
 }
 
 /// Flies the pass. The noise, the planner's whims and everything else depend on the seed alone.
-pub fn fly(seed: u64, rule: Rule) -> Result<Flight, Refusal> {
-    let (mut flight, mut image) = Flight::begin(&set_up(), rule)?;
+pub fn fly(choice: &Choice, seed: u64, rule: Rule) -> Result<Flight, Refusal> {
+    let (mut flight, mut image) = Flight::begin(&set_up(choice), rule)?;
     let (mut whims, mut noise) = (Random::new(2 * seed), Random::new(2 * seed + 1));
     let dt = f64::from(DT);
     let yaw_at = |k: u64| PAN * (k as f64 * dt - 0.5 * SECONDS);
@@ -61,7 +104,7 @@ pub fn fly(seed: u64, rule: Rule) -> Result<Flight, Refusal> {
     let mut last =
         Answer { torque: Torque([0.0; 3]), command: BodyRate([0.0; 3]), pilot: Pilot::Fallback, time: 0.0, psi: 0.0, margin: 0.0 };
     for k in 0..TICKS {
-        let (sensed, reference) = (aircraft.sense(dt, &mut noise), reference(last.time));
+        let (sensed, reference) = (aircraft.sense(choice.gyro_noise, dt, &mut noise), reference(last.time));
         let yaw = yaw_at(k);
         let wanted = Planner::wanted(aircraft.position, aircraft.velocity, &reference);
         let rate = planner.rate(sensed.attitude, wanted, yaw, dt, &mut whims);

@@ -1,7 +1,7 @@
 //! What happened, in a few lines.
 
 use crate::flight::{Flight, RULES};
-use crate::pass;
+use crate::pass::{self, Choice};
 use fosavalo::Refusal;
 use std::fmt::Write;
 
@@ -20,8 +20,22 @@ impl Pair {
 }
 
 /// The pass with every seed.
-pub fn passes() -> Result<Vec<Pair>, Refusal> {
-    pass::SEEDS.into_iter().map(|seed| Pair::new(format!("seed {seed}"), |rule| pass::fly(seed, rule))).collect()
+pub fn passes(choice: &Choice) -> Result<Vec<Pair>, Refusal> {
+    pass::SEEDS.into_iter().map(|seed| Pair::new(format!("seed {seed}"), |rule| pass::fly(choice, seed, rule))).collect()
+}
+
+/// The pass with other choices of set, filter and noise: how often control changed hands, the least and the most of all seeds.
+pub fn choices() -> Result<String, Refusal> {
+    let mut text = format!("{:32}{:>16}{:>20}\n", "changes of hands in the pass", "our shield", "the earlier rule");
+    for choice in &pass::CHOICES {
+        let pairs = passes(choice)?;
+        let range = |at: fn(&Pair) -> &Flight| {
+            let changes = || pairs.iter().map(|pair| at(pair).changes().len());
+            format!("{} to {}", changes().min().unwrap_or(0), changes().max().unwrap_or(0))
+        };
+        let _ = writeln!(text, "{:32}{:>16}{:>20}", choice.name, range(|pair| &pair.flights[0]), range(|pair| &pair.flights[1]));
+    }
+    Ok(text)
 }
 
 pub fn table(title: &str, pairs: &[Pair]) -> String {

@@ -2,21 +2,28 @@
 
 use fly::flight::{Flight, Rule, RULES};
 use fly::scenario::Scenario;
-use fly::table::{passes, table};
+use fly::table::{choices, passes, table};
 use fly::{output, pass};
 use fosavalo::{BodyRate, Pilot, SetUp, TickInput};
 
 #[test]
 fn the_table() {
-    let pairs = passes().expect("no pass is refused");
+    let pairs = passes(&pass::SHOWN).expect("no pass is refused");
     let now = table(&pass::title(), &pairs);
     assert_eq!(now, include_str!("table.txt"), "\n{now}");
+}
+
+/// And with other choices of set, filter and noise.
+#[test]
+fn the_choices() {
+    let now = choices().expect("no pass is refused");
+    assert_eq!(now, include_str!("choices.txt"), "\n{now}");
 }
 
 /// Every flag is what the rule says of the margins, under both rules; and the two differ as much as the picture shows.
 #[test]
 fn each_flight_keeps_its_rule() {
-    for pair in passes().expect("no pass is refused") {
+    for pair in passes(&pass::SHOWN).expect("no pass is refused") {
         let [ours, earlier] = &pair.flights;
         assert_eq!((ours.rule, earlier.rule), (Rule::Shield, Rule::Earlier));
         assert_eq!((ours.strays(), earlier.strays()), (None, None));
@@ -41,7 +48,7 @@ fn the_one_number_at_which_they_differ_is_found() {
 fn the_same_seed_flies_the_same() {
     let csv = |rule| {
         let mut bytes = Vec::new();
-        let flight = pass::fly(pass::DRAWN, rule).expect("no pass is refused");
+        let flight = pass::fly(&pass::SHOWN, pass::DRAWN, rule).expect("no pass is refused");
         output::csv(&flight, &mut bytes).expect("a vector takes all");
         bytes
     };

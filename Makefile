@@ -6,10 +6,11 @@
 # make exhaustive  every f32 (some minutes)
 # make routines    every routine beside the Rust's, ROWS rows of input each: `make routines ROWS=100000000` (without it, the gate's million)
 # make ticks       the joint tick beside the Rust's calls, TICKS accepted ticks: `make ticks TICKS=100000000` (without it, the gate's five million)
+# make answers     makes the oracle's stored answers again, which the program `replay` runs (docs/ORACLE.md)
 # make bench       times, as ratios to the other side in one run
 # make docs        the safe crate's pages, host/target/doc/fosavalo/index.html
 # make map         docs/MAP.md anew, from the sources
-.PHONY: fly choices test table archives core exhaustive routines ticks bench docs map clean
+.PHONY: fly choices test table archives core exhaustive routines ticks answers bench docs map clean
 
 CARGO = cargo
 HOST = cd host && $(CARGO)
@@ -43,6 +44,9 @@ routines: archives
 
 ticks: archives
 	@$(HOST) run --release --offline --quiet --bin joint $(TICKS)
+
+answers: archives
+	@$(HOST) run --release --offline --quiet --bin answers
 
 bench: archives
 	@$(HOST) run --release --offline --quiet --bin bench

@@ -1,5 +1,6 @@
 //! Comparisons of the proved routines with what they are to equal.
 
+pub mod answers;
 pub mod exact;
 pub mod generate;
 pub mod joint;

@@ -82,12 +82,21 @@ impl Routine {
         None
     }
 
+    /// The row with this number.
+    pub fn row(&self, row: u64) -> Vec<f32> {
+        let mut words = vec![0.0; self.inputs()];
+        generate::fill(&self.takes, self.edge, self.name, row, &mut words);
+        words
+    }
+
     /// What ours answers to the row with this number.
     pub fn answer(&self, row: u64) -> Vec<f32> {
-        let mut words = [0.0; MOST];
-        let words = &mut words[..self.inputs().min(MOST)];
-        generate::fill(&self.takes, self.edge, self.name, row, words);
-        run(&self.ours, words).0.words().to_vec()
+        run(&self.ours, &self.row(row)).0.words().to_vec()
+    }
+
+    /// What the Rust answers to these words.
+    pub fn oracle(&self, words: &[f32]) -> Vec<f32> {
+        run(&self.theirs, words).0.words().to_vec()
     }
 
     /// Compares one row. Both sides have to take and to give the words that the table says.

@@ -11,5 +11,10 @@ pub mod wrong;
 use crate::routine::Routine;
 
 pub fn all() -> Vec<Routine> {
-    [geo::routines(), traj::routines(), adrc::routines(), pos::routines()].into_iter().flatten().collect()
+    documents().into_iter().flatten().collect()
+}
+
+/// Those of 000, 001, 002 and 003.
+pub fn documents() -> [Vec<Routine>; 4] {
+    [geo::routines(), traj::routines(), adrc::routines(), pos::routines()]
 }

@@ -1,0 +1,299 @@
+// Runs the oracle's stored answers again, from standard input. docs/ORACLE.md has the form of the list and says how it was made.
+// For each section of the list a line: its name, how many answers were compared, how many differ. Before it, a line for each row that differs.
+mod adrc; // adrc.rt: 002
+mod calls; // calls.rt: set-up and the joint tick
+mod geo; // geo.rt: 000
+mod numbers; // numbers.rt: 003 and 004
+mod parts; // parts.rt: rows of words, and structs out of them
+mod traj; // traj.rt: 001
+
+use libc::STDIN_FILENO;
+use libc::STDOUT_FILENO;
+use parts::Row;
+use relay_geo::Mat3;
+use relay_math::Vec3;
+use words::bits_of;
+use words::vec_at;
+use words::word_at;
+ghost use Prim.Native.Nat.{_+_, _<_, _≤_};
+
+// The word that a list begins with: ANSW.
+const MAGIC: u32 = 0x5753_4e41;
+
+enum Verdict {
+    Same,
+    Differs,
+    Cut,
+}
+
+fn judged(same: bool) -> Verdict {
+    if same {
+        Verdict::Same
+    } else {
+        Verdict::Differs
+    }
+}
+
+fn say(text: &[u8]) {
+    io::write_all(STDOUT_FILENO, text);
+}
+
+// Whether the list had enough bytes left for this buffer.
+fn filled(bytes: &mut [u8]) -> bool {
+    let most = bytes.len();
+    io::read_full(STDIN_FILENO, bytes) == most
+}
+
+// The same for the first n words of it.
+fn filled_to(bytes: &mut [u8], n: usize) -> bool {
+    if n > bytes.len() / 4 {
+        return false;
+    }
+    filled(&mut bytes[..4 * n])
+}
+
+// ---- an answer of a routine
+
+fn worked_out(n: u32, i: Row) -> Row {
+    if n < 100 {
+        return geo::answer(n, i);
+    }
+    if n < 200 {
+        return traj::answer(n, i);
+    }
+    if n < 300 {
+        return adrc::answer(n, i);
+    }
+    numbers::answer(n, i.0.0)
+}
+
+fn nine_at(bytes: &[u8; 144], k: usize) -> Mat3
+    requires { ⌜ k + 9 ≤ 36 ⌝ }
+{
+    Mat3(vec_at(bytes, k), vec_at(bytes, k + 3), vec_at(bytes, k + 6))
+}
+
+fn row_at(bytes: &[u8; 144]) -> Row {
+    Row(
+        nine_at(bytes, 0),
+        nine_at(bytes, 9),
+        nine_at(bytes, 18),
+        nine_at(bytes, 27),
+    )
+}
+
+// The same bits, all NaNs alike.
+fn same3(a: Vec3, b: Vec3) -> bool {
+    if bits_of(a.0) != bits_of(b.0) {
+        return false;
+    }
+    if bits_of(a.1) != bits_of(b.1) {
+        return false;
+    }
+    bits_of(a.2) == bits_of(b.2)
+}
+
+fn same9(a: Mat3, b: Mat3) -> bool {
+    if !same3(a.0, b.0) {
+        return false;
+    }
+    if !same3(a.1, b.1) {
+        return false;
+    }
+    same3(a.2, b.2)
+}
+
+fn same_row(a: Row, b: Row) -> bool {
+    if !same9(a.0, b.0) {
+        return false;
+    }
+    if !same9(a.1, b.1) {
+        return false;
+    }
+    if !same9(a.2, b.2) {
+        return false;
+    }
+    same9(a.3, b.3)
+}
+
+// All 36 words are compared: past the stored ones there are zeros, so that an answer of more words differs.
+fn routine(n: u32, given: usize, answered: usize) -> Verdict {
+    let mut inputs = [0u8; 144];
+    let mut stored = [0u8; 144];
+    if !filled_to(&mut inputs, given) {
+        return Verdict::Cut;
+    }
+    if !filled_to(&mut stored, answered) {
+        return Verdict::Cut;
+    }
+    judged(same_row(worked_out(n, row_at(&inputs)), row_at(&stored)))
+}
+
+// ---- sections
+
+// What a section's head says, but for its name.
+struct Head {
+    number: u32,
+    given: usize,
+    answered: usize,
+    rows: u32,
+}
+
+fn one(h: Head) -> Verdict {
+    if h.number == 500 {
+        return calls::setup();
+    }
+    if h.number == 501 {
+        return calls::tick();
+    }
+    routine(h.number, h.given, h.answered)
+}
+
+struct Tally {
+    compared: u64,
+    differ: u64,
+    whole: bool,
+}
+
+fn print_row(row: u64) {
+    say(b"row ");
+    io::print_decimal(STDOUT_FILENO, row);
+    say(b" differs\n");
+}
+
+// One more answer. A row that differs is named.
+fn counted(t: Tally, v: Verdict) -> Tally
+    requires { ⌜ t .compared < 4294967295 ⌝ }
+    requires { ⌜ t .differ ≤ t .compared ⌝ }
+    ensures { λ r. ⌜ r .compared ≤ t .compared + 1 ⌝ }
+    ensures { λ r. ⌜ r .differ ≤ r .compared ⌝ }
+{
+    match v {
+        Verdict::Same => Tally {
+            compared: t.compared + 1,
+            differ: t.differ,
+            whole: true,
+        },
+        Verdict::Differs => {
+            print_row(t.compared);
+            Tally {
+                compared: t.compared + 1,
+                differ: t.differ + 1,
+                whole: true,
+            }
+        }
+        Verdict::Cut => Tally {
+            compared: t.compared,
+            differ: t.differ,
+            whole: false,
+        },
+    }
+}
+
+fn section(h: Head) -> Tally
+    ensures { λ r. ⌜ r .compared < 4294967296 ⌝ }
+    ensures { λ r. ⌜ r .differ ≤ r .compared ⌝ }
+{
+    let mut t = Tally {
+        compared: 0,
+        differ: 0,
+        whole: true,
+    };
+    for row in 0..h.rows {
+        if !t.whole {
+            return t;
+        }
+        t = counted(t, one(h));
+    }
+    t
+}
+
+fn head_at(four: &[u8; 16]) -> Head {
+    Head {
+        number: word_at(four, 0),
+        given: word_at(four, 1) as usize,
+        answered: word_at(four, 2) as usize,
+        rows: word_at(four, 3),
+    }
+}
+
+fn print_counts(name: &[u8], t: Tally) {
+    say(name);
+    io::print_decimal(STDOUT_FILENO, t.compared);
+    say(b" compared, ");
+    io::print_decimal(STDOUT_FILENO, t.differ);
+    say(b" differ\n");
+}
+
+// The head of a section is four words and a name.
+fn next_section() -> Tally
+    ensures { λ r. ⌜ r .compared < 4294967296 ⌝ }
+    ensures { λ r. ⌜ r .differ ≤ r .compared ⌝ }
+{
+    let mut four = [0u8; 16];
+    let mut name = [0u8; 48];
+    filled(&mut four);
+    if !filled(&mut name) {
+        return Tally {
+            compared: 0,
+            differ: 0,
+            whole: false,
+        };
+    }
+    let t = section(head_at(&four));
+    print_counts(&name, t);
+    t
+}
+
+fn all(sections: u32) -> Tally {
+    let mut compared = 0u64;
+    let mut differ = 0u64;
+    for s in 0..sections {
+        let t = next_section();
+        compared += t.compared;
+        differ += t.differ;
+        if !t.whole {
+            return Tally {
+                compared: compared,
+                differ: differ,
+                whole: false,
+            };
+        }
+    }
+    Tally {
+        compared: compared,
+        differ: differ,
+        whole: true,
+    }
+}
+
+fn say_if(wrong: bool, text: &[u8]) {
+    if wrong {
+        say(text);
+    }
+}
+
+fn list(sections: u32, answers: u32) {
+    let t = all(sections);
+    print_counts(b"all                                             ", t);
+    say_if(!t.whole, b"the list is cut, or not of this form\n");
+    say_if(
+        t.compared != answers as u64,
+        b"the head of the list counts other answers\n",
+    );
+    let mut more = [0u8; 1];
+    say_if(
+        filled(&mut more),
+        b"the list goes on after its last section\n",
+    );
+}
+
+fn main() {
+    let mut head = [0u8; 12];
+    filled(&mut head);
+    if word_at(&head, 0) == MAGIC {
+        list(word_at(&head, 1), word_at(&head, 2));
+    } else {
+        say(b"not a list of answers\n");
+    }
+}

@@ -1,9 +1,12 @@
 //! The joint tick: the archive's two calls against the Rust's own calls in document 01's order, byte for byte, and the third
 //! demand by looking back. FOSAVALO_TICKS asks for more ticks than the gate's five million.
 
+use compare::generate::Rng;
 use compare::joint::bytes::{float, put, word, ANSWER, IMAGE, SETUP, TICK};
+use compare::joint::model::Flight;
+use compare::joint::pilot::Pilot;
 use compare::joint::runs::{self, Seen, Watch};
-use compare::joint::{lengths, parts, Face, ARCHIVE};
+use compare::joint::{lengths, parts, refusal, Face, ARCHIVE};
 use std::time::Instant;
 
 #[test]
@@ -108,6 +111,27 @@ fn a_wrong_length_taken_or_a_byte_changed_is_caught() {
         ..parts::RIGHT
     };
     assert!(lengths::ticks(&longer).is_err() && lengths::ticks(&writes).is_err() && lengths::setups(&writes).is_err());
+}
+
+/// What a tick would be refused for, asked beforehand: of good images and damaged ones, at lengths that are right and that are not.
+#[test]
+fn a_tick_tells_beforehand_what_it_would_be_refused_for() {
+    let mut whole = [0; IMAGE + 20];
+    Flight::set_up(&Pilot::on_a_pass(0).set_up()).write(&mut whole[..IMAGE]);
+    let (mut rng, mut seen) = (Rng::new("tick_refusal", 1), [0u32; 5]);
+    for round in 0..200_000 {
+        let mut image = whole;
+        if round % 4 != 0 {
+            let bits = if rng.flag() { rng.special().to_bits() } else { rng.bits() as u32 >> rng.below(32) };
+            put(&mut image, rng.below(IMAGE / 4), bits);
+        }
+        let mut near = |right: usize| if rng.below(8) == 0 { rng.below(right + 20) } else { right };
+        let (i, n, a) = (near(IMAGE), near(TICK), near(ANSWER));
+        let expected = refusal::of_tick(&image[..i], n, a);
+        assert_eq!(faces::tick_refusal(&image[..i], n, a), expected, "lengths {i}, {n}, {a}, image {image:02x?}");
+        seen[expected as usize] += 1;
+    }
+    assert!(seen.iter().all(|&count| count > 1000), "{seen:?}");
 }
 
 // The layout and some lines of document 01 by hand, through the archive; the model has no part in them.

@@ -27,6 +27,7 @@ mod raw {
             answer: *mut u8,
             answer_len: usize,
         ) -> u32;
+        pub fn fosavalo_tick_refusal(image: *const u8, image_len: usize, input_len: usize, answer_len: usize) -> u32;
     }
 }
 
@@ -67,4 +68,18 @@ pub fn setup(image: &mut [u8], input: &[u8]) -> u32 {
 pub fn tick(image: &mut [u8], input: &[u8], answer: &mut [u8]) -> u32 {
     // SAFETY: as above.
     unsafe { raw::fosavalo_tick(image.as_mut_ptr(), image.len(), input.as_ptr(), input.len(), answer.as_mut_ptr(), answer.len()) }
+}
+
+/// What [`tick`] would give on this image with an input and an answer of these lengths. Nothing is changed.
+///
+/// ```
+/// use fosavalo::{calls, ANSWER_BYTES, IMAGE_BYTES, TICK_BYTES};
+///
+/// assert_eq!(calls::tick_refusal(&[0; IMAGE_BYTES], TICK_BYTES, ANSWER_BYTES), 4); // a blank image is broken
+/// assert_eq!(calls::tick_refusal(&[0; IMAGE_BYTES], TICK_BYTES, 0), 3); // the lowest number wins
+/// ```
+#[inline]
+pub fn tick_refusal(image: &[u8], input_len: usize, answer_len: usize) -> u32 {
+    // SAFETY: as above.
+    unsafe { raw::fosavalo_tick_refusal(image.as_ptr(), image.len(), input_len, answer_len) }
 }

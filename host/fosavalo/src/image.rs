@@ -1,5 +1,5 @@
 use crate::words::Take;
-use crate::{calls, Answer, Pilot, Refusal, SetUp, TickInput, ANSWER_BYTES, IMAGE_BYTES};
+use crate::{calls, Answer, Pilot, Refusal, SetUp, TickInput, ANSWER_BYTES, IMAGE_BYTES, TICK_BYTES};
 use std::fmt;
 
 /// The state that goes from tick to tick: 380 bytes that may be copied, stored and sent.
@@ -29,12 +29,13 @@ impl Image {
         Ok(Image { bytes })
     }
 
-    /// An image from bytes; refused where these are not 380. Whether it is broken is found by the next tick.
+    /// An image from bytes; refused where these are not 380. Whether it is broken is found by [`Image::check`] and by the next tick.
     ///
     /// ```
     /// use fosavalo::{Image, Refusal, TickInput};
     ///
     /// let mut blank = Image::from_bytes(&[0; 380])?;
+    /// assert_eq!(blank.check(), Err(Refusal::BrokenImage));
     /// assert_eq!(blank.tick(&TickInput::default()), Err(Refusal::BrokenImage));
     /// assert_eq!(Image::from_bytes(&[0; 379]), Err(Refusal::ImageLength));
     /// # Ok::<(), Refusal>(())
@@ -53,6 +54,11 @@ impl Image {
         let mut answer = [0; ANSWER_BYTES];
         Refusal::check(calls::tick(&mut self.bytes, &input.to_bytes(), &mut answer))?;
         Answer::from_bytes(&answer)
+    }
+
+    /// Whether a tick would take this image, and why not: what [`Image::tick`] would be refused for.
+    pub fn check(&self) -> Result<(), Refusal> {
+        Refusal::check(calls::tick_refusal(&self.bytes, TICK_BYTES, ANSWER_BYTES))
     }
 
     /// The lower threshold, as set-up left it.

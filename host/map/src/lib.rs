@@ -140,6 +140,7 @@ const ADDED: [(&str, &str, &str); 11] = [
     ("joint", "prepare", "the tick's first stage: fractions, gyro filter, governor"),
     ("joint", "reference_at", "the second: where the trajectory is"),
     ("joint", "guide", "the third: attitudes, fallback, psi, margin"),
+    ("joint", "observe", "the rate controller's observers, which go before the third"),
     ("joint", "finish", "the fourth: shield, rate controller"),
     ("joint", "tick", "all four"),
     ("flight", "setup", "set-up on lent bytes"),
@@ -147,6 +148,7 @@ const ADDED: [(&str, &str, &str); 11] = [
     ("flight", "tick_refusal", "what a tick would be refused for"),
     ("fosavalo", "fosavalo_setup", "the C call"),
     ("fosavalo", "fosavalo_tick", "the C call"),
+    ("fosavalo", "fosavalo_tick_refusal", "the C call"),
 ];
 
 pub fn root() -> PathBuf {

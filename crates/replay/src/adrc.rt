@@ -34,10 +34,10 @@ use relay_math::Vec3;
 
 pub(crate) fn answer(n: u32, i: Row) -> Row {
     if n < 205 {
-        return gains(n, i.0);
+        return gains(n, i);
     }
     if n < 211 {
-        return one_axis(n, i.0, i.1.0);
+        return one_axis(n, i);
     }
     if n < 216 {
         return lowpasses(n, i);
@@ -45,29 +45,35 @@ pub(crate) fn answer(n: u32, i: Row) -> Row {
     if n < 222 {
         return rates(n, i);
     }
-    filters(n, i)
+    if n < 228 {
+        return filters(n, i);
+    }
+    three_filters(n, i)
 }
 
-fn gains(n: u32, w: Mat3) -> Row {
-    let g = adrc_gains(w.0.0, w.0.1, w.0.2, w.1.0);
+fn gains(n: u32, i: Row) -> Row {
+    let g = adrc_gains(i.0.0.0, i.0.0.1, i.0.0.2, i.0.1.0);
     match n {
-        200 => of_gains(AdrcGains::new(w.0.0, w.0.1, w.0.2)),
-        201 => of_gains(AdrcGains::with_tau(w.0.0, w.0.1, w.0.2, w.1.0)),
-        202 => of_gains(AdrcGains::from_bandwidth(w.0.0, w.0.1, w.0.2, w.1.0)),
-        203 => row1(flag(g.well_separated(w.1.1))),
-        _ => row1(flag(g.eso_dt_stable(w.1.1, w.1.2))),
+        200 => of_gains(AdrcGains::new(g.omega_o, g.omega_c, g.b0)),
+        201 => of_gains(AdrcGains::with_tau(g.omega_o, g.omega_c, g.b0, g.tau)),
+        202 => of_gains(AdrcGains::from_bandwidth(g.omega_o, g.omega_c, g.b0, g.tau)),
+        203 => row1(flag(g.well_separated(i.0.1.1))),
+        _ => row1(flag(g.eso_dt_stable(i.0.1.1, i.0.1.2))),
     }
 }
 
-fn one_axis(n: u32, w: Mat3, v: Vec3) -> Row {
-    let a = axis(w);
+fn one_axis(n: u32, i: Row) -> Row {
+    let a = axis(i.0);
     match n {
-        205 => row1(relay_adrc::sanitise(w.0.0, w.0.1)),
-        206 => of_axis(AdrcAxis::new(adrc_gains(w.0.0, w.0.1, w.0.2, w.1.0)), 0.0),
+        205 => row1(relay_adrc::sanitise(a.z1, a.z2)),
+        206 => of_axis(
+            AdrcAxis::new(adrc_gains(a.z1, a.z2, a.u_prev, a.u_act)),
+            0.0,
+        ),
         207 => row1(a.disturbance()),
-        208 => of_axis_tick(a.tick(v.0, v.1, v.2)),
+        208 => of_axis_tick(a.tick(i.1.0.0, i.1.0.1, i.1.0.2)),
         209 => of_axis(a.reset(), 0.0),
-        _ => of_axis(a.set_delivered_fraction(v.0), 0.0),
+        _ => of_axis(a.set_delivered_fraction(i.1.0.0), 0.0),
     }
 }
 
@@ -82,13 +88,14 @@ fn lowpasses(n: u32, i: Row) -> Row {
 }
 
 fn rates(n: u32, i: Row) -> Row {
+    let a = axes(i);
     match n {
         216 => of_axes(new_rate(i.0, i.1.0), O),
         217 => of_axes(AdrcRate::falcon_quad(), O),
-        218 => of_rate_tick(axes(i).tick(body_rate(i.3.0), body_rate(i.3.1), i.3.2.0)),
-        219 => of_axes(axes(i).reset(), O),
-        220 => of_axes(axes(i).set_delivered_fraction(i.3.0), O),
-        _ => row3(axes(i).disturbance()),
+        218 => of_rate_tick(a.tick(body_rate(i.3.0), body_rate(i.3.1), i.3.2.0)),
+        219 => of_axes(a.reset(), O),
+        220 => of_axes(a.set_delivered_fraction(i.3.0), O),
+        _ => row3(a.disturbance()),
     }
 }
 
@@ -101,23 +108,23 @@ fn new_rate(w: Mat3, v: Vec3) -> AdrcRate {
 }
 
 fn filters(n: u32, i: Row) -> Row {
+    let f = filter(i.0.0, i.0.1.0, i.0.1.1);
     match n {
-        222 => row1(relay_adrc::clamp_sym(i.0.0.0, i.0.0.1)),
-        223 => of_filter(CommandFilter::new(i.0.0.0, i.0.0.1, i.0.0.2), 0.0),
-        228 => of_filter3(CommandFilter3::new(i.0.0.0, i.0.0.1, i.0.0.2), O),
-        229 => of_stepped3(filter3(i.0, i.1).step(i.1.2, i.2.0.0)),
-        230 => of_filter3(filter3(i.0, i.1).reset(), O),
-        _ => one_filter(n, i.0),
-    }
-}
-
-fn one_filter(n: u32, w: Mat3) -> Row {
-    let f = filter(w.0, w.1.0, w.1.1);
-    match n {
-        224 => of_stepped(f.step(w.1.2, w.2.0)),
+        222 => row1(relay_adrc::clamp_sym(f.omega_n, f.max_mag)),
+        223 => of_filter(CommandFilter::new(f.omega_n, f.max_mag, f.max_rate), 0.0),
+        224 => of_stepped(f.step(i.0.1.2, i.0.2.0)),
         225 => row1(f.value()),
         226 => row1(f.rate()),
         _ => of_filter(f.reset(), 0.0),
+    }
+}
+
+fn three_filters(n: u32, i: Row) -> Row {
+    let f = filter3(i.0, i.1);
+    match n {
+        228 => of_filter3(CommandFilter3::new(i.0.0.0, i.0.0.1, i.0.0.2), O),
+        229 => of_stepped3(f.step(i.1.2, i.2.0.0)),
+        _ => of_filter3(f.reset(), O),
     }
 }
 

@@ -10,7 +10,6 @@ use super::parts::row3;
 use super::parts::row6;
 use super::parts::row9;
 use super::parts::row12;
-use super::parts::set;
 use super::parts::shield;
 use relay_geo::Attitude;
 use relay_geo::Feedforward;
@@ -75,24 +74,17 @@ fn feedforward_from(w: Mat3) -> Row {
 }
 
 fn controls(n: u32, i: Row) -> Row {
+    let c = controller(i.0);
     match n {
         16 => of_gains(GeoGains::falcon_quad()),
-        17 => of_gains(controller(i.0).gains),
+        17 => of_gains(c.gains),
         18 => row1(GeoAtt::psi(i.0, i.1)),
         19 => row3(GeoAtt::attitude_error(i.0, i.1)),
         20 => row3(GeoAtt::attitude_error_reduced(i.0, i.1.0)),
-        21 => row3(
-            controller(i.0)
-                .moment_reduced(i.1, body_rate(i.2.0), i.2.1)
-                .0,
-        ),
-        22 => row3(
-            controller(i.0)
-                .moment(i.1, body_rate(i.2.0), mat(i.2.1, i.2.2, i.3.0))
-                .0,
-        ),
-        23 => row3(desired_rate(controller(i.0), i.1)),
-        _ => row3(tick(controller(i.0), i.1, i.2.0)),
+        21 => row3(c.moment_reduced(i.1, body_rate(i.2.0), i.2.1).0),
+        22 => row3(c.moment(i.1, body_rate(i.2.0), mat(i.2.1, i.2.2, i.3.0)).0),
+        23 => row3(desired_rate(c, i.1)),
+        _ => row3(tick(c, i.1, i.2.0)),
     }
 }
 
@@ -111,14 +103,15 @@ fn tick(c: GeoAtt, w: Mat3, v: Vec3) -> Vec3 {
 }
 
 fn shields(n: u32, i: Row) -> Row {
+    let s = shield(i.0);
     match n {
         25 => row3(of_set(RecoverableSet::new(i.0.0.0, i.0.0.1, i.0.0.2))),
-        26 => row1(set(i.0.0).margin(i.0.1.0, i.0.1.1)),
-        27 => row1(flag(set(i.0.0).recoverable(i.0.1.0, i.0.1.1))),
-        28 => of_shield(SimplexShield::new(set(i.0.0), i.0.1.0, i.0.1.1)),
-        29 => row1(flag(shield(i.0).fallback_engaged())),
-        30 => filter(shield(i.0), i.0.2, i.1),
-        _ => step(shield(i.0), i.0.2, i.1),
+        26 => row1(s.set.margin(i.0.1.0, i.0.1.1)),
+        27 => row1(flag(s.set.recoverable(i.0.1.0, i.0.1.1))),
+        28 => of_shield(SimplexShield::new(s.set, i.0.1.0, i.0.1.1)),
+        29 => row1(flag(s.fallback_engaged())),
+        30 => filter(s, i.0.2, i.1),
+        _ => step(s, i.0.2, i.1),
     }
 }
 

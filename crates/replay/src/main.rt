@@ -116,17 +116,29 @@ fn same_row(a: Row, b: Row) -> bool {
     same9(a.3, b.3)
 }
 
-// All 36 words are compared: past the stored ones there are zeros, so that an answer of more words differs.
+struct Stored {
+    row: Row,
+    whole: bool,
+}
+
+// The next n words of the list, and zeros after them.
+fn words_left(n: usize) -> Stored {
+    let mut bytes = [0u8; 144];
+    let whole = filled_to(&mut bytes, n);
+    Stored {
+        row: row_at(&bytes),
+        whole: whole,
+    }
+}
+
+// All 36 words are compared, so an answer of more words than are stored differs.
 fn routine(n: u32, given: usize, answered: usize) -> Verdict {
-    let mut inputs = [0u8; 144];
-    let mut stored = [0u8; 144];
-    if !filled_to(&mut inputs, given) {
+    let i = words_left(given);
+    let e = words_left(answered);
+    if !e.whole {
         return Verdict::Cut;
     }
-    if !filled_to(&mut stored, answered) {
-        return Verdict::Cut;
-    }
-    judged(same_row(worked_out(n, row_at(&inputs)), row_at(&stored)))
+    judged(same_row(worked_out(n, i.row), e.row))
 }
 
 // ---- sections
@@ -267,25 +279,24 @@ fn all(sections: u32) -> Tally {
     }
 }
 
-fn say_if(wrong: bool, text: &[u8]) {
-    if wrong {
-        say(text);
+// Whether the list is of another form or length than its head says.
+fn amiss(t: Tally, answers: u32) -> bool {
+    if !t.whole {
+        return true;
     }
+    if t.compared != answers as u64 {
+        return true;
+    }
+    let mut more = [0u8; 1];
+    filled(&mut more)
 }
 
 fn list(sections: u32, answers: u32) {
     let t = all(sections);
     print_counts(b"all                                             ", t);
-    say_if(!t.whole, b"the list is cut, or not of this form\n");
-    say_if(
-        t.compared != answers as u64,
-        b"the head of the list counts other answers\n",
-    );
-    let mut more = [0u8; 1];
-    say_if(
-        filled(&mut more),
-        b"the list goes on after its last section\n",
-    );
+    if amiss(t, answers) {
+        say(b"the list is cut, too long, or not of this form\n");
+    }
 }
 
 fn main() {

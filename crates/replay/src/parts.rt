@@ -47,7 +47,7 @@ pub(crate) fn controller(w: Mat3) -> GeoAtt {
     GeoAtt::new(gains(w.0, w.1, w.2))
 }
 
-pub(crate) fn set(v: Vec3) -> RecoverableSet {
+fn set(v: Vec3) -> RecoverableSet {
     RecoverableSet {
         k_r: v.0,
         lambda_j: v.1,

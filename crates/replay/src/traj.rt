@@ -23,44 +23,45 @@ use relay_traj::Segment3;
 
 pub(crate) fn answer(n: u32, i: Row) -> Row {
     if n < 106 {
-        return quintics(n, i.0);
+        return quintics(n, i);
     }
     if n < 111 {
         return segments(n, i);
     }
-    governors(n, i.0)
+    governors(n, i)
 }
 
-fn quintics(n: u32, w: Mat3) -> Row {
-    let q = quintic(w.0, w.1, w.2.0);
+fn quintics(n: u32, i: Row) -> Row {
+    let q = quintic(i.0.0, i.0.1, i.0.2.0);
     match n {
-        100 => row1(relay_traj::fin(w.0.0, w.0.1)),
-        101 => of_quintic(Quintic::new(w.0.0, w.0.1, w.0.2, w.1.0, w.1.1, w.1.2, w.2.0)),
+        100 => row1(relay_traj::fin(q.c5, q.c4)),
+        101 => of_quintic(Quintic::new(q.c5, q.c4, q.c3, q.c2, q.c1, q.c0, q.t_end)),
         102 => row1(q.duration()),
-        103 => of_sample(q.eval(w.2.1)),
+        103 => of_sample(q.eval(i.0.2.1)),
         104 => of_coeffs(q.jerk_coeffs()),
         _ => row1(q.peak_abs_jerk()),
     }
 }
 
 fn segments(n: u32, i: Row) -> Row {
+    let s = segment(i.0, i.1, i.2.0);
     match n {
         106 => of_segment(Segment3::new(i.0.0, i.0.1, i.0.2, i.1.0, i.1.1, i.1.2, i.2.0.0)),
         107 => of_segment(Segment3::rest_to_rest(i.0.0, i.0.1, i.0.2.0)),
-        108 => row1(segment(i.0, i.1, i.2.0).duration()),
-        109 => of_sample3(segment(i.0, i.1, i.2.0).eval(i.2.1.0)),
-        _ => row3(segment(i.0, i.1, i.2.0).peak_abs_jerk()),
+        108 => row1(s.duration()),
+        109 => of_sample3(s.eval(i.2.1.0)),
+        _ => row3(s.peak_abs_jerk()),
     }
 }
 
-fn governors(n: u32, w: Mat3) -> Row {
-    let g = governor(w);
+fn governors(n: u32, i: Row) -> Row {
+    let g = governor(i.0);
     match n {
-        111 => row1(relay_traj::clamp_to(w.0.0, w.0.1)),
-        112 => row1(relay_traj::gate_factor(w.0.0, w.0.1, w.0.2, w.1.0)),
-        113 => of_governor(RefGovernor::new(w.0.0, w.0.1, w.0.2), 0.0),
-        114 => row1(g.gate(w.1.1)),
-        115 => of_advanced(g.advance(w.1.1, w.1.2)),
+        111 => row1(relay_traj::clamp_to(g.s, g.err_lo)),
+        112 => row1(relay_traj::gate_factor(g.s, g.err_lo, g.err_hi, g.g_min)),
+        113 => of_governor(RefGovernor::new(g.s, g.err_lo, g.err_hi), 0.0),
+        114 => row1(g.gate(i.0.1.1)),
+        115 => of_advanced(g.advance(i.0.1.1, i.0.1.2)),
         116 => row1(g.time()),
         _ => of_governor(g.reset(), 0.0),
     }

@@ -135,7 +135,7 @@ const MODULES: [Module; 5] = [
 ];
 
 /// Ours without a Rust original: crate, function, what it is.
-const ADDED: [(&str, &str, &str); 11] = [
+const ADDED: [(&str, &str, &str); 13] = [
     ("joint", "set_up", "set-up over values"),
     ("joint", "prepare", "the tick's first stage: fractions, gyro filter, governor"),
     ("joint", "reference_at", "the second: where the trajectory is"),

@@ -131,9 +131,12 @@ fn words_left(n: usize) -> Stored {
     }
 }
 
-// All 36 words are compared, so an answer of more words than are stored differs.
+// All 36 words are compared, so that an answer of more words than are stored is seen.
 fn routine(n: u32, given: usize, answered: usize) -> Verdict {
     let i = words_left(given);
+    if !i.whole {
+        return Verdict::Cut;
+    }
     let e = words_left(answered);
     if !e.whole {
         return Verdict::Cut;

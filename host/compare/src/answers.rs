@@ -87,10 +87,12 @@ pub fn sections() -> Vec<Section> {
     all
 }
 
-/// A routine's number is a hundred times its document's and its place in the table.
+/// A routine's number is a hundred times its document's and its place in the table. One over a lent state is the same routine once
+/// more, so the list has it once.
 fn routines() -> Vec<(u32, Routine)> {
     let documents = table::documents().into_iter().chain([numbers()]);
-    documents.zip(0u32..).flat_map(|(document, d)| document.into_iter().zip(100 * d..).map(|(routine, number)| (number, routine))).collect()
+    let once = |document: Vec<Routine>| document.into_iter().filter(|routine| !routine.name.ends_with(", lent"));
+    documents.zip(0u32..).flat_map(|(document, d)| once(document).zip(100 * d..).map(|(routine, number)| (number, routine))).collect()
 }
 
 /// 004, as far as it is published and fixed: sine and cosine are the port's own in the oracle too.

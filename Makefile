@@ -1,11 +1,13 @@
-# make fly         prove and build the core, then fly a slow pass above a stage: a table and a picture, our shield beside the earlier rule
+# make fly         prove and build the core, then fly a slow pass above a stage: a table and a picture, our shield beside the earlier rule;
+#                  and a pass of three legs on a route
 #                  `make fly SCENARIO=my.txt` flies that file instead (docs/FLYING.md); INSTALL=no installs nothing for the picture
 # make choices     the pass with other choices of set, filter and noise: what hangs on them
 # make test        the gate: proofs, must-fail edits, programs, the host's comparisons; its last line is `N passed, 0 failed`
 # make table       roots, sines and cosines beside the hardware's and document 01's
 # make exhaustive  every f32 (some minutes)
 # make routines    every routine beside the Rust's, ROWS rows of input each: `make routines ROWS=100000000` (without it, the gate's million)
-# make ticks       the joint tick beside the Rust's calls, TICKS accepted ticks: `make ticks TICKS=100000000` (without it, the gate's five million)
+# make ticks       the joint tick beside the Rust's calls, TICKS accepted ticks: `make ticks TICKS=100000000` (without it, the gate's five million);
+#                  then half as many, mixed with ticks on routes
 # make answers     makes the oracle's stored answers again, which the program `replay` runs (docs/ORACLE.md)
 # make bench       times, as ratios to the other side in one run
 # make docs        the safe crate's pages, host/target/doc/fosavalo/index.html

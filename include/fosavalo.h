@@ -23,13 +23,19 @@ float fosavalo_cosf(float x);
 #define FOSAVALO_SETUP_BYTES 200
 #define FOSAVALO_TICK_BYTES 68
 #define FOSAVALO_ANSWER_BYTES 40
+#define FOSAVALO_LEG_BYTES 76
+#define FOSAVALO_ROUTE_TRAILER_BYTES 8
+#define FOSAVALO_MOST_LEGS 8
 
-/* What set-up and tick return. Where several hold it is the lowest. */
+/* What set-up and the ticks return. Of 0 to 4 it is the lowest that holds; 5 to 7 come after 4, in the order that the route tick tells. */
 #define FOSAVALO_DONE 0                /* the image is written, at a tick the answer too */
 #define FOSAVALO_WRONG_IMAGE_LENGTH 1  /* image_len is not FOSAVALO_IMAGE_BYTES */
 #define FOSAVALO_WRONG_INPUT_LENGTH 2  /* input_len is not FOSAVALO_SETUP_BYTES, at a tick FOSAVALO_TICK_BYTES */
 #define FOSAVALO_WRONG_ANSWER_LENGTH 3 /* tick only: answer_len is not FOSAVALO_ANSWER_BYTES */
 #define FOSAVALO_BROKEN_IMAGE 4        /* tick only: no set-up or tick leaves such an image */
+#define FOSAVALO_WRONG_LEG_COUNT 5     /* route tick only: the count is 0 or above FOSAVALO_MOST_LEGS */
+#define FOSAVALO_WRONG_ROUTE_LENGTH 6  /* route tick only: under 8 bytes, or the bytes back or the length do not go with the count */
+#define FOSAVALO_LEGS_APART 7          /* route tick only: a leg does not start where the one before it ends */
 
 /* Writes a fresh image, the state that goes from tick to tick; what stood in it is not read.
  *
@@ -54,6 +60,19 @@ uint32_t fosavalo_tick(uint8_t *image, size_t image_len, const uint8_t *input, s
 /* What a tick on this image, with an input and an answer of these lengths, would return: 0 to 4, by the lengths and the image alone.
  * Nothing is changed. For a caller that has a state of its own to keep in step. */
 uint32_t fosavalo_tick_refusal(const uint8_t *image, size_t image_len, size_t input_len, size_t answer_len);
+
+/* One tick toward a route in place of the image's segment, which is not looked at and kept; image, input and answer are those of a tick.
+ * Plain ticks and route ticks may follow each other in any order; the governor's time runs on over both.
+ *
+ * route: 1 to 8 legs of 19 words each, p0, v0, a0, pf, vf, af (3 each), t; then two words, the count and how many bytes back from there
+ * the first leg starts, 76 times the count. Legs meet: each p0, v0, a0 equals the pf, vf, af before it as numbers, so that -0.0 meets 0.0
+ * and a NaN meets nothing. A leg ends at the sum of the durations up to it, as set-up mends them; the first leg whose end is above the
+ * governor's time is flown, at the time less the end before it; past all ends it is the last leg at its duration.
+ *
+ * Returns 0 to 7. After 4 it is 6 for a route under 8 bytes, then 5, then 6, then 7. Unless it is 0 no byte of the image or the answer is
+ * changed; the input and the route never are. Each pointer has to be good for its length, whatever that is, and no two of the four buffers
+ * may overlap, but for the input and the route, which are only read. */
+uint32_t fosavalo_route_tick(uint8_t *image, size_t image_len, const uint8_t *input, size_t input_len, const uint8_t *route, size_t route_len, uint8_t *answer, size_t answer_len);
 
 #ifdef __cplusplus
 }

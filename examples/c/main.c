@@ -1,4 +1,4 @@
-/* Sets up an image, ticks it along a slow pass and prints who flies; then two calls that are refused.
+/* Sets up an image, ticks it along a slow pass and prints who flies; then a tick on a route of two legs, and calls that are refused.
  *
  *   gcc -std=c11 -Wall -Wextra -Werror -I../../include main.c ../../target/staticlib/libfosavalo.a -o joint && ./joint
  */
@@ -7,10 +7,14 @@
 #include <stdio.h>
 #include <string.h>
 
+static void put_word(uint8_t *bytes, size_t at, uint32_t bits) {
+    for (size_t k = 0; k < 4; k++) bytes[4 * at + k] = (uint8_t)(bits >> (8 * k));
+}
+
 static void put(uint8_t *bytes, size_t at, float x) {
     uint32_t bits;
     memcpy(&bits, &x, sizeof bits);
-    for (size_t k = 0; k < 4; k++) bytes[4 * at + k] = (uint8_t)(bits >> (8 * k));
+    put_word(bytes, at, bits);
 }
 
 static uint32_t word(const uint8_t *bytes, size_t at) {
@@ -37,6 +41,13 @@ static const float setup[FOSAVALO_SETUP_BYTES / 4] = {
     8,                                                               /* t */
     40, 12, 60, 0.0125f, 40, 12, 60, 0.0125f, 30, 3, 18, 0.025f,     /* ADRC, axis by axis */
     0, 1000,                                                         /* fc, fs: no filter */
+};
+
+/* Two legs, there and back: p0, v0, a0, pf, vf, af, t. */
+#define LEG_WORDS (FOSAVALO_LEG_BYTES / 4)
+static const float legs[2][LEG_WORDS] = {
+    {0, 0, 0, 0, 0, 0, 0, 0, 0, 3, 0, 0, 0, 0, 0, 0, 0, 0, 8},
+    {3, 0, 0, 0, 0, 0, 0, 0, 0, 0, 0, 0, 0, 0, 0, 0, 0, 0, 8},
 };
 
 /* Roll rates that take the margin above exit, into the band, below enter, into the band again and out at the top. */
@@ -71,6 +82,18 @@ int main(void) {
                number(answer, 3), number(answer, 4), number(answer, 5), (unsigned)word(answer, 6), word(answer, 6) ? "fallback" : "planner",
                number(answer, 9));
     }
+
+    uint8_t route[2 * FOSAVALO_LEG_BYTES + FOSAVALO_ROUTE_TRAILER_BYTES];
+    for (size_t k = 0; k < 2 * LEG_WORDS; k++) put(route, k, legs[k / LEG_WORDS][k % LEG_WORDS]);
+    put_word(route, 2 * LEG_WORDS, 2);
+    put_word(route, 2 * LEG_WORDS + 1, 2 * FOSAVALO_LEG_BYTES);
+    refused = fosavalo_route_tick(image, sizeof image, input, FOSAVALO_TICK_BYTES, route, sizeof route, answer, sizeof answer);
+    printf("route of two legs: %u, time %.4f, flag %u\n", (unsigned)refused, number(answer, 7), (unsigned)word(answer, 6));
+    if (refused != FOSAVALO_DONE) return 1;
+    put(route, LEG_WORDS, 3.5f);
+    refused = fosavalo_route_tick(image, sizeof image, input, FOSAVALO_TICK_BYTES, route, sizeof route, answer, sizeof answer);
+    printf("legs that do not meet: refused with %u\n", (unsigned)refused);
+    if (refused != FOSAVALO_LEGS_APART) return 1;
 
     /* an answer buffer that is too short; then an image with a latch that is neither 0 nor 1 */
     uint8_t before[FOSAVALO_IMAGE_BYTES];

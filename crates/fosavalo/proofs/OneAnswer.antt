@@ -7,6 +7,7 @@ use Rattle.fosavalo.proofs.fosavalo_cosf
 use Rattle.fosavalo.proofs.fosavalo_setup
 use Rattle.fosavalo.proofs.fosavalo_tick
 use Rattle.fosavalo.proofs.fosavalo_tick_refusal
+use Rattle.fosavalo.proofs.fosavalo_route_tick
 
 pub fosavalo-sinf-once : OneAnswer fosavalo_sinf.ended fosavalo_sinf.Reads.Post
 fosavalo-sinf-once κs a x y v w p q = (no-second p q, refl)
@@ -26,3 +27,8 @@ fosavalo-tick-once κs a x y v w p q =
 
 pub fosavalo-tick-refusal-once : OneAnswer fosavalo_tick_refusal.ended fosavalo_tick_refusal.Reads.Post
 fosavalo-tick-refusal-once κs a x y v w p q = (no-second p q, refl)
+
+pub fosavalo-route-tick-once : OneAnswer fosavalo_route_tick.ended fosavalo_route_tick.Reads.Post
+fosavalo-route-tick-once κs a x y v w p q =
+    let e = no-second p q in
+    (ap (λ (c : Numbered). c .returned) e, both (ap (λ (c : Numbered). c .image) e) (both refl (both refl (both (ap (λ (c : Numbered). c .answer) e) refl))))

@@ -2,6 +2,9 @@
 use Prim.Native.Nat.{ℕ}
 use mathlib.Core.List.{List, []}
 use Rattle.flight.specs.Entry.{Called, number, setUpCall, tickCall}
+use Rattle.route.specs.Outcomes as route
+use Rattle.route.specs.Entry.{routeCall}
+use Rattle.route.specs.Entry as on-route
 
 -- the number that is returned, and what the image and the answer hold afterwards
 pub record Numbered : Type 0 where
@@ -21,3 +24,9 @@ setUpNumbered image input = asNumber (setUpCall image input [])
 
 unfoldable pub tickNumbered : List ℕ → List ℕ → List ℕ → Numbered
 tickNumbered image input answer = asNumber (tickCall image input answer)
+
+abbrev pub asRouteNumber : on-route.Called → Numbered
+asRouteNumber c = numbered (route.number (c .outcome)) (c .image) (c .answer)
+
+unfoldable pub routeNumbered : List ℕ → List ℕ → List ℕ → List ℕ → Numbered
+routeNumbered image input route answer = asRouteNumber (routeCall image input route answer)

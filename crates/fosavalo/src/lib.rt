@@ -3,7 +3,7 @@ ghost use mathlib.Core.Path.{_≡_};
 ghost use mathlib.Core.List.{[]};
 ghost use Rattle.relay_math.specs.Steps.{sinf, cosf};
 ghost use Rattle.flight.specs.Entry.{number, tickRefusal};
-ghost use Rattle.fosavalo.specs.Numbers.{numbered, setUpNumbered, tickNumbered};
+ghost use Rattle.fosavalo.specs.Numbers.{numbered, setUpNumbered, tickNumbered, routeNumbered};
 
 #[no_mangle]
 pub extern "C" fn fosavalo_sinf(x: f32) -> f32
@@ -41,4 +41,17 @@ pub extern "C" fn fosavalo_tick_refusal(image: &[u8], input_len: usize, answer_l
     ensures { λ r. ⌜ r ≡ number (tickRefusal (now (image .entry)) «input_len» «answer_len») ⌝ }
 {
     flight::number(flight::tick_refusal(image, input_len, answer_len))
+}
+
+// A tick on a route: the number of its outcome, and the image and the answer as `route::route_tick` leaves them.
+#[no_mangle]
+pub extern "C" fn fosavalo_route_tick(
+    image: &mut [u8],
+    input: &[u8],
+    route: &[u8],
+    answer: &mut [u8],
+) -> u32
+    ensures { λ r. ⌜ numbered r (now (image .exit)) (now (answer .exit)) ≡ routeNumbered (now (image .entry)) (now (input .entry)) (now (route .entry)) (now (answer .entry)) ⌝ }
+{
+    route::number(route::route_tick(image, input, route, answer))
 }

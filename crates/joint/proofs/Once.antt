@@ -16,13 +16,14 @@ use Rattle.relay_geo.specs.Controller.{rateToward, desiredRate}
 use Rattle.relay_geo.specs.Set.{margin}
 use Rattle.relay_geo.proofs.Accepts.{shared-attitude, shared-feedforward}
 use Rattle.relay_geo.proofs.Finite.{sanitise3-finite, sanitise3-keeps}
+use Rattle.joint.specs.declared.state.State.{State}
 use Rattle.joint.specs.declared.state.TickInput.{TickInput}
 use Rattle.joint.specs.declared.stages.Reference.{Reference}
 use Rattle.relay_adrc.specs.declared.rate.AdrcRate.{AdrcRate}
 use Rattle.relay_adrc.proofs.Tick.{tick-in-halves}
 use Rattle.joint.specs.declared.stages.Prepared.{Prepared}
 use Rattle.joint.specs.declared.stages.Guided.{Guided}
-use Rattle.joint.specs.Tick.{cleaned, plus, rateSq, psiOf, marginOf, guide, observe, follow, followOn, finish, finishOn, picks}
+use Rattle.joint.specs.Tick.{prepare, cleaned, plus, rateSq, psiOf, marginOf, referenceAt, guide, guidance, observe, follow, followOn, finish, finishOn, picks, toward, ticked, tick}
 
 -- `desired_rate` cleans its acceleration, which is clean already: its R_d is the tick's
 pub one-attitude : (g : GeoGains) (q : Quat) (a : Vec3) (yaw : Float) → desiredRate g q (sanitise3 a) yaw ≡ rateToward g (quatToRotmat q) (thrustAttitude (sanitise3 a) yaw)
@@ -59,3 +60,13 @@ follow-in-halves r m w dt = rw (tick-in-halves (r .roll) (m .0 .0) (w .0 .0) dt,
 pub finish-in-halves : (p : Prepared) (g : Guided) (dt : Float) → finishOn p (observe (p .state .rate) (p .rate) dt) g ≡ finish p g dt
 unfolding finishOn finish
 finish-in-halves p g dt = rw (follow-in-halves (p .state .rate) (p .rate) (picks p g .command) dt)
+
+-- ---- a tick is its sample, and what comes after it
+
+pub tick-toward : (source : Float → Reference) (s : State) (i : TickInput) → toward (prepare s i) (source (prepare s i .time)) i ≡ ticked source s i
+unfolding toward ticked guidance prepare
+tick-toward source s i = refl
+
+pub segment-tick-toward : (s : State) (i : TickInput) → toward (prepare s i) (referenceAt (s .segment) (prepare s i .time)) i ≡ tick s i
+unfolding tick
+segment-tick-toward s i = tick-toward (referenceAt (s .segment)) s i

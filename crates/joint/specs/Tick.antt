@@ -169,6 +169,10 @@ guidance source s i =
 unfoldable pub ticked : (Float → Reference) → State → TickInput → Ticked
 ticked source s i = finish (prepare s i) (guidance source s i) (i .dt)
 
+-- the part of it that comes after the sample: `tick-toward` of proofs/Once.antt
+unfoldable pub toward : Prepared → Reference → TickInput → Ticked
+toward p wanted i = finish p (guide (p .state .gains) (p .state .shield .set) (p .rate) wanted i) (i .dt)
+
 -- the base's: the stored segment's reference
 unfoldable pub tick : State → TickInput → Ticked
 tick s i = ticked (referenceAt (s .segment)) s i

@@ -24,6 +24,7 @@ pub use stages::reference_at;
 pub use stages::sample_time;
 pub use stages::set_fractions;
 pub use stages::tick;
+pub use stages::tick_toward;
 pub use state::Answer;
 pub use state::Leg;
 pub use state::SetUp;

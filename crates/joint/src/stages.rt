@@ -24,7 +24,7 @@ use relay_math::Torque;
 use relay_math::Vec3;
 use relay_traj::Segment3;
 ghost use mathlib.Core.Path.{_≡_};
-ghost use Rattle.joint.specs.Tick.{setFractions, prepare, sampleTime, referenceAt, cleaned, plus, rateSq, psiOf, guide, observe, followOn, finishOn, tick};
+ghost use Rattle.joint.specs.Tick.{setFractions, prepare, sampleTime, referenceAt, cleaned, plus, rateSq, psiOf, guide, observe, followOn, finishOn, toward, tick};
 
 // The state with its fractions, filters and clock moved on, the filtered rate and the governor's time.
 #[repr(C)]
@@ -264,14 +264,21 @@ pub fn finish(prepared: Prepared, observed: Observed3, guided: Guided) -> Ticked
 
 // ---- the tick
 
+// All of a tick that comes after its sample, whatever the sample was taken of.
+pub fn tick_toward(prepared: Prepared, wanted: Reference, input: TickInput) -> Ticked
+    ensures { λ r. ⌜ r ≡ toward prepared wanted input ⌝ }
+{
+    let state = prepared.state;
+    let observed = observe(state.rate, prepared.rate, input.dt);
+    let shield = state.shield;
+    let guided = guide(state.gains, shield.set, prepared.rate, wanted, input);
+    finish(prepared, observed, guided)
+}
+
 pub fn tick(state: State, input: TickInput) -> Ticked
     ensures { λ r. ⌜ r ≡ tick state input ⌝ }
 {
     let prepared = prepare(state, input);
-    let before = prepared.state;
-    let observed = observe(before.rate, prepared.rate, input.dt);
     let wanted = reference_at(state.segment, prepared.time);
-    let shield = state.shield;
-    let guided = guide(state.gains, shield.set, prepared.rate, wanted, input);
-    finish(prepared, observed, guided)
+    tick_toward(prepared, wanted, input)
 }

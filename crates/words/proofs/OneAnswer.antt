@@ -4,6 +4,9 @@ use Rattle.relay_math.proofs.Determined.{OneAnswer, no-second, both}
 use Rattle.words.proofs.read
 use Rattle.words.proofs.write
 
+pub four-bytes-once : OneAnswer read.four_bytes.ended read.four_bytes.Reads.Post
+four-bytes-once κs a x y v w p q = (no-second p q, refl)
+
 pub word-at-once : OneAnswer read.word_at.ended read.word_at.Reads.Post
 word-at-once κs a x y v w p q = (no-second p q, refl)
 

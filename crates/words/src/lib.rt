@@ -4,6 +4,7 @@ mod write; // write.rt: the same into bytes
 
 pub use read::float_at;
 pub use read::float_of;
+pub use read::four_bytes;
 pub use read::vec_at;
 pub use read::word_at;
 pub use write::bits_of;

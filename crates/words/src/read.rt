@@ -12,8 +12,8 @@ fn wide(x: u8) -> u32
     x as u32
 }
 
-// The sum of the four bytes by weight compiles to one load.
-fn four_bytes(bytes: &[u8], at: usize) -> u32
+// A word from any byte on. The sum of the four bytes by weight compiles to one load.
+pub fn four_bytes(bytes: &[u8], at: usize) -> u32
     requires { ⌜ at + 4 ≤ length (now bytes) ⌝ }
     ensures { λ r. ⌜ r ≡ fourBytes (now (bytes .entry)) at ⌝ }
 {

@@ -5,14 +5,14 @@ use compare::generate::Rng;
 use compare::joint::bytes::{float, put, word, ANSWER, IMAGE, SETUP, TICK};
 use compare::joint::model::Flight;
 use compare::joint::pilot::Pilot;
-use compare::joint::runs::{self, Seen, Watch};
+use compare::joint::runs::{self, Along, Seen, Watch};
 use compare::joint::{lengths, parts, refusal, Face, ARCHIVE};
 use std::time::Instant;
 
 #[test]
 fn every_tick_is_the_rust_s_and_the_look_back_s() {
     let (start, ticks) = (Instant::now(), runs::ticks());
-    let (seen, parted) = runs::compare(&ARCHIVE, ticks, Watch::All, |_| {});
+    let (seen, parted) = runs::compare(&ARCHIVE, ticks, Watch::All, Along::Segment, |_| {});
     println!("{seen}\n{:.1} s", start.elapsed().as_secs_f32());
     if let Some(parted) = parted {
         panic!("{parted}");
@@ -64,7 +64,7 @@ fn looking_back_alone_catches_what_is_about_the_flag_and_the_command() {
 }
 
 fn caught(face: &Face, watch: Watch) -> bool {
-    let (seen, parted) = runs::compare(face, runs::GATE, watch, |_| {});
+    let (seen, parted) = runs::compare(face, runs::GATE, watch, Along::Segment, |_| {});
     if let Some(parted) = &parted {
         println!("{}: caught in run {}, tick {} ({})", face.name, parted.run, parted.tick, parted.what);
     } else {
@@ -76,7 +76,7 @@ fn caught(face: &Face, watch: Watch) -> bool {
 /// What the wrong ones are made from is right.
 #[test]
 fn the_single_routines_make_the_same_tick() {
-    let (_, parted) = runs::compare(&parts::RIGHT, runs::GATE / 10, Watch::All, |_| {});
+    let (_, parted) = runs::compare(&parts::RIGHT, runs::GATE / 10, Watch::All, Along::Segment, |_| {});
     if let Some(parted) = parted {
         panic!("{parted}");
     }

@@ -5,8 +5,9 @@ use faces::{adrc, geo, Vec3};
 
 #[test]
 fn the_same_lengths() {
-    use fosavalo::{ANSWER_BYTES, IMAGE_BYTES, SETUP_BYTES, TICK_BYTES};
+    use fosavalo::{ANSWER_BYTES, IMAGE_BYTES, LEG_BYTES, ROUTE_TRAILER_BYTES, SETUP_BYTES, TICK_BYTES};
     assert_eq!((IMAGE_BYTES, SETUP_BYTES, TICK_BYTES, ANSWER_BYTES), (bytes::IMAGE, bytes::SETUP, bytes::TICK, bytes::ANSWER));
+    assert_eq!((LEG_BYTES, ROUTE_TRAILER_BYTES), (bytes::LEG, bytes::TRAILER));
 }
 
 /// Its falcon_quad has relay's gains.

@@ -1,7 +1,7 @@
 //! What was flown, tick by tick, and who had control.
 
 use crate::vector::{norm, sub};
-use fosavalo::{Answer, Image, Pilot, Refusal, SetUp, TickInput};
+use fosavalo::{Answer, Image, Pilot, Refusal, Route, SetUp, TickInput};
 
 /// When the planner gets control back.
 #[derive(Clone, Copy, Debug, PartialEq, Eq)]
@@ -53,6 +53,8 @@ pub struct Tick {
 
 pub struct Flight {
     pub rule: Rule,
+    /// What is flown in place of the set-up's segment, where there is one.
+    pub route: Option<Route>,
     /// As mended by set-up.
     pub enter: f32,
     pub exit: f32,
@@ -61,14 +63,17 @@ pub struct Flight {
 
 impl Flight {
     /// A flight of which nothing is flown yet, and its image.
-    pub fn begin(set_up: &SetUp, rule: Rule) -> Result<(Self, Image), Refusal> {
+    pub fn begin(set_up: &SetUp, rule: Rule, route: Option<Route>) -> Result<(Self, Image), Refusal> {
         let (mended, image) = (Image::set_up(set_up)?, rule.image(set_up)?);
-        Ok((Flight { rule, enter: mended.enter(), exit: mended.exit(), ticks: Vec::new() }, image))
+        Ok((Flight { rule, route, enter: mended.enter(), exit: mended.exit(), ticks: Vec::new() }, image))
     }
 
     /// One tick more.
     pub fn tick(&mut self, image: &mut Image, input: TickInput) -> Result<Answer, Refusal> {
-        let answer = image.tick(&input)?;
+        let answer = match &self.route {
+            Some(route) => image.route_tick(&input, route)?,
+            None => image.tick(&input)?,
+        };
         // the step that the rate controller takes: a dt that is no use counts as a millisecond there
         let step = if input.dt.is_finite() { f64::from(input.dt).clamp(1e-4, 0.1) } else { 1e-3 };
         let seconds = self.ticks.last().map_or(0.0, |last| last.seconds + step);
@@ -77,8 +82,8 @@ impl Flight {
     }
 
     /// These inputs, whatever is answered.
-    pub fn of(set_up: &SetUp, rule: Rule, inputs: &[TickInput]) -> Result<Self, Refusal> {
-        let (mut flight, mut image) = Flight::begin(set_up, rule)?;
+    pub fn of(set_up: &SetUp, rule: Rule, route: Option<Route>, inputs: &[TickInput]) -> Result<Self, Refusal> {
+        let (mut flight, mut image) = Flight::begin(set_up, rule, route)?;
         for input in inputs {
             flight.tick(&mut image, *input)?;
         }

@@ -2,6 +2,7 @@
 
 pub mod aircraft;
 pub mod flight;
+pub mod legs;
 pub mod output;
 pub mod pass;
 pub mod planner;

@@ -1,9 +1,9 @@
-//! `fly`: the slow pass above a stage. `fly SCENARIO`: a flight from a file. Both print a table and write what was flown.
+//! `fly`: the slow pass above a stage, and a pass of three legs. `fly SCENARIO`: a flight from a file. Both print a table and write what was flown.
 
 use fly::flight::Flight;
 use fly::scenario::Scenario;
 use fly::table::{choices, passes, table, Pair};
-use fly::{output, pass};
+use fly::{legs, output, pass};
 use std::io::Write;
 use std::path::{Path, PathBuf};
 use std::process::ExitCode;
@@ -11,7 +11,8 @@ use std::process::ExitCode;
 const USAGE: &str = "fly [SCENARIO] [--out FOLDER]
 fly --choices
 
-Without a scenario: the slow pass above a stage in a closed loop, five seeds, our shield and the earlier rule side by side.
+Without a scenario: the slow pass above a stage in a closed loop, five seeds, our shield and the earlier rule side by side;
+then a pass of three legs on a route.
 With one: the flight of that file (host/fly/scenarios has examples, docs/FLYING.md says how one is written).
 Every tick goes to FOLDER (target/fly) as CSV, with a picture where gnuplot is there.
 With --choices: the pass with other choices of set, filter and noise, and how often control changed hands.";
@@ -50,6 +51,9 @@ fn run() -> Result<(), String> {
         let said = output::write(&folder, &name, &title, pair).map_err(|error| format!("{}: {error}", folder.display()))?;
         say(&format!("\n{}\n", said.join("\n")))?;
     }
+    if scenario.is_none() {
+        say(&format!("\n{}", legs::table().map_err(|refusal| refusal.to_string())?))?;
+    }
     Ok(())
 }
 
@@ -62,7 +66,7 @@ fn from_file(path: &Path) -> Result<(String, String, Vec<Pair>), String> {
     let scenario = Scenario::read(&bytes).map_err(|mistake| format!("{}: {mistake}", path.display()))?;
     let stem = path.file_stem().map_or("flight".into(), |stem| stem.to_string_lossy());
     let name: String = stem.chars().map(|c| if c.is_ascii_alphanumeric() || c == '-' { c } else { '_' }).collect();
-    let fly = |rule| Flight::of(&scenario.set_up, rule, &scenario.inputs);
+    let fly = |rule| Flight::of(&scenario.set_up, rule, scenario.route.clone(), &scenario.inputs);
     let pair = Pair::new(name.clone(), fly).map_err(|refusal| refusal.to_string())?;
     let [ours, _] = &pair.flights;
     let title = format!("{name}: {:.3} s in {} ticks, enter {}, exit {}", ours.seconds(), ours.ticks.len(), ours.enter, ours.exit);

@@ -5,7 +5,7 @@ use crate::flight::{Flight, Rule};
 use crate::planner::{Planner, Reference};
 use crate::random::Random;
 use crate::vector::{norm, sub, V3};
-use fosavalo::{Answer, BodyRate, Governor, GyroFilter, Pilot, RecoverableSet, Refusal, Segment, SetUp, TickInput, Torque};
+use fosavalo::{Answer, BodyRate, Governor, GyroFilter, Pilot, RecoverableSet, Refusal, Route, Segment, SetUp, TickInput, Torque};
 
 pub const SECONDS: f64 = 20.0;
 pub const DT: f32 = 0.001;
@@ -14,8 +14,8 @@ pub const SEEDS: [u64; 5] = [1, 2, 3, 4, 5];
 /// The seed that is drawn.
 pub const DRAWN: u64 = 1;
 
-const FROM: V3 = [0.0, -3.0, -4.0];
-const TO: V3 = [0.0, 3.0, -4.0];
+pub const FROM: V3 = [0.0, -3.0, -4.0];
+pub const TO: V3 = [0.0, 3.0, -4.0];
 /// How fast the wanted heading turns, rad/s: the camera stays on the middle of the stage.
 const PAN: f64 = -0.04;
 
@@ -95,7 +95,18 @@ fn reference(time: f32) -> Reference {
 
 /// Flies the pass. The noise, the planner's whims and everything else depend on the seed alone.
 pub fn fly(choice: &Choice, seed: u64, rule: Rule) -> Result<Flight, Refusal> {
-    let (mut flight, mut image) = Flight::begin(&set_up(choice), rule)?;
+    fly_along(choice, seed, rule, None, reference)
+}
+
+/// The same, on a route where one is given; `reference` says where its trajectory is.
+pub fn fly_along(
+    choice: &Choice,
+    seed: u64,
+    rule: Rule,
+    route: Option<Route>,
+    reference: impl Fn(f32) -> Reference,
+) -> Result<Flight, Refusal> {
+    let (mut flight, mut image) = Flight::begin(&set_up(choice), rule, route)?;
     let (mut whims, mut noise) = (Random::new(2 * seed), Random::new(2 * seed + 1));
     let dt = f64::from(DT);
     let yaw_at = |k: u64| PAN * (k as f64 * dt - 0.5 * SECONDS);

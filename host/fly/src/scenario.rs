@@ -9,9 +9,11 @@
 //! row 0 0 0  1 0 0 0  0 0 0 0.001  0 0 0  1 1 1     # one tick, all seventeen numbers
 //! ```
 //!
+//! Lines `leg` with nineteen numbers, before the first tick, make a route that is flown in place of the segment.
+//!
 //! A number is a decimal, `nan`, `inf`, `-inf`, or `0x` and the bits.
 
-use fosavalo::{SetUp, TickInput, SETUP_BYTES, TICK_BYTES};
+use fosavalo::{Leg, Route, SetUp, TickInput, LEG_BYTES, SETUP_BYTES, TICK_BYTES};
 use std::fmt;
 
 pub const MOST_TICKS: usize = 1_000_000;
@@ -19,6 +21,8 @@ pub const MOST_TICKS: usize = 1_000_000;
 #[derive(Debug)]
 pub struct Scenario {
     pub set_up: SetUp,
+    /// Where the file has legs.
+    pub route: Option<Route>,
     pub inputs: Vec<TickInput>,
 }
 
@@ -112,7 +116,9 @@ impl Scenario {
         }
         let set_up = SetUp::from_bytes(&bytes_of::<SETUP_BYTES>(&reader.set_up));
         let set_up = set_up.map_err(|refusal| Mistake { line: 0, field: "set-up".to_string(), what: refusal.to_string() })?;
-        Ok(Scenario { set_up, inputs: reader.inputs })
+        let route = (!reader.legs.is_empty()).then(|| Route::new(&reader.legs)).transpose();
+        let route = route.map_err(|refusal| Mistake { line: 0, field: "leg".to_string(), what: refusal.to_string() })?;
+        Ok(Scenario { set_up, route, inputs: reader.inputs })
     }
 }
 
@@ -120,6 +126,7 @@ struct Reader {
     set_up: Vec<f32>,
     /// The line at which each word of the set-up was given.
     given: Vec<usize>,
+    legs: Vec<Leg>,
     input: Vec<f32>,
     inputs: Vec<TickInput>,
 }
@@ -136,6 +143,7 @@ impl Reader {
         Reader {
             set_up: floats(&SetUp::falcon_quad().to_bytes()),
             given: vec![0; SETUP_BYTES / 4],
+            legs: Vec::new(),
             input: floats(&TickInput::default().to_bytes()),
             inputs: Vec::new(),
         }
@@ -152,13 +160,14 @@ impl Reader {
         }
         match name {
             "tick" => self.ticks(rest),
+            "leg" => self.leg(rest),
             "row" => {
                 let field = ("row", 0, TICK_BYTES / 4);
                 let numbers = numbers(field, rest)?;
                 put(&mut self.input, field, &numbers);
                 self.tick()
             }
-            _ => wrong(name, format!("no such field; there are {}, tick and row", names())),
+            _ => wrong(name, format!("no such field; there are {}, leg, tick and row", names())),
         }
     }
 
@@ -173,6 +182,17 @@ impl Reader {
         let numbers = numbers(field, rest)?;
         put(&mut self.set_up, field, &numbers);
         self.given.iter_mut().skip(first).take(count).for_each(|given| *given = line);
+        Ok(())
+    }
+
+    fn leg(&mut self, rest: &[&str]) -> Result<(), Wrong> {
+        if !self.inputs.is_empty() {
+            return wrong("leg", "stands before the first tick");
+        }
+        let n = numbers(("leg", 0, LEG_BYTES / 4), rest)?;
+        let three = |at: usize| std::array::from_fn(|k| n.get(at + k).copied().unwrap_or(0.0));
+        let t = n.last().copied().unwrap_or(0.0);
+        self.legs.push(Leg { p0: three(0), v0: three(3), a0: three(6), pf: three(9), vf: three(12), af: three(15), t });
         Ok(())
     }
 

@@ -3,7 +3,7 @@
 use fly::flight::{Flight, Rule, RULES};
 use fly::scenario::Scenario;
 use fly::table::{choices, passes, table};
-use fly::{output, pass};
+use fly::{legs, output, pass};
 use fosavalo::{BodyRate, Pilot, SetUp, TickInput};
 
 #[test]
@@ -11,6 +11,14 @@ fn the_table() {
     let pairs = passes(&pass::SHOWN).expect("no pass is refused");
     let now = table(&pass::title(), &pairs);
     assert_eq!(now, include_str!("table.txt"), "\n{now}");
+}
+
+/// And of the pass of three legs, in which every flag is what the rule says.
+#[test]
+fn the_legs() {
+    let now = legs::table().expect("the legs meet");
+    assert_eq!(now, include_str!("legs.txt"), "\n{now}");
+    assert_eq!(legs::fly(pass::DRAWN).expect("the legs meet").strays(), None);
 }
 
 /// And with other choices of set, filter and noise.
@@ -37,10 +45,10 @@ fn each_flight_keeps_its_rule() {
 fn the_one_number_at_which_they_differ_is_found() {
     // level, still and unfiltered: the margin is 1.75
     let set_up = SetUp { enter: 1.75f32.next_down(), ..SetUp::falcon_quad() };
-    let flight = Flight::of(&set_up, Rule::Earlier, &[TickInput::default()]).expect("no set-up is refused");
+    let flight = Flight::of(&set_up, Rule::Earlier, None, &[TickInput::default()]).expect("no set-up is refused");
     assert_eq!((flight.ticks[0].answer.margin, flight.strays()), (1.75, Some(1)));
     let set_up = SetUp { enter: 1.75f32.next_down().next_down(), ..set_up };
-    let flight = Flight::of(&set_up, Rule::Earlier, &[TickInput::default()]).expect("no set-up is refused");
+    let flight = Flight::of(&set_up, Rule::Earlier, None, &[TickInput::default()]).expect("no set-up is refused");
     assert_eq!((flight.ticks[0].answer.pilot, flight.strays()), (Pilot::Planner, None));
 }
 
@@ -59,7 +67,7 @@ fn the_same_seed_flies_the_same() {
 #[test]
 fn the_csv_has_every_bit() {
     let scenario = Scenario::read(include_bytes!("../scenarios/headings.txt")).expect("it is a scenario");
-    let flight = Flight::of(&scenario.set_up, Rule::Shield, &scenario.inputs).expect("no set-up is refused");
+    let flight = Flight::of(&scenario.set_up, Rule::Shield, scenario.route.clone(), &scenario.inputs).expect("no set-up is refused");
     let mut bytes = Vec::new();
     output::csv(&flight, &mut bytes).expect("a vector takes all");
     let text = String::from_utf8(bytes).expect("it is text");

@@ -42,11 +42,31 @@ fn mistakes_name_their_line_and_field() {
     assert_eq!(mistake("\u{feff}enter 1\r\ntick 1\r\n"), "none");
 }
 
+/// Legs make a route, which is flown in place of the segment; ones that do not are a mistake.
+#[test]
+fn legs() {
+    let leg = |from: &str, to: &str| format!("leg {from} 0 0  0 0 0  0 0 0   {to} 0 0  0 0 0  0 0 0   0.5\n");
+    let scenario = |legs: &str| Scenario::read(format!("{legs}tick 1000\n").as_bytes()).expect("it is a scenario");
+    let two = scenario(&(leg("0", "1") + &leg("1", "0")));
+    assert_eq!(two.route.as_ref().map(|route| route.legs().count()), Some(2));
+    let fly =
+        |scenario: &Scenario| Flight::of(&scenario.set_up, Rule::Shield, scenario.route.clone(), &scenario.inputs).expect("it is flown");
+    let psi = |scenario: &Scenario| fly(scenario).ticks.iter().map(|tick| tick.answer.psi).fold(0.0, f32::max);
+    assert!(psi(&two) > 0.1 && psi(&scenario("")) == 0.0);
+    assert_eq!(
+        mistake(&(leg("0", "1") + &leg("2", "0") + "tick 1")),
+        "leg: refused (7): a leg of the route does not start where the one before it ends"
+    );
+    assert_eq!(mistake(&(leg("0", "0").repeat(9) + "tick 1")), "leg: refused (5): a route has 1 to 8 legs");
+    assert_eq!(mistake("leg 1 2 3\ntick 1"), "line 1: leg: takes 19 numbers, here are 3");
+    assert_eq!(mistake(&("tick 1\n".to_string() + &leg("0", "0"))), "line 2: leg: stands before the first tick");
+}
+
 #[test]
 fn what_is_read() {
     let text = "enter 0x3f000000\nfc 80\nadrc_pitch 1 2 3 4\nyaw nan\ntick 2\nyaw 1\ntick 4 yaw 2 gyro 4 0 0 # evenly\n\
                 row 1 2 3 4 5 6 7 8 9 10 11 12 13 14 15 16 17";
-    let Scenario { set_up, inputs } = Scenario::read(text.as_bytes()).expect("it is a scenario");
+    let Scenario { set_up, inputs, .. } = Scenario::read(text.as_bytes()).expect("it is a scenario");
     assert_eq!((set_up.enter, set_up.exit, set_up.filter.fc, set_up.adrc[1].tau, set_up.adrc[2].b0), (0.5, 1.0, 80.0, 4.0, 18.0));
     assert!(inputs[0].yaw.is_nan() && inputs[1].yaw.is_nan());
     let led: Vec<(f32, f32)> = inputs[2..6].iter().map(|input| (input.yaw, input.gyro.0[0])).collect();
@@ -62,14 +82,14 @@ fn what_is_read() {
 /// Any bytes, and scenarios with a byte changed: a flight or a mistake, never a panic.
 #[test]
 fn any_bytes() {
-    let whole = include_bytes!("../scenarios/headings.txt");
+    let whole = [&include_bytes!("../scenarios/headings.txt")[..], include_bytes!("../scenarios/route.txt")];
     let mut x = 1u64;
     let mut random = || {
         x = x.wrapping_mul(6364136223846793005).wrapping_add(1442695040888963407);
         (x >> 33) as usize
     };
     for round in 0..3000 {
-        let mut bytes = whole.to_vec();
+        let mut bytes = whole[round % 2].to_vec();
         for _ in 0..1 + round % 5 {
             let at = random() % bytes.len();
             match random() % 3 {
@@ -80,7 +100,7 @@ fn any_bytes() {
         }
         if let Ok(scenario) = Scenario::read(&bytes) {
             let few = &scenario.inputs[..scenario.inputs.len().min(1000)];
-            Flight::of(&scenario.set_up, Rule::Shield, few).expect("no set-up is refused");
+            Flight::of(&scenario.set_up, Rule::Shield, scenario.route.clone(), few).expect("no set-up is refused");
         }
     }
 }
@@ -90,7 +110,7 @@ fn any_bytes() {
 fn the_examples() {
     let pilots = |bytes: &[u8], rule| {
         let scenario = Scenario::read(bytes).expect("it is a scenario");
-        let flight = Flight::of(&scenario.set_up, rule, &scenario.inputs).expect("no set-up is refused");
+        let flight = Flight::of(&scenario.set_up, rule, scenario.route.clone(), &scenario.inputs).expect("no set-up is refused");
         assert_eq!(flight.strays(), None);
         flight
     };
@@ -102,4 +122,8 @@ fn the_examples() {
     assert_eq!(flew, [Planner, Fallback, Planner, Fallback, Planner, Planner]);
     assert_eq!(headings.ticks[450].answer.command.0, [0.0; 3]);
     assert_eq!(headings.ticks.last().map(|tick| tick.answer.time), Some(f32::INFINITY));
+    // halfway along a leg it tilts, at rest past all ends it does not
+    let route = pilots(include_bytes!("../scenarios/route.txt"), Rule::Shield);
+    let off = |at: usize| route.ticks[at].answer.psi - route.ticks.last().map_or(0.0, |last| last.answer.psi);
+    assert!(off(14_500) == 0.0 && off(13_000) > 1e-4 && route.ticks.len() == 15_000);
 }

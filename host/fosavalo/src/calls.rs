@@ -27,6 +27,16 @@ mod raw {
             answer: *mut u8,
             answer_len: usize,
         ) -> u32;
+        pub fn fosavalo_route_tick(
+            image: *mut u8,
+            image_len: usize,
+            input: *const u8,
+            input_len: usize,
+            route: *const u8,
+            route_len: usize,
+            answer: *mut u8,
+            answer_len: usize,
+        ) -> u32;
         pub fn fosavalo_tick_refusal(image: *const u8, image_len: usize, input_len: usize, answer_len: usize) -> u32;
     }
 }
@@ -68,6 +78,35 @@ pub fn setup(image: &mut [u8], input: &[u8]) -> u32 {
 pub fn tick(image: &mut [u8], input: &[u8], answer: &mut [u8]) -> u32 {
     // SAFETY: as above.
     unsafe { raw::fosavalo_tick(image.as_mut_ptr(), image.len(), input.as_ptr(), input.len(), answer.as_mut_ptr(), answer.len()) }
+}
+
+/// One joint tick toward a route in place of the image's segment. Gives 0 to 7.
+///
+/// ```
+/// use fosavalo::{calls, ANSWER_BYTES, IMAGE_BYTES, SETUP_BYTES, TICK_BYTES};
+///
+/// let mut image = [0; IMAGE_BYTES];
+/// calls::setup(&mut image, &[0; SETUP_BYTES]);
+/// let mut fly = |route: &[u8]| calls::route_tick(&mut image, &[0; TICK_BYTES], route, &mut [0; ANSWER_BYTES]);
+/// assert_eq!(fly(&[0; 7]), 6); // too short for a trailer
+/// assert_eq!(fly(&[0; 8]), 5); // no leg
+/// ```
+#[inline]
+pub fn route_tick(image: &mut [u8], input: &[u8], route: &[u8], answer: &mut [u8]) -> u32 {
+    let (image_len, answer_len) = (image.len(), answer.len());
+    // SAFETY: as above.
+    unsafe {
+        raw::fosavalo_route_tick(
+            image.as_mut_ptr(),
+            image_len,
+            input.as_ptr(),
+            input.len(),
+            route.as_ptr(),
+            route.len(),
+            answer.as_mut_ptr(),
+            answer_len,
+        )
+    }
 }
 
 /// What [`tick`] would give on this image with an input and an answer of these lengths. Nothing is changed.

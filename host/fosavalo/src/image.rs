@@ -1,5 +1,5 @@
 use crate::words::Take;
-use crate::{calls, Answer, Pilot, Refusal, SetUp, TickInput, ANSWER_BYTES, IMAGE_BYTES, TICK_BYTES};
+use crate::{calls, Answer, Pilot, Refusal, Route, SetUp, TickInput, ANSWER_BYTES, IMAGE_BYTES, TICK_BYTES};
 use std::fmt;
 
 /// The state that goes from tick to tick: 380 bytes that may be copied, stored and sent.
@@ -53,6 +53,14 @@ impl Image {
     pub fn tick(&mut self, input: &TickInput) -> Result<Answer, Refusal> {
         let mut answer = [0; ANSWER_BYTES];
         Refusal::check(calls::tick(&mut self.bytes, &input.to_bytes(), &mut answer))?;
+        Answer::from_bytes(&answer)
+    }
+
+    /// One tick toward a route in place of the segment, which stays in the image. The clock runs on over both kinds of tick: a route that is
+    /// begun late is entered where the clock is. Where it is refused the image stays as it is.
+    pub fn route_tick(&mut self, input: &TickInput, route: &Route) -> Result<Answer, Refusal> {
+        let mut answer = [0; ANSWER_BYTES];
+        Refusal::check(calls::route_tick(&mut self.bytes, &input.to_bytes(), route.as_bytes(), &mut answer))?;
         Answer::from_bytes(&answer)
     }
 

@@ -23,6 +23,7 @@
 //! | You have | You want |
 //! |---|---|
 //! | numbers | [`SetUp`], [`Image::set_up`], [`TickInput`], [`Image::tick`], [`Answer`] |
+//! | a path of several legs | [`Leg`], [`Route`], [`Image::route_tick`] |
 //! | bytes of your own | [`calls`]: the C calls as they are, on slices |
 //! | a refusal's number | [`Refusal`] |
 //! | an angle | [`sinf`], [`cosf`] |
@@ -37,6 +38,7 @@
 pub mod calls;
 mod image;
 mod refusal;
+mod route;
 mod setup;
 mod tick;
 mod words;
@@ -44,6 +46,7 @@ mod words;
 pub use calls::{cosf, sinf};
 pub use image::Image;
 pub use refusal::Refusal;
+pub use route::{Leg, Route};
 pub use setup::{AdrcGains, Gains, Governor, GyroFilter, RecoverableSet, Segment, SetUp};
 pub use tick::{Answer, BodyRate, Pilot, TickInput, Torque};
 
@@ -55,3 +58,9 @@ pub const SETUP_BYTES: usize = 200;
 pub const TICK_BYTES: usize = 68;
 /// The length of what a tick answers.
 pub const ANSWER_BYTES: usize = 40;
+/// The length of a leg in a route.
+pub const LEG_BYTES: usize = 76;
+/// The length of what stands behind the legs of a route.
+pub const ROUTE_TRAILER_BYTES: usize = 8;
+/// The most legs that a route has.
+pub const MOST_LEGS: usize = 8;

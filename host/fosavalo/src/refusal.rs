@@ -1,7 +1,7 @@
 use std::fmt;
 
-/// Why a call was refused: document 01's number, with its meaning in words. Where several hold it is the lowest. A refused call
-/// changed no byte.
+/// Why a call was refused: the documents' number, with its meaning in words. Of 1 to 4 it is the lowest that holds; what is wrong with a
+/// route comes after these. A refused call changed no byte.
 ///
 /// ```
 /// use fosavalo::Refusal;
@@ -29,6 +29,12 @@ pub enum Refusal {
     AnswerLength,
     /// 4: no set-up and no tick leaves such an image.
     BrokenImage,
+    /// 5: a route has 1 to 8 legs.
+    LegCount,
+    /// 6: the route is under 8 bytes long, or its length or its bytes back do not go with its count.
+    RouteLength,
+    /// 7: a leg of the route does not start where the one before it ends.
+    LegsApart,
     /// A number that this version of the crate has no words for.
     Other(u32),
 }
@@ -50,17 +56,23 @@ impl Refusal {
             2 => Refusal::InputLength,
             3 => Refusal::AnswerLength,
             4 => Refusal::BrokenImage,
+            5 => Refusal::LegCount,
+            6 => Refusal::RouteLength,
+            7 => Refusal::LegsApart,
             other => Refusal::Other(other),
         })
     }
 
-    /// Document 01's number.
+    /// The documents' number.
     pub fn number(self) -> u32 {
         match self {
             Refusal::ImageLength => 1,
             Refusal::InputLength => 2,
             Refusal::AnswerLength => 3,
             Refusal::BrokenImage => 4,
+            Refusal::LegCount => 5,
+            Refusal::RouteLength => 6,
+            Refusal::LegsApart => 7,
             Refusal::Other(number) => number,
         }
     }
@@ -72,6 +84,9 @@ impl Refusal {
             Refusal::InputLength => "the input is not 200 bytes long at set-up, 68 at a tick",
             Refusal::AnswerLength => "the answer is not 40 bytes long",
             Refusal::BrokenImage => "the image is none that set-up or a tick leaves",
+            Refusal::LegCount => "a route has 1 to 8 legs",
+            Refusal::RouteLength => "the route's length or its bytes back do not go with its count of legs of 76 bytes, with 8 more",
+            Refusal::LegsApart => "a leg of the route does not start where the one before it ends",
             Refusal::Other(_) => "a number that this version of the crate has no words for",
         }
     }

@@ -54,6 +54,25 @@ pub struct Segment {
     pub t: f32,
 }
 
+impl Segment {
+    pub(crate) fn put(&self, to: &mut Put) {
+        [self.p0, self.v0, self.a0, self.pf, self.vf, self.af].into_iter().for_each(|v| to.floats(v));
+        to.floats([self.t]);
+    }
+
+    pub(crate) fn take(from: &mut Take) -> Self {
+        Segment {
+            p0: from.floats(),
+            v0: from.floats(),
+            a0: from.floats(),
+            pf: from.floats(),
+            vf: from.floats(),
+            af: from.floats(),
+            t: from.float(),
+        }
+    }
+}
+
 /// Gains of the rate controller of one axis.
 #[derive(Clone, Copy, Debug, PartialEq)]
 pub struct AdrcGains {
@@ -133,12 +152,11 @@ impl SetUp {
     pub fn to_bytes(&self) -> [u8; SETUP_BYTES] {
         let mut bytes = [0; SETUP_BYTES];
         let mut to = Put::to(&mut bytes);
-        let (g, s) = (&self.gains, &self.segment);
+        let g = &self.gains;
         [g.k_r, g.k_omega, g.j].into_iter().for_each(|v| to.floats(v));
         to.floats([self.set.k_r, self.set.lambda_j, self.set.psi_max, self.enter, self.exit]);
         to.floats([self.governor.err_lo, self.governor.err_hi, self.governor.g_min]);
-        [s.p0, s.v0, s.a0, s.pf, s.vf, s.af].into_iter().for_each(|v| to.floats(v));
-        to.floats([s.t]);
+        self.segment.put(&mut to);
         self.adrc.into_iter().for_each(|a| to.floats([a.omega_o, a.omega_c, a.b0, a.tau]));
         to.floats([self.filter.fc, self.filter.fs]);
         bytes
@@ -156,15 +174,7 @@ impl SetUp {
             enter: from.float(),
             exit: from.float(),
             governor: Governor { err_lo: from.float(), err_hi: from.float(), g_min: from.float() },
-            segment: Segment {
-                p0: from.floats(),
-                v0: from.floats(),
-                a0: from.floats(),
-                pf: from.floats(),
-                vf: from.floats(),
-                af: from.floats(),
-                t: from.float(),
-            },
+            segment: Segment::take(&mut from),
             adrc: std::array::from_fn(|_| AdrcGains { omega_o: from.float(), omega_c: from.float(), b0: from.float(), tau: from.float() }),
             filter: GyroFilter { fc: from.float(), fs: from.float() },
         })

@@ -1,6 +1,7 @@
 //! Any bytes at all: nothing panics, what is written is read back, and the typed calls are the C calls.
 
-use fosavalo::{calls, Answer, Image, Refusal, SetUp, TickInput, ANSWER_BYTES, IMAGE_BYTES, SETUP_BYTES, TICK_BYTES};
+use fosavalo::{calls, Answer, Image, Leg, Refusal, Route, SetUp, TickInput};
+use fosavalo::{ANSWER_BYTES, IMAGE_BYTES, LEG_BYTES, MOST_LEGS, ROUTE_TRAILER_BYTES, SETUP_BYTES, TICK_BYTES};
 
 /// Bytes that look like anything: random ones, with words of special floats among them.
 struct Bytes(u64);
@@ -60,6 +61,46 @@ fn the_typed_calls_are_the_c_calls() {
     }
 }
 
+/// Legs of any bits that meet or do not, and bytes that are any: a route is made exactly where a tick takes it, and then it is those bytes.
+#[test]
+fn routes_of_any_legs() {
+    let (mut rng, mut seen) = (Bytes(4), [0u32; 8]);
+    let mut fresh = [0; IMAGE_BYTES];
+    assert_eq!(calls::setup(&mut fresh, &SetUp::falcon_quad().to_bytes()), 0);
+    let mut tick = [0; TICK_BYTES];
+    for round in 0..20_000 {
+        rng.fill(&mut tick);
+        let mut bytes = vec![0; LEG_BYTES * (rng.next() % 9) as usize + ROUTE_TRAILER_BYTES];
+        rng.fill(&mut bytes);
+        let (count, back) = (bytes.len() / LEG_BYTES, bytes.len() - ROUTE_TRAILER_BYTES);
+        if round % 4 != 0 {
+            (1..count).for_each(|leg| bytes.copy_within(LEG_BYTES * leg - 40..LEG_BYTES * leg - 4, LEG_BYTES * leg));
+        }
+        if round % 8 != 1 {
+            bytes[back..back + 4].copy_from_slice(&(count as u32).to_le_bytes());
+        }
+        if round % 8 != 2 {
+            bytes[back + 4..].copy_from_slice(&(back as u32).to_le_bytes());
+        }
+        let (mut image, mut answer) = (fresh, [0xa5; ANSWER_BYTES]);
+        let number = calls::route_tick(&mut image, &tick, &bytes, &mut answer);
+        seen[number as usize] += 1;
+        match Route::from_bytes(&bytes) {
+            Err(refusal) => assert_eq!(refusal.number(), number),
+            Ok(route) => {
+                assert_eq!((number, route.as_bytes()), (0, &bytes[..]));
+                let legs: Vec<Leg> = route.legs().collect();
+                assert_eq!((legs.len(), Route::new(&legs)), (count, Ok(route.clone())));
+                let mut typed = Image::from_bytes(&fresh).expect("it is 380 bytes long");
+                let said = TickInput::from_bytes(&tick).and_then(|t| typed.route_tick(&t, &route)).expect("a route is checked");
+                assert_eq!((said.to_bytes(), typed.as_bytes()), (answer, &image));
+                let _ = format!("{route:?}");
+            }
+        }
+    }
+    assert!([0, 5, 6, 7].iter().all(|number| seen[*number] > 500), "{seen:?}");
+}
+
 /// Images of any bytes: a tick answers or refuses with 4, and then nothing is changed.
 #[test]
 fn images_of_any_bytes() {
@@ -104,14 +145,25 @@ fn the_header() {
         let line = header.lines().find_map(|line| line.strip_prefix("#define FOSAVALO_")?.strip_prefix(name)?.strip_prefix(' '));
         line.and_then(|rest| rest.split_whitespace().next()?.parse::<usize>().ok())
     };
-    for (name, length) in [("IMAGE", IMAGE_BYTES), ("SETUP", SETUP_BYTES), ("TICK", TICK_BYTES), ("ANSWER", ANSWER_BYTES)] {
-        assert_eq!(defined(&format!("{name}_BYTES")), Some(length), "{name}");
+    for (name, length) in [
+        ("IMAGE_BYTES", IMAGE_BYTES),
+        ("SETUP_BYTES", SETUP_BYTES),
+        ("TICK_BYTES", TICK_BYTES),
+        ("ANSWER_BYTES", ANSWER_BYTES),
+        ("LEG_BYTES", LEG_BYTES),
+        ("ROUTE_TRAILER_BYTES", ROUTE_TRAILER_BYTES),
+        ("MOST_LEGS", MOST_LEGS),
+    ] {
+        assert_eq!(defined(name), Some(length), "{name}");
     }
     for (name, refusal, lengths) in [
         ("WRONG_IMAGE_LENGTH", Refusal::ImageLength, vec![IMAGE_BYTES]),
         ("WRONG_INPUT_LENGTH", Refusal::InputLength, vec![SETUP_BYTES, TICK_BYTES]),
         ("WRONG_ANSWER_LENGTH", Refusal::AnswerLength, vec![ANSWER_BYTES]),
         ("BROKEN_IMAGE", Refusal::BrokenImage, vec![]),
+        ("WRONG_LEG_COUNT", Refusal::LegCount, vec![MOST_LEGS]),
+        ("WRONG_ROUTE_LENGTH", Refusal::RouteLength, vec![LEG_BYTES, ROUTE_TRAILER_BYTES]),
+        ("LEGS_APART", Refusal::LegsApart, vec![]),
     ] {
         assert_eq!(defined(name), Some(refusal.number() as usize), "{name}");
         assert!(lengths.iter().all(|length| refusal.meaning().contains(&length.to_string())), "{refusal}");

@@ -135,7 +135,7 @@ const MODULES: [Module; 5] = [
 ];
 
 /// Ours without a Rust original: crate, function, what it is.
-const ADDED: [(&str, &str, &str); 13] = [
+const ADDED: [(&str, &str, &str); 20] = [
     ("joint", "set_up", "set-up over values"),
     ("joint", "prepare", "the tick's first stage: fractions, gyro filter, governor"),
     ("joint", "reference_at", "the second: where the trajectory is"),
@@ -149,6 +149,13 @@ const ADDED: [(&str, &str, &str); 13] = [
     ("fosavalo", "fosavalo_setup", "the C call"),
     ("fosavalo", "fosavalo_tick", "the C call"),
     ("fosavalo", "fosavalo_tick_refusal", "the C call"),
+    ("route", "form_refusal", "what a route is refused for"),
+    ("route", "legs_meet", "whether a leg starts where the one before it ends"),
+    ("route", "leg_flown", "which leg is flown at a time, and the time on it"),
+    ("route", "reference_on", "where the route is"),
+    ("route", "route_refusal", "what a route tick would be refused for"),
+    ("route", "route_tick", "the joint tick on a route, on lent bytes"),
+    ("fosavalo", "fosavalo_route_tick", "the C call"),
 ];
 
 pub fn root() -> PathBuf {
@@ -338,10 +345,11 @@ pub fn page() -> Result<String, String> {
     let _ = write!(
         page,
         "\n## Added: set-up and the joint tick\n\n\
-         Document 01 is their original. They are run against the Rust's calls made in its order, and the third demand is checked by looking\n\
-         back over the margins: {} (`make ticks TICKS=n` for as many as you like).\n\n\
+         Document 01 is their original, of `route` document 02. They are run against the Rust's calls made in its order, and the third demand\n\
+         is checked by looking back over the margins: {}, {} (`make ticks TICKS=n` for as many as you like).\n\n\
          | Routine | Ours | Promise | What |\n|---|---|---|---|\n",
         link("host/compare/tests/joint.rs", "host/compare/tests/joint.rs"),
+        link("routes.rs", "host/compare/tests/routes.rs"),
     );
     for (krate, routine, what) in ADDED {
         let (file, code) = ours(krate, routine)?;

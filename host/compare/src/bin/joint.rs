@@ -1,6 +1,6 @@
-//! The joint tick against the Rust's calls, for longer than the gate does: `joint [accepted ticks]`.
+//! The joint tick against the Rust's calls, for longer than the gate does: `joint [accepted ticks]`; then half as many mixed with routes.
 
-use compare::joint::runs::{self, Watch};
+use compare::joint::runs::{self, Along, Watch};
 use compare::joint::ARCHIVE;
 use compare::progress::Progress;
 use std::time::Instant;
@@ -14,15 +14,17 @@ fn main() {
             std::process::exit(2);
         }
     };
-    let (start, progress) = (Instant::now(), Progress::new("joint ticks", ticks));
-    let (seen, parted) = runs::compare(&ARCHIVE, ticks, Watch::All, |n| progress.add(n));
-    println!("{seen}");
-    println!("{:.1} s", start.elapsed().as_secs_f64());
-    match parted {
-        None => println!("no tick differs"),
-        Some(parted) => {
-            println!("{parted}");
-            std::process::exit(1);
+    for (name, along, ticks) in [("joint ticks", Along::Segment, ticks), ("mixed with ticks on routes", Along::Routes, ticks.div_ceil(2))] {
+        let (start, progress) = (Instant::now(), Progress::new(name, ticks));
+        let (seen, parted) = runs::compare(&ARCHIVE, ticks, Watch::All, along, |n| progress.add(n));
+        println!("{name}: {seen}");
+        println!("{:.1} s", start.elapsed().as_secs_f64());
+        match parted {
+            None => println!("no tick differs"),
+            Some(parted) => {
+                println!("{parted}");
+                std::process::exit(1);
+            }
         }
     }
 }

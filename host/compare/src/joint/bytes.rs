@@ -4,6 +4,8 @@ pub const IMAGE: usize = 380;
 pub const SETUP: usize = 200;
 pub const TICK: usize = 68;
 pub const ANSWER: usize = 40;
+pub const LEG: usize = 76;
+pub const TRAILER: usize = 8;
 
 /// The words of an image, and what word 0 says.
 pub const WORDS: usize = IMAGE / 4;
@@ -115,23 +117,29 @@ pub fn raw<const N: usize>(floats: &[f32]) -> [u8; N] {
     bytes
 }
 
-/// The longest that a test lends.
+/// The longest that a test lends, and of a route.
 pub const LONGEST: usize = 400;
+pub const LONGEST_ROUTE: usize = 700;
 const GUARD: usize = 32;
 
-/// Bytes to lend, between guards; what a call may not touch is compared with the rest.
+/// Bytes to lend, between guards, so many with these; what a call may not touch is compared with the rest.
 #[derive(Clone, PartialEq, Eq)]
-pub struct Lent {
-    all: [u8; GUARD + LONGEST + GUARD],
+pub struct Lent<const ALL: usize = { GUARD + LONGEST + GUARD }> {
+    all: [u8; ALL],
     len: usize,
 }
 
-impl Lent {
-    /// At most `LONGEST` of them.
+/// A route to lend.
+pub type LentRoute = Lent<{ GUARD + LONGEST_ROUTE + GUARD }>;
+
+impl<const ALL: usize> Lent<ALL> {
+    /// At most the longest length.
     pub fn new(len: usize) -> Self {
-        let mut all = [0; GUARD + LONGEST + GUARD];
+        let mut all = [0; ALL];
         all.iter_mut().enumerate().for_each(|(at, byte)| *byte = 0xa5 ^ at as u8);
-        Lent { all, len: len.min(LONGEST) }
+        let mut lent = Lent { all, len: 0 };
+        lent.cut(len);
+        lent
     }
 
     pub fn holding(bytes: &[u8]) -> Self {
@@ -142,7 +150,7 @@ impl Lent {
 
     /// With another length, nothing else changed: a longer one reaches into the guard.
     pub fn cut(&mut self, len: usize) {
-        self.len = len.min(LONGEST);
+        self.len = len.min(ALL - 2 * GUARD);
     }
 
     #[inline]

@@ -1,8 +1,9 @@
-//! Every length from 0 to 400 of each buffer, all together, between guards: the number, and not a byte changed.
+//! Every length from 0 to 400 of each buffer, all together, between guards: the number, and not a byte changed. And of a route from 0 to 700.
 
-use super::bytes::{put, Lent, IMAGE, LONGEST};
+use super::bytes::{put, Lent, LentRoute, ANSWER, IMAGE, LEG, LONGEST, LONGEST_ROUTE, TICK, TRAILER};
 use super::model::Flight;
 use super::pilot::Pilot;
+use super::route::Route;
 use super::{refusal, Face};
 use std::sync::atomic::{AtomicUsize, Ordering};
 
@@ -107,6 +108,63 @@ fn ticks_at(face: &Face, i: usize, before: &Three, after: &Three) -> Result<u64,
             }
             if number == 0 {
                 (lent, expected) = (before.clone(), before.clone());
+            }
+        }
+    }
+    Ok(calls)
+}
+
+/// The calls of `routes`: counts, lengths, trailers, and lengths of the others with a good image and a broken one.
+pub fn route_calls() -> u64 {
+    10 * (LONGEST_ROUTE as u64 + 1) * 2 * 16
+}
+
+/// A route tick at every length of a route of 0 to 9 legs: cut there, and with its trailer moved there. With an image that is good or broken,
+/// and each of the others a byte short or not.
+pub fn routes(face: &Face) -> Result<u64, String> {
+    let mut pilot = Pilot::on_a_pass(0);
+    let mut calls = 0;
+    let flight = Flight::set_up(&pilot.set_up());
+    let mut image = [0; IMAGE];
+    flight.write(&mut image);
+    let good = Three { image: beginning(&image), input: beginning(&pilot.next(&flight)), answer: beginning(&[]) };
+    for count in 0..10 {
+        let mut whole = LentRoute::new(LONGEST_ROUTE);
+        let trailer =
+            |bytes: &mut [u8], at: usize| [count, LEG * count].iter().enumerate().for_each(|(k, w)| put(&mut bytes[at..], k, *w as u32));
+        // at rest, so that all legs meet; a duration each
+        whole.bytes_mut()[..LEG * count].fill(0);
+        (0..count).for_each(|leg| put(whole.bytes_mut(), 19 * leg + 18, 1.0f32.to_bits()));
+        trailer(whole.bytes_mut(), LEG * count);
+        for len in 0..=LONGEST_ROUTE {
+            for moved in [false, true] {
+                let mut route = whole.clone();
+                if let (Some(at), true) = (len.checked_sub(TRAILER), moved) {
+                    trailer(route.bytes_mut(), at);
+                }
+                route.cut(len);
+                for way in 0..16 {
+                    let short = |bit: usize| way >> bit & 1;
+                    let mut lent = good.clone();
+                    put(lent.image.bytes_mut(), 15, 1 + short(3) as u32);
+                    lent.cut(IMAGE - short(0), TICK - short(1), ANSWER - short(2));
+                    let (mut expected, kept) = (lent.clone(), route.clone());
+                    let number =
+                        refusal::of_route_tick(lent.image.bytes(), lent.input.bytes().len(), route.bytes(), lent.answer.bytes().len());
+                    if number == 0 {
+                        let mut flight = Flight::from_image(lent.image.bytes());
+                        flight.toward = Some(Route::of(route.bytes()));
+                        flight.tick(lent.input.bytes(), expected.answer.bytes_mut());
+                        flight.write(expected.image.bytes_mut());
+                    }
+                    let returned = (face.route_tick)(lent.image.bytes_mut(), lent.input.bytes(), route.bytes(), lent.answer.bytes_mut());
+                    calls += 1;
+                    if returned != number || lent != expected || route != kept {
+                        return Err(format!(
+                            "a route of {len} bytes, count {count}, returns {returned}, expected {number}, or changes what it should not"
+                        ));
+                    }
+                }
             }
         }
     }

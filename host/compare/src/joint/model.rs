@@ -2,12 +2,15 @@
 //! order. Between ticks the objects are kept; a damaged image makes them anew from its words.
 
 use super::bytes::{Put, Take, WORDS};
+use super::route::Route;
 use opened::adrc::{AdrcGains, AdrcRate, GyroLpf};
 use opened::geo::{self, GeoAtt, GeoGains, Mat3, RecoverableSet, SimplexShield, Vec3};
 use opened::traj::{RefGovernor, Sample3, Segment3};
 
 /// Everything that goes from tick to tick.
 pub struct Flight {
+    /// What the next tick is toward in place of the segment, where it is a route tick; not a part of the image.
+    pub toward: Option<Route>,
     controller: GeoAtt,
     shield: SimplexShield,
     governor: RefGovernor,
@@ -22,6 +25,7 @@ pub struct Way {
     pub attitude: bool,
     pub feedforward: bool,
     pub at_the_end: bool,
+    pub time: f32,
 }
 
 impl Flight {
@@ -34,7 +38,7 @@ impl Flight {
         let governor = RefGovernor::new(i.float(), i.float(), i.float());
         let segment = Segment3::new(i.floats(), i.floats(), i.floats(), i.floats(), i.floats(), i.floats(), i.float());
         let rate = AdrcRate::new(i.axes().map(|[omega_o, omega_c, b0, tau]| AdrcGains::with_tau(omega_o, omega_c, b0, tau)));
-        Flight { controller, shield, governor, segment, rate, lpf: GyroLpf::new(i.float(), i.float()) }
+        Flight { toward: None, controller, shield, governor, segment, rate, lpf: GyroLpf::new(i.float(), i.float()) }
     }
 
     /// From the words of an image that row 4 does not refuse. (At one that it does, the Rust may panic in a tick.)
@@ -45,6 +49,7 @@ impl Flight {
         let ([k_r, lambda_j, psi_max], [enter, exit]) = (i.floats(), i.floats());
         let engaged = if i.word() == 0 { 0.0 } else { 1.0 };
         Flight {
+            toward: None,
             controller,
             shield: SimplexShield::from_words([k_r, lambda_j, psi_max, engaged, enter, exit]),
             governor: RefGovernor::from_words(i.floats()),
@@ -80,7 +85,7 @@ impl Flight {
         self.rate.set_delivered_fraction(fraction);
         let omega = self.lpf.filter(gyro);
         let time = self.governor.advance(track_err, dt);
-        let sample = at(&self.segment, time);
+        let sample = self.sample(time);
         let (acc, jerk) = (geo::private::sanitise3(sample.acc), geo::private::sanitise3(sample.jerk));
         let r = geo::quat_to_rotmat(q);
         let r_d = attitude(acc, yaw);
@@ -107,20 +112,27 @@ impl Flight {
         o.floats(command);
         o.word(u32::from(flag));
         o.floats([time, psi, margin]);
-        Way { attitude: r_d.is_some(), feedforward: ahead.is_some(), at_the_end: time == f32::INFINITY }
+        Way { attitude: r_d.is_some(), feedforward: ahead.is_some(), at_the_end: time == f32::INFINITY, time }
     }
 
     /// The attitude that a tick with these inputs would want.
     pub fn attitude_ahead(&self, track_err: f32, yaw: f32, dt: f32) -> Option<Mat3> {
-        let time = self.governor.clone().advance(track_err, dt);
-        attitude(geo::private::sanitise3(at(&self.segment, time).acc), yaw)
+        attitude(geo::private::sanitise3(self.sample(self.time_ahead(track_err, dt)).acc), yaw)
     }
-}
 
-/// The segment at a governed time: at its duration once the time is infinite.
-#[inline]
-fn at(segment: &Segment3, time: f32) -> Sample3 {
-    segment.eval(if time == f32::INFINITY { segment.duration() } else { time })
+    /// And its time.
+    pub fn time_ahead(&self, track_err: f32, dt: f32) -> f32 {
+        self.governor.clone().advance(track_err, dt)
+    }
+
+    /// Where the trajectory is at a governed time: the segment is at its duration once the time is infinite.
+    #[inline]
+    fn sample(&self, time: f32) -> Sample3 {
+        match &self.toward {
+            Some(route) => route.sample(time),
+            None => self.segment.eval(if time == f32::INFINITY { self.segment.duration() } else { time }),
+        }
+    }
 }
 
 /// R_d.

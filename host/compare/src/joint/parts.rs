@@ -1,7 +1,7 @@
 //! The joint tick of the archive's single routines (the test face), on the same bytes: right with no fault, and wrong in one
 //! place with any other. The comparison has to catch every fault; one that cannot fail shows nothing.
 
-use super::bytes::{canonical, put, word, Take, ANSWER, IMAGE, TICK, WORDS};
+use super::bytes::{canonical, float, put, word, Take, ANSWER, IMAGE, LEG, TICK, TRAILER, WORDS};
 use super::{refusal, Face};
 use crate::words::{In, Out, Words, MOST};
 use faces::geo::{GeoAtt, RecoverableSet, SimplexShield};
@@ -9,52 +9,77 @@ use faces::{adrc, geo, traj, BodyRate, Torque, Vec3};
 use std::cell::Cell;
 
 macro_rules! faults {
-    ($($fault:ident = $name:literal;)*) => {
+    ($($(#[$note:meta])* $list:ident { $($fault:ident = $name:literal;)* })*) => {
         #[derive(Clone, Copy, PartialEq, Eq, Debug)]
         pub enum Fault {
             None,
-            $($fault,)*
+            $($($fault,)*)*
         }
 
-        /// One face for each fault.
-        pub const WRONG: &[Face] = &[$(Face {
+        $($(#[$note])*
+        pub const $list: &[Face] = &[$(Face {
             name: $name,
             setup: |image, input| setup(Fault::$fault, image, input),
-            tick: |image, input, answer| tick(Fault::$fault, image, input, answer),
-        }),*];
+            tick: |image, input, answer| tick(Fault::$fault, image, input, None, answer),
+            route_tick: |image, input, route, answer| tick(Fault::$fault, image, input, Some(route), answer),
+        }),*];)*
     };
 }
 
 faults! {
-    ReleasedInTheBand = "released in the band";
-    ReleasedAtExit = "released at exit itself";
-    EngagedAtEnter = "engaged at enter itself";
-    PsiZero = "psi 0 where there is no R_d";
-    PlusZero = "+0.0 added where the feedforward refuses";
-    InfiniteAtZero = "an infinite time sampled at 0";
-    StepOfAdrc = "dt cleaned once for both, as ADRC does";
-    StepOfGovernor = "dt cleaned once for both, as the governor does";
-    FractionNow = "the fraction on this tick's command";
-    FractionLate = "the fractions set after the tick";
-    EngagedTwo = "engaged = 2 accepted";
-    FirstEndOnly = "only the first t_end looked at";
-    ShortestEnd = "a t_end of 1e-3 itself refused";
-    RawRate = "the margin of the gyro as it came";
-    OtherGain = "the margin with the controller's k_r";
-    NoCleaning = "a non-finite pick passed on";
-    KeptNan = "a kept NaN left as it is";
-    TimeBefore = "the time before the advance answered";
-    RefusesAll = "a sham that refuses every call";
-    Constant = "a sham with one answer";
-    Untouched = "a sham that leaves the image";
-    Echo = "a sham that echoes its first answer";
+    /// One face for each fault.
+    WRONG {
+        ReleasedInTheBand = "released in the band";
+        ReleasedAtExit = "released at exit itself";
+        EngagedAtEnter = "engaged at enter itself";
+        PsiZero = "psi 0 where there is no R_d";
+        PlusZero = "+0.0 added where the feedforward refuses";
+        InfiniteAtZero = "an infinite time sampled at 0";
+        StepOfAdrc = "dt cleaned once for both, as ADRC does";
+        StepOfGovernor = "dt cleaned once for both, as the governor does";
+        FractionNow = "the fraction on this tick's command";
+        FractionLate = "the fractions set after the tick";
+        EngagedTwo = "engaged = 2 accepted";
+        FirstEndOnly = "only the first t_end looked at";
+        ShortestEnd = "a t_end of 1e-3 itself refused";
+        RawRate = "the margin of the gyro as it came";
+        OtherGain = "the margin with the controller's k_r";
+        NoCleaning = "a non-finite pick passed on";
+        KeptNan = "a kept NaN left as it is";
+        TimeBefore = "the time before the advance answered";
+        RefusesAll = "a sham that refuses every call";
+        Constant = "a sham with one answer";
+        Untouched = "a sham that leaves the image";
+        Echo = "a sham that echoes its first answer";
+    }
+    /// And for each fault of route ticks alone.
+    WRONG_ON_ROUTES {
+        EarlierAtEnd = "a time equal to an end flies the earlier leg";
+        RawDurations = "raw durations summed";
+        WideSum = "ends summed in f64";
+        WholeTime = "the time on the leg not reduced";
+        LastAtZero = "past all ends the last leg at 0";
+        LastAtTime = "past all ends the last leg at the time less its start";
+        LocalKept = "the time on the leg kept as the governor's";
+        SegmentFlown = "the image's segment flown";
+        FormFirst = "5 after 6";
+        RouteFirst = "the route before the image";
+        NineLegs = "nine legs taken";
+        BackFromEnd = "bytes back from the end of the route";
+        AnyLength = "a longer route taken";
+        JoinBits = "joins compared in bits";
+        JoinNotFinite = "what is not finite meets everything";
+        JoinPlace = "places alone compared at joins";
+        JoinFirst = "the first join alone compared";
+    }
 }
 
 /// With no fault.
 pub const RIGHT: Face = Face {
     name: "the single routines",
     setup: |image, input| setup(Fault::None, image, input),
-    tick: |image, input, answer| tick(Fault::None, image, input, answer),
+    tick: |image, input, answer| tick(Fault::None, image, input, None, answer),
+    route_tick: |image, input, route, answer| tick(Fault::None, image, input, Some(route), answer),
 };
 
 fn get<T: Words>(bytes: &[u8], at: usize) -> T {
@@ -117,20 +142,82 @@ fn seen(fault: Fault, image: &[u8]) -> Vec<u8> {
     seen
 }
 
-pub fn tick(fault: Fault, image: &mut [u8], input: &[u8], answer: &mut [u8]) -> u32 {
+/// What a route is refused for, through the eyes of a fault.
+fn of_route(fault: Fault, route: &[u8]) -> u32 {
+    let Some(back) = route.len().checked_sub(TRAILER) else {
+        return 6;
+    };
+    let (count, told) = (word(&route[back..], 0), word(&route[back..], 1));
+    let most = if fault == Fault::NineLegs { 9 } else { 8 };
+    let legs = LEG.saturating_mul(count as usize);
+    let told_right = told as usize == if fault == Fault::BackFromEnd { legs + TRAILER } else { legs };
+    let right = told_right && (legs == back || (fault == Fault::AnyLength && legs < back));
+    match (count == 0 || count > most, right) {
+        (_, false) if fault == Fault::FormFirst => return 6,
+        (true, _) => return 5,
+        (_, false) => return 6,
+        _ => {}
+    }
+    let legs: Vec<&[u8]> = route[..LEG * count as usize].chunks_exact(LEG).collect();
+    let meet = |earlier: &[u8], later: &[u8], place: usize| match fault {
+        Fault::JoinBits => word(earlier, 9 + place) == word(later, place),
+        Fault::JoinNotFinite if !(float(earlier, 9 + place) - float(later, place)).is_finite() => true,
+        _ => float(earlier, 9 + place) == float(later, place),
+    };
+    let (places, joins) = (if fault == Fault::JoinPlace { 3 } else { 9 }, if fault == Fault::JoinFirst { 1 } else { 8 });
+    let apart = legs.windows(2).take(joins).any(|two| (0..places).any(|place| !meet(two[0], two[1], place)));
+    if apart {
+        7
+    } else {
+        0
+    }
+}
+
+/// The sample of the leg flown, and the time on it.
+fn along(fault: Fault, route: &[u8], time: f32) -> (traj::Sample3, f32) {
+    let legs: Vec<(traj::Segment3, f32)> = route[..route.len() - TRAILER]
+        .chunks_exact(LEG)
+        .map(|leg| {
+            let ([p0, v0, a0, pf, vf, af], t): ([Vec3; 6], f32) = (get(leg, 0), get(leg, 18));
+            (traj::segment3_new(p0, v0, a0, pf, vf, af, t), t)
+        })
+        .collect();
+    let (mut end, mut wide, mut before) = (0.0f32, 0.0f64, 0.0);
+    for (leg, t) in &legs {
+        let duration = if fault == Fault::RawDurations { *t } else { traj::segment3_duration(*leg) };
+        before = end;
+        wide += f64::from(duration);
+        end = if fault == Fault::WideSum { wide as f32 } else { end + duration };
+        if time < end || (fault == Fault::EarlierAtEnd && time == end) {
+            let at = if fault == Fault::WholeTime { time } else { time - before };
+            return (traj::segment3_eval(*leg, at), at);
+        }
+    }
+    let last = legs[legs.len() - 1].0;
+    let at = match fault {
+        Fault::LastAtZero => 0.0,
+        Fault::LastAtTime => time - before,
+        _ => traj::segment3_duration(last),
+    };
+    (traj::segment3_eval(last, at), at)
+}
+
+pub fn tick(fault: Fault, image: &mut [u8], input: &[u8], route: Option<&[u8]>, answer: &mut [u8]) -> u32 {
+    let of_route = route.map_or(0, |route| of_route(fault, route));
     let refused = match fault {
+        Fault::RouteFirst if of_route != 0 => of_route,
         Fault::EngagedTwo | Fault::FirstEndOnly | Fault::ShortestEnd if image.len() == IMAGE => {
             refusal::of_tick(&seen(fault, image), input.len(), answer.len())
         }
         Fault::RefusesAll => 4,
         _ => refusal::of_tick(image, input.len(), answer.len()),
     };
-    if refused != 0 {
-        return refused;
+    if refused != 0 || of_route != 0 {
+        return if refused != 0 { refused } else { of_route };
     }
     let mut bytes = [0; ANSWER];
     let old: Vec<u8> = if fault == Fault::Untouched { image.to_vec() } else { Vec::new() };
-    fly(fault, image, input, &mut bytes);
+    fly(fault, image, input, route, &mut bytes);
     match fault {
         Fault::Untouched => image.copy_from_slice(&old),
         Fault::Constant => bytes = [0; ANSWER],
@@ -153,7 +240,7 @@ fn clean(dt: f32) -> f32 {
 }
 
 /// An accepted tick.
-fn fly(fault: Fault, image: &mut [u8], input: &[u8], answer: &mut [u8]) {
+fn fly(fault: Fault, image: &mut [u8], input: &[u8], route: Option<&[u8]>, answer: &mut [u8]) {
     debug_assert!(input.len() == TICK);
     let (gyro, q): (BodyRate, geo::Quat) = get(input, 0);
     let [track_err, yaw, yaw_rate, dt]: [f32; 4] = get(input, 7);
@@ -180,7 +267,10 @@ fn fly(fault: Fault, image: &mut [u8], input: &[u8], answer: &mut [u8]) {
     let advanced = traj::refgovernor_advance(governor, track_err, dt_governor);
     let time = advanced.time;
     let at = if time == f32::INFINITY && fault != Fault::InfiniteAtZero { traj::segment3_duration(segment) } else { time };
-    let sample = traj::segment3_eval(segment, at);
+    let (sample, at) = match route {
+        Some(route) if fault != Fault::SegmentFlown => along(fault, route, time),
+        _ => (traj::segment3_eval(segment, at), at),
+    };
     let (acc, jerk) = (geo::sanitise3(sample.acc), geo::sanitise3(sample.jerk));
     let (r, r_d) = (geo::quat_to_rotmat(q), geo::thrust_attitude(acc, yaw));
 
@@ -232,7 +322,7 @@ fn fly(fault: Fault, image: &mut [u8], input: &[u8], answer: &mut [u8]) {
         set_shield(image, shield);
     }
     put(image, 15, u32::from(picked.fallback));
-    set(image, 16, advanced.governor.s);
+    set(image, 16, if fault == Fault::LocalKept { at } else { advanced.governor.s });
     set(image, 41, ticked.rate);
     set(image, 68, filtered.lpf);
     set(answer, 0, (ticked.torque, command));

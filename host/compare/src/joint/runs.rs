@@ -1,10 +1,13 @@
 //! Runs of ticks from set-ups: after every call the return and every lent byte, guards too, are what they should be, and the
 //! flag and the command are what looking back over the run's margins says.
 
-use super::bytes::{float, word, Lent, ANSWER, IMAGE, TICK, WORDS};
+use super::bytes::{float, word, Lent, LentRoute, ANSWER, IMAGE, TICK, WORDS};
 use super::demand;
+use super::guide::Guide;
 use super::model::Flight;
+use super::on_routes::OnRoutes;
 use super::pilot::{self, Kind, Pilot, KINDS};
+use super::route::Route;
 use super::{refusal, Face};
 use std::fmt;
 use std::sync::atomic::{AtomicBool, AtomicU64, Ordering};
@@ -12,6 +15,17 @@ use std::sync::{Mutex, PoisonError};
 
 /// The gate's accepted ticks.
 pub const GATE: u64 = 5_000_000;
+
+/// And those of runs that mix ticks on routes with plain ones: three of four are on routes.
+pub const GATE_ON_ROUTES: u64 = 2_000_000;
+
+/// What the ticks of a run are toward.
+#[derive(Clone, Copy, PartialEq, Eq)]
+pub enum Along {
+    Segment,
+    /// Stretches on routes and stretches on the segment.
+    Routes,
+}
 
 /// The ticks of this run: the gate's, or more where the environment has FOSAVALO_TICKS.
 pub fn ticks() -> u64 {
@@ -59,6 +73,7 @@ pub struct Seen {
     pub at_the_end: u64,
     /// For each word of the image, damages that were accepted and that were refused.
     pub damaged: [[u64; 2]; WORDS],
+    pub routes: OnRoutes,
 }
 
 impl Seen {
@@ -75,6 +90,7 @@ impl Seen {
             no_feedforward: 0,
             at_the_end: 0,
             damaged: [[0; 2]; WORDS],
+            routes: OnRoutes::default(),
         }
     }
 
@@ -101,6 +117,7 @@ impl Seen {
         self.no_attitude += other.no_attitude;
         self.no_feedforward += other.no_feedforward;
         self.at_the_end += other.at_the_end;
+        self.routes.add(&other.routes);
     }
 }
 
@@ -132,7 +149,11 @@ impl fmt::Display for Seen {
         )?;
         let all = self.damaged.iter().fold([0; 2], |[a, b], [c, d]| [a + c, b + d]);
         let least = self.damaged.iter().map(|[a, b]| a + b).min().unwrap_or(0);
-        write!(f, "{} damaged words accepted, {} refused, at least {least} at each word", all[0], all[1])
+        write!(f, "{} damaged words accepted, {} refused, at least {least} at each word", all[0], all[1])?;
+        match self.routes.accepted() {
+            0 => Ok(()),
+            _ => write!(f, "\n{}", self.routes),
+        }
     }
 }
 
@@ -142,6 +163,8 @@ pub struct Hands {
     pub image: Lent,
     pub input: Lent,
     pub answer: Lent,
+    /// At a route tick.
+    pub route: Option<LentRoute>,
 }
 
 /// A call after which something isn't as it should be.
@@ -169,6 +192,9 @@ impl fmt::Display for Parted {
         let hex = |lent: &Lent| lent.bytes().chunks(4).map(|four| format!(" {:08x}", word(four, 0))).collect::<String>();
         writeln!(f, "  image {}", hex(&self.before.image))?;
         writeln!(f, "  input {}", hex(&self.before.input))?;
+        if let Some(route) = &self.before.route {
+            writeln!(f, "  route of {} bytes {:02x?}", route.bytes().len(), route.bytes())?;
+        }
         let ((a, expected), (b, found)) = (&self.expected, &self.found);
         writeln!(f, "  returns {b}, expected {a}")?;
         for (name, x, y) in [
@@ -186,15 +212,19 @@ impl fmt::Display for Parted {
                 writeln!(f, "  a guard of the {name} is changed")?;
             }
         }
+        if expected.route != found.route {
+            writeln!(f, "  the route is changed")?;
+        }
         Ok(())
     }
 }
 
 /// One run. What it saw goes to `seen`; the first call after which something is wrong.
-pub fn run(face: &Face, number: u64, watch: Watch, seen: &mut Seen) -> Option<Parted> {
+pub fn run(face: &Face, number: u64, watch: Watch, along: Along, seen: &mut Seen) -> Option<Parted> {
     let mut pilot = Pilot::new(number);
+    let mut guide = (along == Along::Routes).then(|| Guide::new(number));
     let set_up = pilot.set_up();
-    let mut hands = Hands { image: Lent::new(IMAGE), input: Lent::holding(&set_up), answer: Lent::new(ANSWER) };
+    let mut hands = Hands { image: Lent::new(IMAGE), input: Lent::holding(&set_up), answer: Lent::new(ANSWER), route: None };
     pilot.junk(hands.image.bytes_mut());
     pilot.junk(hands.answer.bytes_mut());
     let parted = |tick, what, damaged, before: &Hands, expected: (u32, &Hands), found: (u32, &Hands)| {
@@ -220,16 +250,29 @@ pub fn run(face: &Face, number: u64, watch: Watch, seen: &mut Seen) -> Option<Pa
     let kind = KINDS.iter().position(|kind| *kind == pilot.kind).unwrap_or(0);
     let (mut margins, mut last, mut tick) = (Vec::new(), 1, 0);
     while tick < pilot::length(number) {
-        hands.input.set(&pilot.next(&flight));
+        let steady = guide.as_mut().and_then(Guide::steady);
+        flight.toward = steady.as_deref().map(Route::of);
+        let mut input = pilot.next(&flight);
+        if let Some(guide) = &mut guide {
+            guide.hurry(&mut input);
+            seen.routes.switches += u64::from(tick > 0 && hands.route.is_some() != steady.is_some());
+            let time = flight.time_ahead(float(&input, 7), float(&input, 10));
+            hands.route = steady.map(|_| LentRoute::holding(&guide.route(time)));
+        }
+        hands.input.set(&input);
         let whole = hands.image.clone();
         let damaged = pilot.damage(hands.image.bytes_mut());
         let before = hands.clone();
         let mut expected = hands.clone();
-        let refused = refusal::of_tick(hands.image.bytes(), TICK, ANSWER);
+        let refused = match &hands.route {
+            Some(route) => refusal::of_route_tick(hands.image.bytes(), TICK, route.bytes(), ANSWER),
+            None => refusal::of_tick(hands.image.bytes(), TICK, ANSWER),
+        };
         if refused == 0 {
             if damaged.is_some() {
                 flight = Flight::from_image(hands.image.bytes());
             }
+            flight.toward = hands.route.as_ref().map(|route| Route::of(route.bytes()));
             let way = flight.tick(hands.input.bytes(), expected.answer.bytes_mut());
             flight.write(expected.image.bytes_mut());
             tick += 1;
@@ -237,10 +280,20 @@ pub fn run(face: &Face, number: u64, watch: Watch, seen: &mut Seen) -> Option<Pa
             seen.no_attitude += u64::from(!way.attitude);
             seen.no_feedforward += u64::from(way.attitude && !way.feedforward);
             seen.at_the_end += u64::from(way.at_the_end);
+            if let (Some(route), Some(lent)) = (&flight.toward, &hands.route) {
+                seen.routes.take(lent.bytes(), route, way.time);
+            }
         } else {
             seen.refused += 1;
+            if let Some(lent) = &hands.route {
+                seen.routes.refuse(refused, lent.bytes());
+            }
         }
-        let returned = (face.tick)(hands.image.bytes_mut(), hands.input.bytes(), hands.answer.bytes_mut());
+        let (image, input, answer) = (hands.image.bytes_mut(), hands.input.bytes(), hands.answer.bytes_mut());
+        let returned = match &hands.route {
+            Some(route) => (face.route_tick)(image, input, route.bytes(), answer),
+            None => (face.tick)(image, input, answer),
+        };
         if watch == Watch::All && (returned != refused || hands != expected) {
             return parted(tick, "tick differs", damaged, &before, (refused, &expected), (returned, &hands));
         }
@@ -253,7 +306,10 @@ pub fn run(face: &Face, number: u64, watch: Watch, seen: &mut Seen) -> Option<Pa
         }
         if pilot.kind != Kind::Damaged {
             if returned != 0 {
-                return None;
+                match refused {
+                    0 => return None,
+                    _ => continue,
+                }
             }
             let (answer, input) = (hands.answer.bytes(), hands.input.bytes());
             margins.push(float(answer, 9));
@@ -281,7 +337,7 @@ pub fn run(face: &Face, number: u64, watch: Watch, seen: &mut Seen) -> Option<Pa
 
 /// Runs with at least so many accepted ticks, on all threads: what they saw and, of the runs that part, the first.
 /// Once one has parted no more are begun; those before it are, so the first is the same every time.
-pub fn compare(face: &Face, ticks: u64, watch: Watch, done: impl Fn(u64) + Sync) -> (Seen, Option<Parted>) {
+pub fn compare(face: &Face, ticks: u64, watch: Watch, along: Along, done: impl Fn(u64) + Sync) -> (Seen, Option<Parted>) {
     let all = runs(ticks);
     let (next, stop) = (AtomicU64::new(0), AtomicBool::new(false));
     let total: Mutex<(Seen, Option<Parted>)> = Mutex::new((Seen::new(), None));
@@ -295,7 +351,7 @@ pub fn compare(face: &Face, ticks: u64, watch: Watch, done: impl Fn(u64) + Sync)
                         break;
                     }
                     let mut seen = Seen::new();
-                    let parted = run(face, number, watch, &mut seen);
+                    let parted = run(face, number, watch, along, &mut seen);
                     done(seen.accepted());
                     let mut total = total.lock().unwrap_or_else(PoisonError::into_inner);
                     total.0.add(&seen);

@@ -1,0 +1,8 @@
+pub mod Walks
+pub mod Joins
+pub mod LocalTime
+pub mod LegFlown
+pub mod Taken
+pub mod Runs
+pub mod Clock
+pub mod OneAnswer

@@ -1,0 +1,102 @@
+-- What a route tick that is not refused has. Assumes nothing.
+use mathlib.Core.Path.{_≡_, refl}
+use mathlib.Core.Bool.{Bool, true, false, not, cond, _&&_, _||_}
+use mathlib.Core.List.{List}
+use Prim.Native.Nat.{ℕ, _+_, _*_, _≤_, _<_}
+use native.Mathlib.Omega.{arith}
+use borrow.Author.Tests.{ltb-false, eqb-true, eqb-false, not-true, not-false}
+use lib.Dec.{eqb, ltb}
+use lib.ListN.{length}
+use Rattle.relay_math.proofs.Tests.{no}
+use Rattle.joint.specs.declared.state.State.{State}
+use Rattle.joint.specs.declared.state.TickInput.{TickInput}
+use Rattle.joint.specs.declared.stages.Ticked.{Ticked}
+use Rattle.joint.specs.Tick.{prepare, toward, ticked}
+use Rattle.joint.proofs.Once.{tick-toward}
+use Rattle.flight.specs.Image.{stateAt, imageOf}
+use Rattle.flight.specs.Calls.{inputAt, answerOf}
+use Rattle.flight.specs.declared.entry.Outcome.the-variants as tick
+use Rattle.flight.specs.declared.entry.Outcome as of-tick
+use Rattle.flight.specs.Layout.{IMAGE-BYTES, INPUT-BYTES, ANSWER-BYTES}
+use Rattle.flight.specs.Entry.{intact, tickRefusal}
+use Rattle.route.specs.declared.outcome.Outcome.{Outcome}
+use Rattle.route.specs.declared.outcome.Outcome.the-variants.{Done, LegCount, RouteLength, LegsApart}
+use Rattle.route.specs.Outcomes.{isDone, after}
+use Rattle.route.specs.Form.{LEG-BYTES, TRAILER-BYTES, MOST-LEGS, countOf, backOf, allMeet, formRefusal}
+use Rattle.route.specs.Legs.{referenceOn}
+use Rattle.route.specs.Entry.{routeRefusal, onRoute, called, routeCall}
+
+pub record Taken (image : List ℕ) (inputLen answerLen : ℕ) (route : List ℕ) : Type 0 where
+  pub image-length : length image ≡ IMAGE-BYTES
+  pub input-length : inputLen ≡ INPUT-BYTES
+  pub answer-length : answerLen ≡ ANSWER-BYTES
+  pub trailer : TRAILER-BYTES ≤ length route
+  pub some : 0 < countOf route
+  pub whole : LEG-BYTES * countOf route ≤ length route
+
+both-done : (o : of-tick.Outcome) (r : Outcome) → isDone (after o r) ≡ true → (o ≡ tick.Done) × (isDone r ≡ true)
+both-done tick.Done r e = (refl, e)
+both-done tick.ImageLength r e = no e
+both-done tick.InputLength r e = no e
+both-done tick.AnswerLength r e = no e
+both-done tick.BrokenImage r e = no e
+
+accepted : {o : of-tick.Outcome} → o ≡ tick.Done → isDone (after o Done) ≡ true
+accepted e = rw e
+
+lengths : (x y z w : Bool) → cond x (cond y (cond z (cond w tick.Done tick.BrokenImage) tick.AnswerLength) tick.InputLength) tick.ImageLength ≡ tick.Done
+    → (x ≡ true) × (y ≡ true) × (z ≡ true)
+lengths true true true w e = (refl, refl, refl)
+lengths true true false w e = no (accepted e)
+lengths true false z w e = no (accepted e)
+lengths false y z w e = no (accepted e)
+
+tests : (x y u v z w : Bool) → isDone (cond x RouteLength (cond (y || u) LegCount (cond (z && v) (cond w Done LegsApart) RouteLength))) ≡ true
+    → (x ≡ false) × (y ≡ false) × (v ≡ true)
+tests true y u v z w e = no e
+tests false true u v z w e = no e
+tests false false true v z w e = no e
+tests false false false true true w e = (refl, refl, refl)
+tests false false false false true w e = no e
+tests false false false v false w e = no e
+
+pub taken : (image : List ℕ) (inputLen answerLen : ℕ) (route : List ℕ) → isDone (routeRefusal image inputLen answerLen route) ≡ true → Taken image inputLen answerLen route
+unfolding routeRefusal tickRefusal formRefusal
+taken image inputLen answerLen route e =
+    let d = both-done (tickRefusal image inputLen answerLen) (formRefusal route) e in
+    let t = lengths (eqb (length image) IMAGE-BYTES) (eqb inputLen INPUT-BYTES) (eqb answerLen ANSWER-BYTES) (intact image) (d .0) in
+    let n = countOf route in
+    let f = tests (ltb (length route) TRAILER-BYTES) (eqb n 0) (ltb MOST-LEGS n) (eqb (length route) (LEG-BYTES * n + TRAILER-BYTES)) (eqb (backOf route) (LEG-BYTES * n)) (allMeet route n) (d .1) in
+    record {
+      image-length = eqb-true (length image) IMAGE-BYTES (t .0);
+      input-length = eqb-true inputLen INPUT-BYTES (t .1);
+      answer-length = eqb-true answerLen ANSWER-BYTES (t .2);
+      trailer = ltb-false (length route) TRAILER-BYTES (f .0);
+      some = pos n (eqb-false n 0 (f .1));
+      whole = omega (arith, eqb-true (length route) (LEG-BYTES * n + TRAILER-BYTES) (f .2));
+    }
+  where
+    pos : (n : ℕ) → (n ≡ 0 → ⊥) → 0 < n
+    pos n h = omega (arith, h)
+
+-- ---- the two ways that a call can go, by what it was told
+
+pub taken-here : (image : List ℕ) (inputLen answerLen : ℕ) (route : List ℕ) {o : Outcome} {t : Bool} → o ≡ routeRefusal image inputLen answerLen route → t ≡ isDone o → not t ≡ false
+    → Taken image inputLen answerLen route
+taken-here image inputLen answerLen route {o} {t} e d n = taken image inputLen answerLen route (rw (← e, ← d) (not-false t n))
+
+module _ (image input route answer : List ℕ) {o : Outcome} {t : Bool} (e : o ≡ routeRefusal image (length input) (length answer) route) (d : t ≡ isDone o) where
+  pub refused : not t ≡ true → called o image answer ≡ routeCall image input route answer
+  unfolding routeCall
+  refused n = rw (← e, ← d, not-true t n)
+
+  pub flew : not t ≡ false → {done : Ticked} {later answered : List ℕ} → done ≡ ticked (onRoute route) (stateAt image) (inputAt input)
+      → later ≡ imageOf (done .state) → answered ≡ answerOf (done .answer) → called Done later answered ≡ routeCall image input route answer
+  unfolding routeCall
+  flew n f p q = rw (← e, ← d, not-false t n, p, q, f)
+
+-- ---- a route tick is what comes after its sample
+
+pub route-toward : (route : List ℕ) (s : State) (i : TickInput) → toward (prepare s i) (referenceOn route (countOf route) (prepare s i .time)) i ≡ ticked (onRoute route) s i
+unfolding onRoute
+route-toward route s i = tick-toward (onRoute route) s i

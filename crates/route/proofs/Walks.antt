@@ -1,0 +1,68 @@
+-- One turn of each walk over a route's legs. Assumes nothing.
+use mathlib.Core.Path.{_≡_, refl, sym, ap, _∙_}
+use mathlib.Core.Bool.{Bool, true, false, _&&_}
+use mathlib.Core.List.{List}
+use Prim.Native.Nat.{ℕ, zero, suc, _+_, _-_, _<_, _≤_}
+use native.Mathlib.Numerals.{add-one}
+use native.Mathlib.Omega.{arith}
+use lib.Ieee.{Float, lt}
+use Rattle.relay_math.specs.F32.{_⊕_, _⊖_}
+use Rattle.joint.specs.declared.state.Leg.{Leg}
+use Rattle.route.specs.declared.legs.Flown.{Flown}
+use Rattle.route.specs.Form.{legOf, legsMeet, meetFrom}
+use Rattle.route.specs.Legs.{durationOf, flownFrom}
+
+-- ---- three tests one after another
+
+pub third : {a b c : Bool} → a ≡ true → b ≡ true → (a && b && c) ≡ c
+third p q = rw (p, q)
+
+pub second : {a b : Bool} (c : Bool) → a ≡ true → b ≡ false → (a && b && c) ≡ false
+second c p q = rw (p, q)
+
+pub first : {a : Bool} (b c : Bool) → a ≡ false → (a && b && c) ≡ false
+first b c p = rw p
+
+-- ---- what is left
+
+-- i is one of n: what is left from i on is one more than what is left after it
+more : (n i : ℕ) → i < n → n - i ≡ suc (n - suc i)
+more n i h = omega arith
+
+none-left : (n i : ℕ) → n ≤ i → n - i ≡ 0
+none-left n i h = omega arith
+
+-- whether a leg meets the one before it, by what was read of them
+pub joined : (b : List ℕ) (i : ℕ) {earlier later : Leg} {r t : Bool} → earlier ≡ legOf b (i - 1) → later ≡ legOf b i → r ≡ legsMeet earlier later → r ≡ t
+    → legsMeet (legOf b (i - 1)) (legOf b i) ≡ t
+joined b i p q e f = rw (← p, ← q, ← e) f
+
+module _ (b : List ℕ) (n i : ℕ) where
+  -- ---- the joins
+
+  pub meet-on : i < n → legsMeet (legOf b (i - 1)) (legOf b i) ≡ true → meetFrom b (n - (i + 1)) (i + 1) ≡ meetFrom b (n - i) i
+  unfolding meetFrom
+  meet-on h e = rw (add-one i, more n i h, e)
+
+  pub meet-stops : i < n → legsMeet (legOf b (i - 1)) (legOf b i) ≡ false → meetFrom b (n - i) i ≡ false
+  unfolding meetFrom
+  meet-stops h e = rw (more n i h, e)
+
+  pub meet-ends : n ≤ i → meetFrom b (n - i) i ≡ true
+  unfolding meetFrom
+  meet-ends h = rw (none-left n i h)
+
+  -- ---- the leg flown, by the duration d that was read
+
+  module _ (time end : Float) {d : Float} where
+    pub flown-on : i < n → d ≡ durationOf b i → lt time (end ⊕ d) ≡ false → flownFrom b time (n - (i + 1)) (i + 1) (end ⊕ d) ≡ flownFrom b time (n - i) i end
+    unfolding flownFrom
+    flown-on h p e = rw (add-one i, more n i h, ← p, e)
+
+    pub flown-here : i < n → d ≡ durationOf b i → lt time (end ⊕ d) ≡ true → flownFrom b time (n - i) i end ≡ record { leg = i; at = time ⊖ end }
+    unfolding flownFrom
+    flown-here h p e = rw (more n i h, ← p, e)
+
+    pub flown-last : i ≤ n → n ≤ i → d ≡ durationOf b (n - 1) → flownFrom b time (n - i) i end ≡ record { leg = n - 1; at = d }
+    unfolding flownFrom
+    flown-last h k p = let e : i ≡ n = omega arith in rw (e, none-left n n (omega arith), p)

@@ -1,0 +1,68 @@
+-- A route in bytes (request One of document 02): legs of 19 words each, then a trailer of two words, the count and how many bytes back the first leg
+-- starts. Definitions only.
+use Prim.Native.Nat.{ℕ, zero, suc, _+_, _-_, _*_}
+use mathlib.Core.Bool.{Bool, true, _&&_, _||_, cond}
+use mathlib.Core.List.{List}
+use lib.Dec.{eqb, ltb}
+use lib.Ieee.{eq}
+use lib.ListN.{length}
+use Rattle.words.specs.Words.{fourBytes}
+use Rattle.relay_math.specs.declared.Vec3.{Vec3}
+use Rattle.joint.specs.declared.state.Leg.{Leg}
+use Rattle.flight.specs.Layout.{LEG-WORDS}
+use Rattle.flight.specs.Parts.{legAt}
+use Rattle.route.specs.declared.outcome.Outcome.{Outcome}
+use Rattle.route.specs.declared.outcome.Outcome.the-variants.{Done, LegCount, RouteLength, LegsApart}
+
+-- the limit: everything but the check is over any count
+abbrev pub MOST-LEGS : ℕ
+MOST-LEGS = 8
+
+abbrev pub LEG-BYTES : ℕ
+LEG-BYTES = 4 * LEG-WORDS
+
+abbrev pub TRAILER-BYTES : ℕ
+TRAILER-BYTES = 8
+
+-- ---- the trailer is the last 8 bytes, whatever the length
+
+unfoldable pub countOf : List ℕ → ℕ
+countOf b = fourBytes b (length b - TRAILER-BYTES)
+
+unfoldable pub backOf : List ℕ → ℕ
+backOf b = fourBytes b (length b - 4)
+
+-- ---- the legs, from the first byte on
+
+abbrev pub legOf : List ℕ → ℕ → Leg
+legOf b i = legAt b (LEG-WORDS * i)
+
+-- ---- "each p0, v0, a0 equals the earlier leg's pf, vf, af as numbers": of the words as they stand, before mending
+
+unfoldable pub vecsMeet : Vec3 → Vec3 → Bool
+vecsMeet v w = eq (v .0) (w .0) && eq (v .1) (w .1) && eq (v .2) (w .2)
+
+unfoldable pub legsMeet : Leg → Leg → Bool
+unfolding vecsMeet
+legsMeet earlier later = vecsMeet (later .p0) (earlier .pf) && vecsMeet (later .v0) (earlier .vf) && vecsMeet (later .a0) (earlier .af)
+
+-- each of the n legs from leg i on meets the leg before it
+unfoldable pub meetFrom : List ℕ → ℕ → ℕ → Bool
+unfolding legsMeet
+meetFrom b zero i = true
+meetFrom b (suc n) i = legsMeet (legOf b (i - 1)) (legOf b i) && meetFrom b n (suc i)
+
+-- so of all n legs of a route, but the first
+unfoldable pub allMeet : List ℕ → ℕ → Bool
+unfolding meetFrom
+allMeet b n = meetFrom b (n - 1) 1
+
+-- ---- "6 a route below 8 bytes; 5 count 0 or above 8; 6 distance back not 76 times the count, or length not 8 more; 7 legs don't meet"
+
+unfoldable pub formRefusal : List ℕ → Outcome
+unfolding countOf backOf allMeet
+formRefusal b =
+    let n = countOf b in
+    cond (ltb (length b) TRAILER-BYTES) RouteLength
+    (cond (eqb n 0 || ltb MOST-LEGS n) LegCount
+    (cond (eqb (backOf b) (LEG-BYTES * n) && eqb (length b) (LEG-BYTES * n + TRAILER-BYTES)) (cond (allMeet b n) Done LegsApart) RouteLength))

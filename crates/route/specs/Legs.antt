@@ -1,0 +1,55 @@
+-- The leg flown (request One of document 02), over any count. Definitions only.
+use mathlib.Core.Path.{_≡_}
+use Prim.Native.Nat.{ℕ, zero, suc, _-_, _<_}
+use mathlib.Core.Bool.{true, false, cond}
+use mathlib.Core.List.{List}
+use lib.Ieee.{Float, lt}
+use Rattle.relay_math.specs.F32.{_⊕_, _⊖_, 0·0}
+use Rattle.relay_traj.specs.Quintic.{mendedDuration}
+use Rattle.joint.specs.declared.stages.Reference.{Reference}
+use Rattle.joint.specs.SetUp.{segmentOf}
+use Rattle.joint.specs.Tick.{referenceAt}
+use Rattle.route.specs.declared.legs.Flown.{Flown}
+use Rattle.route.specs.Form.{legOf}
+
+unfoldable pub durationOf : List ℕ → ℕ → Float
+durationOf b i = mendedDuration (legOf b i .t)
+
+-- Looked for from leg i on, before which the legs' ends came to `end`, among the next n: the first whose own end is above the time, at the time
+-- less the end before it. Past all ends it is the last leg, at its duration.
+unfoldable pub flownFrom : List ℕ → Float → ℕ → ℕ → Float → Flown
+unfolding durationOf
+flownFrom b time zero i end = record { leg = i - 1; at = durationOf b (i - 1) }
+flownFrom b time (suc n) i end =
+    let next = end ⊕ durationOf b i in
+    cond (lt time next) record { leg = i; at = time ⊖ end } (flownFrom b time n (suc i) next)
+
+unfoldable pub flown : List ℕ → ℕ → Float → Flown
+unfolding flownFrom
+flown b n time = flownFrom b time n 0 0·0
+
+-- the base's own sample, of a leg in place of the stored segment
+unfoldable pub referenceOf : List ℕ → ℕ → Float → Reference
+referenceOf b i at = referenceAt (segmentOf (legOf b i)) at
+
+unfoldable pub referenceOn : List ℕ → ℕ → Float → Reference
+unfolding flown referenceOf
+referenceOn b n time = let f = flown b n time in referenceOf b (f .leg) (f .at)
+
+-- ---- what the theorems in proofs/ speak of
+
+-- "Leg ends are the running f32 sum of mended durations": the end of the first n legs
+unfoldable pub endOf : List ℕ → ℕ → Float
+unfolding durationOf
+endOf b zero = 0·0
+endOf b (suc n) = endOf b n ⊕ durationOf b n
+
+-- leg k, counted from 0, is the first of n whose end is above the time
+pub record FirstAbove (b : List ℕ) (n : ℕ) (time : Float) (k : ℕ) : Type 0 where
+  pub within : k < n
+  pub above : lt time (endOf b (suc k)) ≡ true
+  pub earlier : (j : ℕ) → j < k → lt time (endOf b (suc j)) ≡ false
+
+-- the time is past the ends of all n legs
+pub record PastAll (b : List ℕ) (n : ℕ) (time : Float) : Type 0 where
+  pub none : (j : ℕ) → j < n → lt time (endOf b (suc j)) ≡ false

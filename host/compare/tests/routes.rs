@@ -1,0 +1,231 @@
+//! Ticks on routes, mixed with plain ones: the archive against document 02's sentence with the Rust's own segments, byte for byte, and the
+//! third demand by looking back.
+
+use compare::joint::bytes::{float, put, raw, word, ANSWER, IMAGE, LEG, SETUP, TICK};
+use compare::joint::runs::{self, Along, Watch};
+use compare::joint::{lengths, parts, Face, ARCHIVE};
+use std::time::Instant;
+
+#[test]
+fn every_tick_on_a_route_is_the_rust_s_and_the_look_back_s() {
+    let start = Instant::now();
+    let (seen, parted) = runs::compare(&ARCHIVE, runs::GATE_ON_ROUTES, Watch::All, Along::Routes, |_| {});
+    let routes = &seen.routes;
+    println!("{seen}\n{:.1} s", start.elapsed().as_secs_f32());
+    if let Some(parted) = parted {
+        panic!("{parted}");
+    }
+    assert!(routes.accepted() >= 1_000_000 && seen.looked_back >= runs::GATE_ON_ROUTES / 2);
+    // a run that never goes where the errors are shows nothing
+    for (what, counts) in [
+        ("counts", &routes.counts[..]),
+        ("legs", &routes.legs),
+        ("ends", &[routes.past, routes.at_end, routes.below_end, routes.above_end]),
+        ("durations", &[routes.mended, routes.lost, routes.infinite]),
+        ("joins", &[routes.zeros, routes.infinities]),
+        ("refusals 4 to 7", &routes.refused[4..]),
+        ("apart", &routes.apart),
+        ("switches", &[routes.switches]),
+    ] {
+        assert!(counts.iter().all(|count| *count > 1000), "{what}: {counts:?}");
+    }
+    let [planner, fallback] = seen.band;
+    assert!(planner * 20 >= seen.passes() && fallback * 20 >= seen.passes() && seen.changes > 1000);
+}
+
+#[test]
+fn what_looks_right_but_is_wrong_is_caught() {
+    let missed: Vec<&str> = parts::WRONG_ON_ROUTES.iter().filter(|face| !caught(face, Watch::All)).map(|face| face.name).collect();
+    assert!(missed.is_empty(), "not caught within {} ticks: {missed:?}", runs::GATE_ON_ROUTES);
+}
+
+/// The look-back knows nothing of the model nor of routes, and catches what the third demand is about.
+#[test]
+fn looking_back_alone_catches_what_is_about_the_flag() {
+    for name in ["released in the band", "a sham with one answer", "a sham that leaves the image"] {
+        let face = parts::WRONG.iter().find(|face| face.name == name).expect("a name of the list");
+        assert!(caught(face, Watch::LookBack), "{name}");
+    }
+}
+
+fn caught(face: &Face, watch: Watch) -> bool {
+    let (_, parted) = runs::compare(face, runs::GATE_ON_ROUTES, watch, Along::Routes, |_| {});
+    if let Some(parted) = &parted {
+        println!(
+            "{}: caught in run {}, tick {} (returns {}, expected {})",
+            face.name, parted.run, parted.tick, parted.found.0, parted.expected.0
+        );
+    }
+    parted.is_some()
+}
+
+/// What the wrong ones are made from is right.
+#[test]
+fn the_single_routines_make_the_same_tick() {
+    let (_, parted) = runs::compare(&parts::RIGHT, runs::GATE_ON_ROUTES / 10, Watch::All, Along::Routes, |_| {});
+    if let Some(parted) = parted {
+        panic!("{parted}");
+    }
+}
+
+#[test]
+fn every_length_of_a_route() {
+    let calls = lengths::routes(&ARCHIVE).unwrap_or_else(|text| panic!("{text}"));
+    println!("{calls} calls");
+    assert_eq!(calls, lengths::route_calls());
+    // and the sweep can fail
+    let longer = parts::WRONG_ON_ROUTES.iter().find(|face| face.name == "a longer route taken").expect("a name of the list");
+    assert!(lengths::routes(longer).is_err());
+}
+
+// Some lines of document 02 by hand, through the archive; the model has no part in them.
+
+const WORDS: usize = LEG / 4;
+
+/// Legs east and back north, each from where the last one ends, with speeds and accelerations at the joins.
+fn legs(durations: &[f32]) -> Vec<[f32; WORDS]> {
+    let mut from = [0.0, 0.0, -4.0, 0.0, 0.0, 0.0, 0.0, 0.0, 0.0];
+    let leg = |(k, t): (usize, &f32)| {
+        let k = k as f32;
+        let to = [1.0 - k, 2.0 + k, -4.0 - k, 0.25, -0.5, 0.125 * k, 0.5, 0.25 * k, -0.25];
+        let words = [from.as_slice(), &to, &[*t]].concat();
+        from = to;
+        words.try_into().expect("19 words")
+    };
+    durations.iter().enumerate().map(leg).collect()
+}
+
+fn bytes(legs: &[[f32; WORDS]]) -> Vec<u8> {
+    let trailer = [legs.len() as u32, LEG as u32 * legs.len() as u32];
+    legs.iter().flatten().map(|x| x.to_bits()).chain(trailer).flat_map(u32::to_le_bytes).collect()
+}
+
+/// Gains and set as in flight, thresholds that no margin reaches, no filter, and this segment: the fallback flies, and its command shows the
+/// jerk, which no join takes over.
+fn set_up(segment: &[f32; WORDS]) -> [u8; SETUP] {
+    let gains = [0.6, 0.6, 0.15, 0.12, 0.12, 0.35, 0.0217, 0.0217, 0.04, 1.0, 1.0, 1.75, 5.0, 9.0, 1.0, 3.0, 0.25];
+    let rate = [[40.0, 12.0, 60.0, 0.0]; 3].concat();
+    raw(&[gains.as_slice(), segment, &rate, &[0.0, 1000.0]].concat())
+}
+
+/// Level and on track, a step that brings a fresh clock to this time.
+fn step(time: f32) -> [u8; TICK] {
+    raw(&[0.5, -0.25, 0.125, 1.0, 0.0, 0.0, 0.0, 0.0, 0.5, 0.25, time, 1.0, -1.0, 0.5, 1.0, 1.0, 1.0])
+}
+
+/// A fresh image's first tick, on a route where one is given: command, flag, psi and margin; and the time.
+fn first(segment: &[f32; WORDS], route: Option<&[u8]>, time: f32) -> ([u32; 6], f32) {
+    let (mut image, mut answer) = ([0; IMAGE], [0; ANSWER]);
+    assert_eq!((ARCHIVE.setup)(&mut image, &set_up(segment)), 0);
+    let segment = image[4 * 20..4 * 41].to_vec();
+    let number = match route {
+        Some(route) => (ARCHIVE.route_tick)(&mut image, &step(time), route, &mut answer),
+        None => (ARCHIVE.tick)(&mut image, &step(time), &mut answer),
+    };
+    assert_eq!((number, &image[4 * 20..4 * 41]), (0, &segment[..]));
+    ([3, 4, 5, 6, 8, 9].map(|at| word(&answer, at)), float(&answer, 7))
+}
+
+/// On a route the tick is that of the leg flown, as a segment of its own at the time less the end before it; the image keeps its segment and
+/// the route's time.
+#[test]
+fn the_leg_flown_by_hand() {
+    let other = legs(&[9.0])[0];
+    let mended = [f32::NAN, 2.0, 4.0];
+    let lost = [16777216.0, 0.5, 1.0, 4.0];
+    let huge = [3e38, 3e38, 1.0];
+    let below = |x: f32| x.next_down();
+    for (durations, time, leg, at) in [
+        (&[1.0, 2.0, 4.0][..], 0.5, 0, 0.5),
+        (&[1.0, 2.0, 4.0], below(1.0), 0, below(1.0)),
+        (&[1.0, 2.0, 4.0], 1.0, 1, 0.0),
+        (&[1.0, 2.0, 4.0], 2.5, 1, 1.5),
+        (&[1.0, 2.0, 4.0], 3.0, 2, 0.0),
+        (&[1.0, 2.0, 4.0], 7.0, 2, 4.0),
+        (&[1.0, 2.0, 4.0], 1e30, 2, 4.0),
+        (&mended, below(1e-3), 0, below(1e-3)),
+        (&mended, 1e-3, 1, 0.0),
+        (&lost, below(16777216.0), 0, below(16777216.0)),
+        (&lost, 16777216.0, 3, 0.0),
+        (&lost, 16777218.0, 3, 2.0),
+        (&lost, 16777220.0, 3, 4.0),
+        (&huge, below(3e38), 0, below(3e38)),
+        (&huge, 3e38, 1, 0.0),
+        (&huge, f32::MAX, 1, f32::MAX - 3e38),
+    ] {
+        let legs = legs(durations);
+        let (said, clock) = first(&other, Some(&bytes(&legs)), time);
+        assert_eq!((said, clock), (first(&legs[leg], None, at).0, time), "{durations:?} at {time}");
+        if let (1.0, Some(before)) = (durations[0], leg.checked_sub(1)) {
+            assert!(at > 0.0 || said != first(&legs[before], None, durations[before]).0, "{durations:?} at {time}");
+        }
+    }
+}
+
+/// "6 a route below 8 bytes; 5 count 0 or above 8; 6 distance back not 76 times the count, or length not 8 more; 7 legs don't meet."
+#[test]
+fn refusals_by_hand() {
+    let mut image = [0; IMAGE];
+    assert_eq!((ARCHIVE.setup)(&mut image, &set_up(&legs(&[1.0])[0])), 0);
+    let number = |image: &[u8], input: usize, route: &[u8], answer: usize| {
+        let (mut lent, mut out) = (image.to_vec(), vec![0xee; answer]);
+        let number = (ARCHIVE.route_tick)(&mut lent, &step(1.0)[..input], route, &mut out);
+        assert!(number == 0 || (lent == image && out == vec![0xee; answer]));
+        number
+    };
+    let of = |route: &[u8]| number(&image, TICK, route, ANSWER);
+    let trailer = |count: u32, back: u32| [count.to_le_bytes(), back.to_le_bytes()].concat();
+    let three = bytes(&legs(&[1.0, 2.0, 4.0]));
+    let with = |count: u32, back: u32| [&three[..three.len() - 8], &trailer(count, back)].concat();
+    assert_eq!(of(&three), 0);
+    (0..8).for_each(|n| assert_eq!(of(&vec![0xff; n]), 6));
+    for (count, back, said) in [(0, 0, 5), (0, 1, 5), (9, 684, 5), (1 << 30, 0, 5), (u32::MAX, 0, 5), (1, 76, 6), (1, 0, 6), (8, 608, 6)] {
+        assert_eq!(of(&trailer(count, back)), said, "{count}, {back}");
+    }
+    for (count, back, said) in [(3, 228, 0), (3, 236, 6), (3, 0, 6), (2, 152, 6), (2, 228, 6), (4, 304, 6), (0, 228, 5), (9, 228, 5)] {
+        assert_eq!(of(&with(count, back)), said, "{count}, {back}");
+    }
+    assert_eq!(of(&bytes(&legs(&[1.0; 8]))), 0);
+    assert_eq!(of(&bytes(&legs(&[1.0; 9]))), 5);
+    assert_eq!(of(&[&[0; 4], &three[..]].concat()), 6);
+    // what a tick is refused for goes first
+    assert_eq!(number(&image[1..], 0, &[], 0), 1);
+    assert_eq!(number(&image, TICK - 1, &[], 0), 2);
+    assert_eq!(number(&image, TICK, &[], ANSWER - 1), 3);
+    put(&mut image, 15, 2);
+    assert_eq!(number(&image, TICK, &[], ANSWER), 4);
+}
+
+/// Each of the nine places of each join, as numbers and as the words stand.
+#[test]
+fn joins_by_hand() {
+    let fresh = set_up(&legs(&[1.0])[0]);
+    let of = |legs: &[[f32; WORDS]]| {
+        let (mut image, mut answer) = ([0; IMAGE], [0; ANSWER]);
+        (ARCHIVE.setup)(&mut image, &fresh);
+        (ARCHIVE.route_tick)(&mut image, &step(1.0), &bytes(legs), &mut answer)
+    };
+    let (nan, infinity) = (f32::NAN, f32::INFINITY);
+    for join in 0..2 {
+        for place in 0..9 {
+            let with = |a: f32, b: f32| {
+                let mut legs = legs(&[1.0, 2.0, 4.0]);
+                (legs[join][9 + place], legs[join + 1][place]) = (a, b);
+                of(&legs)
+            };
+            for (a, b) in [(0.0, -0.0), (-0.0, 0.0), (infinity, infinity), (-infinity, -infinity), (1e-45, 1e-45), (2.0, 2.0)] {
+                assert_eq!((with(a, b), with(b, a)), (0, 0), "{a}, {b} at {place}");
+            }
+            for (a, b) in
+                [(nan, nan), (nan, 0.0), (infinity, -infinity), (infinity, f32::MAX), (1e-45, 0.0), (2.0, -2.0), (2.0, 2.0f32.next_up())]
+            {
+                assert_eq!((with(a, b), with(b, a)), (7, 7), "{a}, {b} at {place}");
+            }
+        }
+    }
+    // nothing meets the first start nor the last end, and no duration is compared
+    let mut open = legs(&[nan, -1.0, infinity]);
+    open[0][..9].fill(nan);
+    open[2][9..18].fill(nan);
+    assert_eq!(of(&open), 0);
+}

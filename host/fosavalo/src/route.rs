@@ -1,0 +1,101 @@
+use crate::words::{Put, Take};
+use crate::{calls, Refusal, Segment, SetUp, TickInput, ANSWER_BYTES, IMAGE_BYTES, LEG_BYTES, MOST_LEGS, ROUTE_TRAILER_BYTES};
+use std::fmt;
+
+/// A leg of a route: what a [`Segment`] is to a set-up.
+pub type Leg = Segment;
+
+const LONGEST: usize = MOST_LEGS * LEG_BYTES + ROUTE_TRAILER_BYTES;
+
+/// 1 to 8 legs, flown one after another. It is checked when it is made, so that no tick is refused for its route.
+///
+/// Legs meet: each `p0`, `v0`, `a0` is the `pf`, `vf`, `af` before it as a number. A leg ends at the sum of the durations up to it, as
+/// set-up mends a duration; the leg flown is the first whose end is above the image's time, and past all ends the last, at its end.
+///
+/// ```
+/// use fosavalo::{Image, Leg, Refusal, Route, SetUp, TickInput};
+///
+/// let rest = SetUp::falcon_quad().segment; // at the origin for 1 s
+/// let out = Leg { pf: [3.0, 0.0, 0.0], vf: [0.5, 0.0, 0.0], t: 4.0, ..rest };
+/// let home = Leg { p0: out.pf, v0: out.vf, pf: [0.0; 3], t: 6.0, ..rest };
+/// let route = Route::new(&[rest, out, home])?;
+///
+/// let mut image = Image::set_up(&SetUp::falcon_quad())?;
+/// let answer = image.route_tick(&TickInput { dt: 2.0, ..TickInput::default() }, &route)?;
+/// assert_eq!(answer.time, 2.0); // a second into the second leg
+///
+/// assert_eq!(Route::new(&[out, rest]), Err(Refusal::LegsApart));
+/// assert_eq!(Route::new(&[]), Err(Refusal::LegCount));
+/// assert_eq!(Route::new(&[rest; 9]), Err(Refusal::LegCount));
+/// # Ok::<(), Refusal>(())
+/// ```
+#[derive(Clone, PartialEq, Eq, Hash)]
+pub struct Route {
+    /// Zeros after the route's own.
+    bytes: [u8; LONGEST],
+    len: usize,
+}
+
+impl Route {
+    /// A route of these legs; refused where there is none of them or more than 8, and where two do not meet.
+    pub fn new(legs: &[Leg]) -> Result<Self, Refusal> {
+        if legs.len() > MOST_LEGS {
+            return Err(Refusal::LegCount);
+        }
+        let back = legs.len() * LEG_BYTES;
+        let mut route = Route { bytes: [0; LONGEST], len: back + ROUTE_TRAILER_BYTES };
+        let mut to = Put::to(&mut route.bytes);
+        legs.iter().for_each(|leg| leg.put(&mut to));
+        // both are small
+        [legs.len(), back].into_iter().for_each(|word| to.word(word as u32));
+        route.check()?;
+        Ok(route)
+    }
+
+    /// From bytes; refused where these are no route.
+    ///
+    /// ```
+    /// use fosavalo::{Refusal, Route, SetUp};
+    ///
+    /// let route = Route::new(&[SetUp::falcon_quad().segment; 3])?;
+    /// let bytes = route.as_bytes();
+    /// assert_eq!(bytes.len(), 3 * 76 + 8);
+    /// assert_eq!(Route::from_bytes(bytes), Ok(route.clone()));
+    /// assert_eq!(Route::from_bytes(&bytes[1..]), Err(Refusal::RouteLength));
+    /// # Ok::<(), Refusal>(())
+    /// ```
+    pub fn from_bytes(bytes: &[u8]) -> Result<Self, Refusal> {
+        check(bytes)?;
+        let mut route = Route { bytes: [0; LONGEST], len: bytes.len() };
+        route.bytes.iter_mut().zip(bytes).for_each(|(own, byte)| *own = *byte);
+        Ok(route)
+    }
+
+    /// The bytes: 19 words a leg, then the count and how many bytes back the first leg starts.
+    pub fn as_bytes(&self) -> &[u8] {
+        self.bytes.get(..self.len).unwrap_or_default()
+    }
+
+    /// The legs, in the order in which they are flown.
+    pub fn legs(&self) -> impl Iterator<Item = Leg> + '_ {
+        self.as_bytes().chunks_exact(LEG_BYTES).map(|leg| Leg::take(&mut Take(leg)))
+    }
+
+    fn check(&self) -> Result<(), Refusal> {
+        check(self.as_bytes())
+    }
+}
+
+/// What a tick says of these bytes: one with an image of its own, which is then let go. So no second judge has to agree with the core.
+fn check(route: &[u8]) -> Result<(), Refusal> {
+    let mut image = [0; IMAGE_BYTES];
+    Refusal::check(calls::setup(&mut image, &SetUp::falcon_quad().to_bytes()))?;
+    Refusal::check(calls::route_tick(&mut image, &TickInput::default().to_bytes(), route, &mut [0; ANSWER_BYTES]))
+}
+
+impl fmt::Debug for Route {
+    fn fmt(&self, f: &mut fmt::Formatter<'_>) -> fmt::Result {
+        f.write_str("Route ")?;
+        f.debug_list().entries(self.legs()).finish()
+    }
+}

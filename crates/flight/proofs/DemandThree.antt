@@ -22,13 +22,13 @@ use Rattle.joint.specs.Runs as run
 use Rattle.joint.proofs.Shielding.{tick-keeps-shield}
 use Rattle.joint.proofs.Runs.{tick-leads, then, Lawful, run-leads, leads-flies}
 use Rattle.flight.specs.declared.entry.Outcome.the-variants.{Done}
-use Rattle.flight.specs.Layout.{ENTER, EXIT, IMAGE-BYTES, SETUP-BYTES}
-use Rattle.flight.specs.Image.{shieldAt, stateAt}
-use Rattle.flight.specs.Calls.{setupAt, inputAt}
+use Rattle.image.specs.Layout.{ENTER, EXIT, IMAGE-BYTES, SETUP-BYTES}
+use Rattle.image.specs.Image.{shieldAt, stateAt}
+use Rattle.image.specs.Calls.{setupAt, inputAt}
 use Rattle.flight.specs.Entry.{called, setUpRefusal, setUpCall, tickCall}
 use Rattle.flight.specs.Runs.{Accepted, start, Given, Right, Event, Tick, leftBy, guided, marginsOf, imageAfter, marginsAlong, AllRight, tickAt, imageAt, guidedAt}
 use Rattle.flight.specs.DemandThree.{enterOf, exitOf, Shows}
-use Rattle.flight.proofs.Decoded.{decode-encode}
+use Rattle.image.proofs.Decoded.{decode-encode}
 use Rattle.flight.proofs.Going.{set-up-fits, set-up-never-refused, in-order}
 use Rattle.flight.proofs.Shown.{shieldOf, leaves, answers, shows, lawful, done, one-margin}
 

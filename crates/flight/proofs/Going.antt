@@ -19,14 +19,14 @@ use Rattle.joint.specs.Good.{shieldOk, good}
 use Rattle.joint.proofs.Kept.{Good, good-parts, set-up-good, tick-good}
 use Rattle.flight.specs.declared.entry.Outcome.{Outcome}
 use Rattle.flight.specs.declared.entry.Outcome.the-variants.{Done, ImageLength, InputLength, AnswerLength, BrokenImage}
-use Rattle.flight.specs.Layout.{COUNT, ENGAGED, IMAGE-WORDS, IMAGE-BYTES, INPUT-BYTES, ANSWER-BYTES, SETUP-ENTER}
-use Rattle.flight.specs.Parts.{gainsAt, setAt, legAt, adrcGainsAt, quatAt}
-use Rattle.flight.specs.Image.{shieldAt, stateAt, imageOf}
-use Rattle.flight.specs.Calls.{setupAt, inputAt}
+use Rattle.image.specs.Layout.{COUNT, ENGAGED, IMAGE-WORDS, IMAGE-BYTES, INPUT-BYTES, ANSWER-BYTES, SETUP-ENTER}
+use Rattle.image.specs.Parts.{gainsAt, setAt, legAt, adrcGainsAt, quatAt}
+use Rattle.image.specs.Image.{shieldAt, stateAt, imageOf}
+use Rattle.image.specs.Calls.{setupAt, inputAt}
 use Rattle.flight.specs.Entry.{intactWith, intact, tickRefusal}
-use Rattle.flight.specs.Fits.{Fits}
-use Rattle.flight.proofs.Decoded.{image-length, count-written, engaged-written, decode-encode, state-fits}
-use Rattle.flight.proofs.Fitting.{new-shield-fits, step-fits, governor-fits, advance-fits, segment-fits, rate-new-fits, axis-fraction-fits, axis-tick-fits, gyro-new-fits, gyro-filter-fits}
+use Rattle.image.specs.Fits.{Fits}
+use Rattle.image.proofs.Decoded.{image-length, count-written, engaged-written, decode-encode, state-fits}
+use Rattle.image.proofs.Fitting.{new-shield-fits, step-fits, governor-fits, advance-fits, segment-fits, rate-new-fits, axis-fraction-fits, axis-tick-fits, gyro-new-fits, gyro-filter-fits}
 
 -- ---- every state that set-up and ticks make is one of f32 values
 

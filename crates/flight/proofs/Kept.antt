@@ -17,12 +17,12 @@ use Rattle.joint.specs.Tick.{tick, ticked, prepare, finish, referenceAt}
 use Rattle.joint.specs.Runs as run
 use Rattle.joint.proofs.Kept.{good-runs}
 use Rattle.joint.proofs.Clock.{time-never-back}
-use Rattle.flight.specs.Layout.{GOVERNOR}
-use Rattle.flight.specs.Parts.{governorAt}
-use Rattle.flight.specs.Image.{stateAt, wordsOfState}
-use Rattle.flight.specs.Calls.{inputAt}
+use Rattle.image.specs.Layout.{GOVERNOR}
+use Rattle.image.specs.Parts.{governorAt}
+use Rattle.image.specs.Image.{stateAt, wordsOfState}
+use Rattle.image.specs.Calls.{inputAt}
 use Rattle.flight.specs.Runs.{Accepted, Given, Tick, leftBy, imageAfter}
-use Rattle.flight.proofs.Decoded.{time-written, state-fits}
+use Rattle.image.proofs.Decoded.{time-written, state-fits}
 use Rattle.flight.proofs.Going.{ticked-fits, good-image}
 use Rattle.flight.proofs.Shown.{either-way, lawful}
 

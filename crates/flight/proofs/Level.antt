@@ -25,8 +25,8 @@ use Rattle.joint.specs.declared.state.TickInput.{TickInput}
 use Rattle.joint.specs.SetUp.{setUp, segmentOf}
 use Rattle.joint.specs.Tick.{prepare, referenceAt, cleaned, rateSq, guide, guidance, tick}
 use Rattle.joint.proofs.Shielding.{tick-is, tick-latch}
-use Rattle.flight.specs.Parts.{setAt, legAt, quatAt}
-use Rattle.flight.specs.Calls.{setupAt, inputAt}
+use Rattle.image.specs.Parts.{setAt, legAt, quatAt}
+use Rattle.image.specs.Calls.{setupAt, inputAt}
 use Rattle.flight.specs.Shams.{levelSetUp, levelInput}
 
 abbrev 1·75 : Float

@@ -1,8 +1,4 @@
-pub mod Decoded
-pub mod Answered
-pub mod Fitting
 pub mod Going
-pub mod AnswerFits
 pub mod Shown
 pub mod Kept
 pub mod DemandThree

@@ -13,13 +13,13 @@ use Rattle.joint.specs.Runs as run
 use Rattle.joint.proofs.Shielding.{tick-latch, tick-keeps-shield}
 use Rattle.joint.proofs.Runs.{after-append}
 use Rattle.flight.specs.declared.entry.Outcome.the-variants.{Done}
-use Rattle.flight.specs.Layout.{FLAG, ENGAGED}
-use Rattle.flight.specs.Image.{shieldAt, stateAt}
-use Rattle.flight.specs.Calls.{inputAt}
+use Rattle.image.specs.Layout.{FLAG, ENGAGED}
+use Rattle.image.specs.Image.{shieldAt, stateAt}
+use Rattle.image.specs.Calls.{inputAt}
 use Rattle.flight.specs.Entry.{Called, called, tickCall}
 use Rattle.flight.specs.Runs.{start, Given, Right, Event, Tick, callOf, leftBy, guided, marginsOf, imageAfter}
 use Rattle.flight.specs.DemandThree.{enterOf, exitOf, InBand}
-use Rattle.flight.proofs.Decoded.{engaged-written}
+use Rattle.image.proofs.Decoded.{engaged-written}
 use Rattle.flight.proofs.Going.{in-order, flag-of-image}
 use Rattle.flight.proofs.Shown.{shieldOf, leaves, answers, fellBack, flag-word, flag-zero, flag-one, lawful, done}
 use Rattle.flight.proofs.DemandThree.{start-accepted, start-engaged, ran}

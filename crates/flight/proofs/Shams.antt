@@ -16,14 +16,14 @@ use Rattle.joint.specs.Tick.{tick, referenceAt}
 use Rattle.joint.proofs.Shielding.{tick-is, tick-keeps-shield}
 use Rattle.joint.proofs.NoAttitude.{nan-heading-tick}
 use Rattle.flight.specs.declared.entry.Outcome.the-variants.{Done}
-use Rattle.flight.specs.Layout.{COUNT, ENGAGED, FLAG, SETUP-BYTES, INPUT-BYTES, ANSWER-BYTES}
-use Rattle.flight.specs.Image.{stateAt, imageOf}
-use Rattle.flight.specs.Calls.{setupAt, inputAt, answerOf}
+use Rattle.image.specs.Layout.{COUNT, ENGAGED, FLAG, SETUP-BYTES, INPUT-BYTES, ANSWER-BYTES}
+use Rattle.image.specs.Image.{stateAt, imageOf}
+use Rattle.image.specs.Calls.{setupAt, inputAt, answerOf}
 use Rattle.flight.specs.Entry.{Called, called, setUpRefusal, tickRefusal, setUpCall, tickCall}
 use Rattle.flight.specs.Runs.{ticked}
 use Rattle.flight.specs.Shams.{Program, Keeps, RefusesSetUps, RefusesTicks, AnswersOnly, LeavesSetUp, LeavesTicked, blankAnswer, blankImage, ran, answered, EchoesAfter, levelSetUp, levelInput, lostInput}
-use Rattle.flight.proofs.Decoded.{count-written, engaged-written, decode-encode}
-use Rattle.flight.proofs.Answered.{flag-answered}
+use Rattle.image.proofs.Decoded.{count-written, engaged-written, decode-encode}
+use Rattle.image.proofs.Answered.{flag-answered}
 use Rattle.flight.proofs.Going.{set-up-fits, set-up-never-refused, tick-never-refused}
 use Rattle.flight.proofs.Level.{planner-first}
 

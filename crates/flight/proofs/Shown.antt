@@ -23,16 +23,16 @@ use Rattle.joint.proofs.Shielding.{tick-margin, tick-planner, tick-fallback, pl
 use Rattle.joint.proofs.Runs.{stays, tick-leads}
 use Rattle.flight.specs.declared.entry.Outcome.{Outcome}
 use Rattle.flight.specs.declared.entry.Outcome.the-variants.{Done, ImageLength, InputLength, AnswerLength, BrokenImage}
-use Rattle.flight.specs.Layout.{FLAG, MARGIN}
-use Rattle.flight.specs.Image.{stateAt, imageOf}
-use Rattle.flight.specs.Calls.{inputAt, answerOf}
+use Rattle.image.specs.Layout.{FLAG, MARGIN}
+use Rattle.image.specs.Image.{stateAt, imageOf}
+use Rattle.image.specs.Calls.{inputAt, answerOf}
 use Rattle.flight.specs.Entry.{called, unless, tickRefusal, tickCall}
 use Rattle.flight.specs.Runs.{Accepted, Given, Right, Event, Tick, callOf, leftBy, guided, ifDone, marginsOf}
-use Rattle.flight.specs.Fits.{F32}
+use Rattle.image.specs.Fits.{F32}
 use Rattle.flight.specs.DemandThree.{cleanWord, plannerWords, fallbackWords, commandWords, Shows}
-use Rattle.flight.proofs.Decoded.{decode-encode, state-fits}
-use Rattle.flight.proofs.Answered.{flag-answered, margin-answered, margin-word, command-words}
-use Rattle.flight.proofs.AnswerFits.{margin-fits, command-fits}
+use Rattle.image.proofs.Decoded.{decode-encode, state-fits}
+use Rattle.image.proofs.Answered.{flag-answered, margin-answered, margin-word, command-words}
+use Rattle.image.proofs.AnswerFits.{margin-fits, command-fits}
 use Rattle.flight.proofs.Going.{ticked-fits, ticked-never-refused}
 
 abbrev pub shieldOf : List ℕ → SimplexShield

@@ -9,7 +9,7 @@ use Rattle.words.specs.Words.{word, float, floatOf, bits, floatsOfVec, wordsOf}
 use Rattle.relay_math.specs.F32.{0·0, isFinite, finiteOr}
 use Rattle.relay_geo.specs.Vectors.{sanitise3}
 use Rattle.joint.specs.declared.stages.Guided.{Guided}
-use Rattle.flight.specs.Layout.{ENTER, EXIT, AGILE, COMMAND, FLAG, MARGIN}
+use Rattle.image.specs.Layout.{ENTER, EXIT, AGILE, COMMAND, FLAG, MARGIN}
 use Rattle.flight.specs.Entry.{Called, number}
 use Rattle.flight.specs.Runs.{start}
 

@@ -11,9 +11,9 @@ use Rattle.joint.specs.Tick.{tick}
 use Rattle.joint.specs.Good.{good}
 use Rattle.flight.specs.declared.entry.Outcome.{Outcome}
 use Rattle.flight.specs.declared.entry.Outcome.the-variants.{Done, ImageLength, InputLength, AnswerLength, BrokenImage}
-use Rattle.flight.specs.Layout.{COUNT, ENGAGED, IMAGE-WORDS, IMAGE-BYTES, SETUP-BYTES, INPUT-BYTES, ANSWER-BYTES}
-use Rattle.flight.specs.Image.{stateAt, imageOf}
-use Rattle.flight.specs.Calls.{setupAt, inputAt, answerOf}
+use Rattle.image.specs.Layout.{COUNT, ENGAGED, IMAGE-WORDS, IMAGE-BYTES, SETUP-BYTES, INPUT-BYTES, ANSWER-BYTES}
+use Rattle.image.specs.Image.{stateAt, imageOf}
+use Rattle.image.specs.Calls.{setupAt, inputAt, answerOf}
 
 -- document 01's number of each outcome
 abbrev pub number : Outcome → ℕ

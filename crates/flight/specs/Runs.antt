@@ -10,9 +10,9 @@ use Rattle.joint.specs.Tick.{guidance, referenceAt, tick}
 use Rattle.joint.specs.Runs as run
 use Rattle.flight.specs.declared.entry.Outcome.{Outcome}
 use Rattle.flight.specs.declared.entry.Outcome.the-variants.{Done, ImageLength, InputLength, AnswerLength, BrokenImage}
-use Rattle.flight.specs.Layout.{INPUT-BYTES, ANSWER-BYTES}
-use Rattle.flight.specs.Image.{stateAt, imageOf}
-use Rattle.flight.specs.Calls.{setupAt, inputAt}
+use Rattle.image.specs.Layout.{INPUT-BYTES, ANSWER-BYTES}
+use Rattle.image.specs.Image.{stateAt, imageOf}
+use Rattle.image.specs.Calls.{setupAt, inputAt}
 use Rattle.flight.specs.Entry.{Called, tickRefusal, tickCall}
 
 -- an image that a tick takes

@@ -5,7 +5,7 @@ use mathlib.Core.List.{List, [], _∷_, _++_}
 use lib.ListN.{length, replicate}
 use Rattle.words.specs.Words.{bytesOf}
 use Rattle.flight.specs.declared.entry.Outcome.the-variants.{Done}
-use Rattle.flight.specs.Layout.{IMAGE-BYTES, ANSWER-BYTES, INPUT-BYTES, SETUP-BYTES}
+use Rattle.image.specs.Layout.{IMAGE-BYTES, ANSWER-BYTES, INPUT-BYTES, SETUP-BYTES}
 use Rattle.flight.specs.Entry.{Called, setUpCall, tickCall}
 
 -- Any program, by what its two calls leave: set-up of an image and an input, a tick of an image, an input and an answer.

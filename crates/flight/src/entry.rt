@@ -1,22 +1,22 @@
 // Set-up and tick on lent bytes. Nothing is asked of the caller; a refused call changes no byte of any buffer.
-use super::calls::input_at;
-use super::calls::put_answer;
-use super::calls::setup_at;
-use super::image::put_state;
-use super::image::state_at;
-use super::layout::ANSWER_BYTES;
-use super::layout::COUNT;
-use super::layout::ENGAGED;
-use super::layout::IMAGE_BYTES;
-use super::layout::IMAGE_WORDS;
-use super::layout::INPUT_BYTES;
-use super::layout::SETUP_BYTES;
+use image::ANSWER_BYTES;
+use image::COUNT;
+use image::ENGAGED;
+use image::IMAGE_BYTES;
+use image::IMAGE_WORDS;
+use image::INPUT_BYTES;
+use image::SETUP_BYTES;
+use image::input_at;
+use image::put_answer;
+use image::put_state;
+use image::setup_at;
+use image::state_at;
 use joint::State;
 use words::word_at;
 ghost use mathlib.Core.Path.{_≡_};
 ghost use mathlib.Core.List.{[]};
 ghost use lib.ListN.{length};
-ghost use Rattle.flight.specs.Layout.{IMAGE-BYTES};
+ghost use Rattle.image.specs.Layout.{IMAGE-BYTES};
 ghost use Rattle.flight.specs.Entry.{number, intactWith, tickRefusal, called, setUpCall, tickCall};
 
 // How a call ends: each has a number in document 01's table.

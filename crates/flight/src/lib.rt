@@ -1,23 +1,8 @@
 // The joint tick on lent bytes (added by document 01).
-mod calls; // calls.rt: what set-up and a tick are given, and what a tick answers
 mod entry; // entry.rt: set-up and tick on lent bytes, and what they refuse
-mod image; // image.rt: the state image
-mod layout; // layout.rt: where each number stands
-mod parts; // parts.rt: the parts of the images and inputs
 
-pub use calls::input_at;
-pub use calls::put_answer;
-pub use calls::setup_at;
 pub use entry::Outcome;
 pub use entry::number;
 pub use entry::setup;
 pub use entry::tick;
 pub use entry::tick_refusal;
-pub use image::put_state;
-pub use image::state_at;
-pub use layout::ANSWER_BYTES;
-pub use layout::IMAGE_BYTES;
-pub use layout::INPUT_BYTES;
-pub use layout::LEG_WORDS;
-pub use layout::SETUP_BYTES;
-pub use parts::leg_at;

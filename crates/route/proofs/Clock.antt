@@ -12,12 +12,12 @@ use Rattle.joint.specs.Tick.{ticked, guidance}
 use Rattle.joint.specs.Runs as run
 use Rattle.joint.proofs.Kept.{good-runs}
 use Rattle.joint.proofs.Clock.{time-never-back}
-use Rattle.flight.specs.Layout.{GOVERNOR}
-use Rattle.flight.specs.Parts.{governorAt}
-use Rattle.flight.specs.Image.{stateAt}
-use Rattle.flight.specs.Calls.{inputAt}
+use Rattle.image.specs.Layout.{GOVERNOR}
+use Rattle.image.specs.Parts.{governorAt}
+use Rattle.image.specs.Image.{stateAt}
+use Rattle.image.specs.Calls.{inputAt}
 use Rattle.flight.specs.Runs.{Accepted}
-use Rattle.flight.proofs.Decoded.{time-written, state-fits}
+use Rattle.image.proofs.Decoded.{time-written, state-fits}
 use Rattle.flight.proofs.Going.{ticked-fits, good-image}
 use Rattle.flight.proofs.Shown.{leaves, answers}
 use Rattle.flight.proofs.Kept.{image-runs}

@@ -24,8 +24,8 @@ use Rattle.relay_traj.proofs.Leg.{mended-lasts}
 use Rattle.joint.specs.SetUp.{segmentOf}
 use Rattle.joint.specs.Tick.{sampleTime}
 use Rattle.joint.proofs.Calls.{finite-time-as-it-is}
-use Rattle.flight.specs.Layout.{LEG-WORDS}
-use Rattle.flight.specs.Parts.{legAt}
+use Rattle.image.specs.Layout.{LEG-WORDS}
+use Rattle.image.specs.Parts.{legAt}
 use Rattle.route.specs.declared.legs.Flown.{Flown}
 use Rattle.route.specs.Form.{legOf}
 use Rattle.route.specs.Legs.{durationOf, flownFrom, flown, endOf, FirstAbove, PastAll}

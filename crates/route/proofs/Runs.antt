@@ -16,9 +16,9 @@ use Rattle.joint.specs.Runs.{Leads}
 use Rattle.joint.specs.Runs as run
 use Rattle.joint.proofs.Runs.{Lawful, stays}
 use Rattle.flight.specs.declared.entry.Outcome.the-variants as tick
-use Rattle.flight.specs.Layout.{ENTER, EXIT}
-use Rattle.flight.specs.Image.{stateAt, wordsOfState}
-use Rattle.flight.specs.Calls.{inputAt}
+use Rattle.image.specs.Layout.{ENTER, EXIT}
+use Rattle.image.specs.Image.{stateAt, wordsOfState}
+use Rattle.image.specs.Calls.{inputAt}
 use Rattle.flight.specs.Entry.{tickRefusal, tickCall}
 use Rattle.flight.specs.Entry.{called as tick-called}
 use Rattle.flight.specs.Runs.{Accepted, start, Given, Right, guided}

@@ -13,11 +13,11 @@ use Rattle.joint.specs.declared.state.TickInput.{TickInput}
 use Rattle.joint.specs.declared.stages.Ticked.{Ticked}
 use Rattle.joint.specs.Tick.{prepare, toward, ticked}
 use Rattle.joint.proofs.Once.{tick-toward}
-use Rattle.flight.specs.Image.{stateAt, imageOf}
-use Rattle.flight.specs.Calls.{inputAt, answerOf}
+use Rattle.image.specs.Image.{stateAt, imageOf}
+use Rattle.image.specs.Calls.{inputAt, answerOf}
 use Rattle.flight.specs.declared.entry.Outcome.the-variants as tick
 use Rattle.flight.specs.declared.entry.Outcome as of-tick
-use Rattle.flight.specs.Layout.{IMAGE-BYTES, INPUT-BYTES, ANSWER-BYTES}
+use Rattle.image.specs.Layout.{IMAGE-BYTES, INPUT-BYTES, ANSWER-BYTES}
 use Rattle.flight.specs.Entry.{intact, tickRefusal}
 use Rattle.route.specs.declared.outcome.Outcome.{Outcome}
 use Rattle.route.specs.declared.outcome.Outcome.the-variants.{Done, LegCount, RouteLength, LegsApart}

@@ -6,8 +6,8 @@ use lib.Ieee.{Float}
 use lib.ListN.{length}
 use Rattle.joint.specs.declared.stages.Reference.{Reference}
 use Rattle.joint.specs.Tick.{ticked}
-use Rattle.flight.specs.Image.{stateAt, imageOf}
-use Rattle.flight.specs.Calls.{inputAt, answerOf}
+use Rattle.image.specs.Image.{stateAt, imageOf}
+use Rattle.image.specs.Calls.{inputAt, answerOf}
 use Rattle.flight.specs.Entry.{tickRefusal}
 use Rattle.route.specs.declared.outcome.Outcome.{Outcome}
 use Rattle.route.specs.declared.outcome.Outcome.the-variants.{Done}

@@ -9,8 +9,8 @@ use lib.ListN.{length}
 use Rattle.words.specs.Words.{fourBytes}
 use Rattle.relay_math.specs.declared.Vec3.{Vec3}
 use Rattle.joint.specs.declared.state.Leg.{Leg}
-use Rattle.flight.specs.Layout.{LEG-WORDS}
-use Rattle.flight.specs.Parts.{legAt}
+use Rattle.image.specs.Layout.{LEG-WORDS}
+use Rattle.image.specs.Parts.{legAt}
 use Rattle.route.specs.declared.outcome.Outcome.{Outcome}
 use Rattle.route.specs.declared.outcome.Outcome.the-variants.{Done, LegCount, RouteLength, LegsApart}
 

@@ -7,8 +7,8 @@ use lib.ListN.{length}
 use Rattle.joint.specs.declared.stages.Guided.{Guided}
 use Rattle.joint.specs.Tick.{guidance}
 use Rattle.joint.specs.Runs as run
-use Rattle.flight.specs.Image.{stateAt}
-use Rattle.flight.specs.Calls.{inputAt}
+use Rattle.image.specs.Image.{stateAt}
+use Rattle.image.specs.Calls.{inputAt}
 use Rattle.flight.specs.Runs.{Given}
 use Rattle.flight.specs.Runs as flight
 use Rattle.route.specs.Outcomes.{isDone}

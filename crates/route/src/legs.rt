@@ -1,6 +1,6 @@
 // The leg flown, over any count.
-use flight::LEG_WORDS;
-use flight::leg_at;
+use image::LEG_WORDS;
+use image::leg_at;
 use joint::Reference;
 use joint::reference_at;
 use joint::segment_of;

@@ -1,0 +1,167 @@
+-- The state image holds the state: what is written is read again, and what is read is written again in canonical words. Assumes nothing.
+use mathlib.Core.Path.{_≡_, refl, sym, ap, _∙_}
+use mathlib.Core.List.{List, _∷_, _++_}
+use Prim.Native.Nat.{ℕ, _+_, _-_}
+use native.Mathlib.Nat.{add-assoc}
+use lib.Dec.{eqb, lit<}
+use lib.ListN.{length, getD, take, drop}
+use lib.Ieee.{Float}
+use Rattle.words.specs.Words.{word, float, vec, bits, flag, wordsOf, bytesOf, Holds, canons}
+use Rattle.words.proofs.Back.{word-back, bits-back, float-back, floats-back, first-back, float-fits, flag-back, flag-lt}
+use Rattle.words.proofs.Written.{length-bytesOf}
+use Rattle.relay_geo.specs.declared.controller.GeoGains.{GeoGains}
+use Rattle.relay_geo.specs.declared.set.RecoverableSet.{RecoverableSet}
+use Rattle.relay_geo.specs.declared.shield.SimplexShield.{SimplexShield}
+use Rattle.relay_traj.specs.declared.governor.RefGovernor.{RefGovernor}
+use Rattle.relay_traj.specs.declared.quintic.Quintic.{Quintic}
+use Rattle.relay_adrc.specs.declared.axis.AdrcAxis.{AdrcAxis}
+use Rattle.relay_adrc.specs.declared.biquad.Biquad.{Biquad}
+use Rattle.joint.specs.declared.state.State.{State}
+use Rattle.image.specs.Layout.{QUINTIC-WORDS, AXIS-WORDS, BIQUAD-WORDS, COUNT, GAINS, SET, ENTER, EXIT, ENGAGED, GOVERNOR, SEGMENT, RATE, LPF, IMAGE-WORDS, IMAGE-BYTES}
+use Rattle.image.specs.Parts.{gainsAt, setAt, governorAt, quinticAt, segmentAt, adrcGainsAt, axisAt, rateAt, biquadAt, lpfAt, floatsOfGains, floatsOfSet, floatsOfGovernor, floatsOfQuintic, floatsOfAxis, floatsOfBiquad}
+use Rattle.image.specs.Image.{shieldAt, stateAt, wordsOfState, imageOf, canonicalImage}
+use Rattle.image.specs.Fits.{F32, FitsGains, FitsSet, FitsShield, FitsGovernor, FitsQuintic, FitsSegment, FitsAxis, FitsRate, FitsBiquad, FitsLpf, Fits}
+
+-- ---- each part, at any place: words that hold it are read as it
+
+module _ {b ws : List ℕ} (e : Holds b ws) (k : ℕ) where
+  gains-back : (g : GeoGains) → take 9 (drop k ws) ≡ wordsOf (floatsOfGains g) → FitsGains g → gainsAt b k ≡ g
+  unfolding gainsAt vec
+  gains-back g held f =
+      let at = floats-back e k (floatsOfGains g) held f in
+      simp (add-assoc, first-back e k (floatsOfGains g) held f tt, at 1 tt, at 2 tt, at 3 tt, at 4 tt, at 5 tt, at 6 tt, at 7 tt, at 8 tt)
+
+  set-back : (s : RecoverableSet) → take 3 (drop k ws) ≡ wordsOf (floatsOfSet s) → FitsSet s → setAt b k ≡ s
+  unfolding setAt
+  set-back s held f =
+      let at = floats-back e k (floatsOfSet s) held f in
+      simp (first-back e k (floatsOfSet s) held f tt, at 1 tt, at 2 tt)
+
+  governor-back : (g : RefGovernor) → take 4 (drop k ws) ≡ wordsOf (floatsOfGovernor g) → FitsGovernor g → governorAt b k ≡ g
+  unfolding governorAt
+  governor-back g held f =
+      let at = floats-back e k (floatsOfGovernor g) held f in
+      simp (first-back e k (floatsOfGovernor g) held f tt, at 1 tt, at 2 tt, at 3 tt)
+
+  quintic-back : (q : Quintic) → take 7 (drop k ws) ≡ wordsOf (floatsOfQuintic q) → FitsQuintic q → quinticAt b k ≡ q
+  unfolding quinticAt
+  quintic-back q held f =
+      let at = floats-back e k (floatsOfQuintic q) held f in
+      simp (first-back e k (floatsOfQuintic q) held f tt, at 1 tt, at 2 tt, at 3 tt, at 4 tt, at 5 tt, at 6 tt)
+
+  axis-back : (a : AdrcAxis) → take 9 (drop k ws) ≡ wordsOf (floatsOfAxis a) → FitsAxis a → axisAt b k ≡ a
+  unfolding axisAt adrcGainsAt
+  axis-back a held f =
+      let at = floats-back e k (floatsOfAxis a) held f in
+      simp (add-assoc, first-back e k (floatsOfAxis a) held f tt, at 1 tt, at 2 tt, at 3 tt, at 4 tt, at 5 tt, at 6 tt, at 7 tt, at 8 tt)
+
+  biquad-back : (q : Biquad) → take 9 (drop k ws) ≡ wordsOf (floatsOfBiquad q) → FitsBiquad q → biquadAt b k ≡ q
+  unfolding biquadAt
+  biquad-back q held f =
+      let at = floats-back e k (floatsOfBiquad q) held f in
+      simp (first-back e k (floatsOfBiquad q) held f tt, at 1 tt, at 2 tt, at 3 tt, at 4 tt, at 5 tt, at 6 tt, at 7 tt, at 8 tt)
+
+-- ---- the image of a state, word by word
+
+image-is : (s : State) → Holds (imageOf s) (wordsOfState s)
+unfolding imageOf
+image-is s = record { is = refl }
+
+pub image-length : (s : State) → length (imageOf s) ≡ IMAGE-BYTES
+image-length s = ap length (image-is s .is) ∙ length-bytesOf (wordsOfState s)
+
+pub count-written : (s : State) → word (imageOf s) COUNT ≡ IMAGE-WORDS
+count-written s = word-back (image-is s) COUNT refl (lit< tt)
+
+pub engaged-written : (s : State) → word (imageOf s) ENGAGED ≡ flag (s .shield .engaged)
+engaged-written s = word-back (image-is s) ENGAGED refl (flag-lt (s .shield .engaged))
+
+-- the float at a place of the image is the one that the state's words have there
+pub float-written : (s : State) (k : ℕ) (x : Float) → getD (wordsOfState s) k 0 ≡ bits x → F32 x → float (imageOf s) k ≡ x
+float-written s k x held f = float-back (image-is s) k x held f
+
+-- and its word is that float's
+pub bits-written : (s : State) (k : ℕ) (x : Float) → getD (wordsOfState s) k 0 ≡ bits x → F32 x → word (imageOf s) k ≡ bits x
+bits-written s k x held f = bits-back (image-is s) k x held f
+
+pub enter-written : (s : State) → F32 (s .shield .enter) → float (imageOf s) ENTER ≡ s .shield .enter
+enter-written s f = float-written s ENTER (s .shield .enter) refl f
+
+pub exit-written : (s : State) → F32 (s .shield .exit) → float (imageOf s) EXIT ≡ s .shield .exit
+exit-written s f = float-written s EXIT (s .shield .exit) refl f
+
+pub time-written : (s : State) → F32 (s .governor .s) → float (imageOf s) GOVERNOR ≡ s .governor .s
+time-written s f = float-written s GOVERNOR (s .governor .s) refl f
+
+-- ---- read again
+
+pub segment-written : (s : State) → FitsSegment (s .segment) → segmentAt (imageOf s) SEGMENT ≡ s .segment
+unfolding segmentAt
+segment-written s f =
+    let at = quintic-back (image-is s) in
+    simp (at SEGMENT (s .segment .0) refl (f .0), at (SEGMENT + QUINTIC-WORDS) (s .segment .1) refl (f .1), at (SEGMENT + QUINTIC-WORDS + QUINTIC-WORDS) (s .segment .2) refl (f .2))
+
+pub rate-written : (s : State) → FitsRate (s .rate) → rateAt (imageOf s) RATE ≡ s .rate
+unfolding rateAt
+rate-written s f =
+    let at = axis-back (image-is s) in
+    simp (at RATE (s .rate .roll) refl (f .0), at (RATE + AXIS-WORDS) (s .rate .pitch) refl (f .1), at (RATE + AXIS-WORDS + AXIS-WORDS) (s .rate .yaw) refl (f .2))
+
+pub lpf-written : (s : State) → FitsLpf (s .lpf) → lpfAt (imageOf s) LPF ≡ s .lpf
+unfolding lpfAt
+lpf-written s f =
+    let at = biquad-back (image-is s) in
+    simp (at LPF (s .lpf .roll) refl (f .0), at (LPF + BIQUAD-WORDS) (s .lpf .pitch) refl (f .1), at (LPF + BIQUAD-WORDS + BIQUAD-WORDS) (s .lpf .yaw) refl (f .2))
+
+pub shield-written : (s : State) → FitsShield (s .shield) → shieldAt (imageOf s) ≡ s .shield
+unfolding shieldAt
+shield-written s f =
+    simp (
+      set-back (image-is s) SET (s .shield .set) refl (f .0),
+      engaged-written s,
+      flag-back (s .shield .engaged),
+      enter-written s (f .1),
+      exit-written s (f .2),
+    )
+
+-- what is written is read again
+pub decode-encode : (s : State) → Fits s → stateAt (imageOf s) ≡ s
+unfolding stateAt
+decode-encode s f =
+    simp (
+      gains-back (image-is s) GAINS (s .gains) refl (f .gains),
+      shield-written s (f .shield),
+      governor-back (image-is s) GOVERNOR (s .governor) refl (f .governor),
+      segment-written s (f .segment),
+      rate-written s (f .rate),
+      lpf-written s (f .lpf),
+    )
+
+-- ---- written again
+
+same-words : (b : List ℕ) → wordsOfState (stateAt b) ≡ IMAGE-WORDS ∷ canons b GAINS (ENGAGED - GAINS) ++ flag (eqb (word b ENGAGED) 1) ∷ canons b GOVERNOR (IMAGE-WORDS - GOVERNOR)
+unfolding stateAt shieldAt gainsAt vec setAt governorAt segmentAt quinticAt rateAt axisAt adrcGainsAt lpfAt biquadAt float
+same-words b = refl
+
+-- what is read is written again, but for the count, the flag and the NaNs
+pub encode-decode : (b : List ℕ) → imageOf (stateAt b) ≡ canonicalImage b
+unfolding canonicalImage
+encode-decode b = image-is (stateAt b) .is ∙ ap bytesOf (same-words b)
+
+-- ---- what is read fits
+
+pub state-fits : (b : List ℕ) → Fits (stateAt b)
+unfolding stateAt shieldAt gainsAt vec setAt governorAt segmentAt quinticAt rateAt axisAt adrcGainsAt lpfAt biquadAt
+state-fits b =
+    record {
+      gains = search float-fits;
+      shield = search float-fits;
+      governor = search float-fits;
+      segment = search float-fits;
+      rate = search float-fits;
+      lpf = search float-fits;
+    }
+
+-- an image that was read and written is read as the same state
+pub read-written : (b : List ℕ) → stateAt (canonicalImage b) ≡ stateAt b
+read-written b = ap stateAt (sym (encode-decode b)) ∙ decode-encode (stateAt b) (state-fits b)

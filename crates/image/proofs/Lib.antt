@@ -1,0 +1,5 @@
+pub mod Decoded
+pub mod Answered
+pub mod Fitting
+pub mod AnswerFits
+pub mod OneAnswer

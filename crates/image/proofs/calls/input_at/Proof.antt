@@ -1,0 +1,18 @@
+use borrow.Author.Needs.{needs}
+use Rattle.image.specs.Calls.{inputAt}
+use Rattle.image.proofs.calls.input_at.Statement.{statement}
+use Rattle.image.proofs.calls.input_at.Tie as tie
+
+pub input-at-spec : {M : Type 1} → statement M
+unfolding inputAt
+input-at-spec =
+    tie.close (tie.spec
+    (λ c κs. search needs)
+    (λ c κs. search needs)
+    (λ c κs. search needs)
+    (λ c κs. search needs)
+    (λ c κs. search needs)
+    (λ c κs. search needs)
+    (λ c κs. search needs)
+    (λ c κs. search needs)
+    (λ c. cc))

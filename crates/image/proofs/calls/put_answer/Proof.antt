@@ -1,0 +1,21 @@
+use borrow.Author.Needs.{needs}
+use mathlib.Core.Path.{refl}
+use Rattle.words.proofs.Written.{then, whole}
+use Rattle.image.specs.Calls.{answerOf}
+use Rattle.image.proofs.calls.put_answer.Statement.{statement}
+use Rattle.image.proofs.calls.put_answer.Tie as tie
+
+pub put-answer-spec : {M : Type 1} → statement M
+unfolding answerOf
+put-answer-spec =
+    tie.close (tie.spec
+    (λ c κs. search needs)
+    (λ c κs. search needs)
+    (λ c κs. search needs)
+    (λ c κs. search needs)
+    (λ c. search needs)
+    (λ c. whole (then (then (then (c .before .before .before .before .before .before .before .before .before .before .before .before .before .before .put-vec .ensures)
+    (c .before .before .before .before .before .before .before .before .before .before .put-vec2 .ensures) refl)
+    (c .before .before .before .before .before .before .put-flag .ensures) refl)
+    (c .before .before .put-three .ensures) refl)
+    (c .before .before .before .before .before .before .before .before .before .before .before .before .before .before .before .before .before .pre)))

@@ -1,0 +1,28 @@
+use borrow.Author.Needs.{needs}
+use mathlib.Core.Path.{refl}
+use Rattle.words.proofs.Written.{then, whole}
+use Rattle.image.specs.Image.{imageOf}
+use Rattle.image.proofs.image.put_state.Statement.{statement}
+use Rattle.image.proofs.image.put_state.Tie as tie
+
+pub put-state-spec : {M : Type 1} → statement M
+unfolding imageOf
+put-state-spec =
+    tie.close (tie.spec
+    (λ c. search needs)
+    (λ c κs. search needs)
+    (λ c κs. search needs)
+    (λ c κs. search needs)
+    (λ c κs. search needs)
+    (λ c κs. search needs)
+    (λ c κs. search needs)
+    (λ c κs. search needs)
+    (λ c. search needs)
+    (λ c. whole (then (then (then (then (then (then (c .before .before .before .before .before .before .before .before .before .before .before .before .before .before .before .before .before .before .before .before .before .before .before .before .before .before .put-word .ensures)
+    (c .before .before .before .before .before .before .before .before .before .before .before .before .before .before .before .before .before .before .before .before .before .before .put-gains .ensures) refl)
+    (c .before .before .before .before .before .before .before .before .before .before .before .before .before .before .before .before .before .before .put-shield .ensures) refl)
+    (c .before .before .before .before .before .before .before .before .before .before .before .before .before .before .put-governor .ensures) refl)
+    (c .before .before .before .before .before .before .before .before .before .before .put-segment .ensures) refl)
+    (c .before .before .before .before .before .before .put-rate .ensures) refl)
+    (c .before .before .put-lpf .ensures) refl)
+    (c .before .before .before .before .before .before .before .before .before .before .before .before .before .before .before .before .before .before .before .before .before .before .before .before .before .before .before .before .before .pre)))

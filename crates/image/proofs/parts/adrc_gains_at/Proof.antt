@@ -1,0 +1,17 @@
+use borrow.Author.Needs.{needs}
+use Rattle.image.specs.Parts.{adrcGainsAt}
+use Rattle.image.proofs.parts.adrc_gains_at.Statement.{statement}
+use Rattle.image.proofs.parts.adrc_gains_at.Tie as tie
+
+pub adrc-gains-at-spec : {M : Type 1} → statement M
+unfolding adrcGainsAt
+adrc-gains-at-spec =
+    tie.close (tie.spec
+    (λ c κs. search needs)
+    (λ c. search needs)
+    (λ c κs. search needs)
+    (λ c. search needs)
+    (λ c κs. search needs)
+    (λ c. search needs)
+    (λ c κs. search needs)
+    (λ c. cc))

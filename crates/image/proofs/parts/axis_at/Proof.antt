@@ -1,0 +1,21 @@
+use borrow.Author.Needs.{needs}
+use Rattle.image.specs.Parts.{axisAt}
+use Rattle.image.proofs.parts.axis_at.Statement.{statement}
+use Rattle.image.proofs.parts.axis_at.Tie as tie
+
+pub axis-at-spec : {M : Type 1} → statement M
+unfolding axisAt
+axis-at-spec =
+    tie.close (tie.spec
+    (λ c κs. search needs)
+    (λ c. search needs)
+    (λ c κs. search needs)
+    (λ c. search needs)
+    (λ c κs. search needs)
+    (λ c. search needs)
+    (λ c κs. search needs)
+    (λ c. search needs)
+    (λ c κs. search needs)
+    (λ c. search needs)
+    (λ c κs. search needs)
+    (λ c. cc))

@@ -1,0 +1,16 @@
+use borrow.Author.Needs.{needs}
+use Rattle.image.specs.Parts.{gainsAt}
+use Rattle.image.proofs.parts.gains_at.Statement.{statement}
+use Rattle.image.proofs.parts.gains_at.Tie as tie
+
+pub gains-at-spec : {M : Type 1} → statement M
+unfolding gainsAt
+gains-at-spec =
+    tie.close (tie.spec
+    (λ c κs. search needs)
+    (λ c. search needs)
+    (λ c κs. search needs)
+    (λ c. search needs)
+    (λ c. search needs)
+    (λ c κs. search needs)
+    (λ c. cc))

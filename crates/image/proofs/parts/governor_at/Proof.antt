@@ -1,0 +1,17 @@
+use borrow.Author.Needs.{needs}
+use Rattle.image.specs.Parts.{governorAt}
+use Rattle.image.proofs.parts.governor_at.Statement.{statement}
+use Rattle.image.proofs.parts.governor_at.Tie as tie
+
+pub governor-at-spec : {M : Type 1} → statement M
+unfolding governorAt
+governor-at-spec =
+    tie.close (tie.spec
+    (λ c κs. search needs)
+    (λ c. search needs)
+    (λ c κs. search needs)
+    (λ c. search needs)
+    (λ c κs. search needs)
+    (λ c. search needs)
+    (λ c κs. search needs)
+    (λ c. cc))

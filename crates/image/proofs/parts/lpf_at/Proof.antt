@@ -1,0 +1,16 @@
+use borrow.Author.Needs.{needs}
+use Rattle.image.specs.Parts.{lpfAt}
+use Rattle.image.proofs.parts.lpf_at.Statement.{statement}
+use Rattle.image.proofs.parts.lpf_at.Tie as tie
+
+pub lpf-at-spec : {M : Type 1} → statement M
+unfolding lpfAt
+lpf-at-spec =
+    tie.close (tie.spec
+    (λ c κs. search needs)
+    (λ c. search needs)
+    (λ c κs. search needs)
+    (λ c. search needs)
+    (λ c. search needs)
+    (λ c κs. search needs)
+    (λ c. cc))

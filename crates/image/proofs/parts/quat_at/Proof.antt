@@ -1,0 +1,17 @@
+use borrow.Author.Needs.{needs}
+use Rattle.image.specs.Parts.{quatAt}
+use Rattle.image.proofs.parts.quat_at.Statement.{statement}
+use Rattle.image.proofs.parts.quat_at.Tie as tie
+
+pub quat-at-spec : {M : Type 1} → statement M
+unfolding quatAt
+quat-at-spec =
+    tie.close (tie.spec
+    (λ c κs. search needs)
+    (λ c. search needs)
+    (λ c κs. search needs)
+    (λ c. search needs)
+    (λ c κs. search needs)
+    (λ c. search needs)
+    (λ c κs. search needs)
+    (λ c. cc))

@@ -1,0 +1,16 @@
+use borrow.Author.Needs.{needs}
+use Rattle.image.specs.Parts.{rateAt}
+use Rattle.image.proofs.parts.rate_at.Statement.{statement}
+use Rattle.image.proofs.parts.rate_at.Tie as tie
+
+pub rate-at-spec : {M : Type 1} → statement M
+unfolding rateAt
+rate-at-spec =
+    tie.close (tie.spec
+    (λ c κs. search needs)
+    (λ c. search needs)
+    (λ c κs. search needs)
+    (λ c. search needs)
+    (λ c. search needs)
+    (λ c κs. search needs)
+    (λ c. cc))

@@ -1,0 +1,16 @@
+use borrow.Author.Needs.{needs}
+use Rattle.image.specs.Parts.{segmentAt}
+use Rattle.image.proofs.parts.segment_at.Statement.{statement}
+use Rattle.image.proofs.parts.segment_at.Tie as tie
+
+pub segment-at-spec : {M : Type 1} → statement M
+unfolding segmentAt
+segment-at-spec =
+    tie.close (tie.spec
+    (λ c κs. search needs)
+    (λ c. search needs)
+    (λ c κs. search needs)
+    (λ c. search needs)
+    (λ c. search needs)
+    (λ c κs. search needs)
+    (λ c. cc))

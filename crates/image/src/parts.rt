@@ -1,0 +1,267 @@
+// The parts of the images and inputs, each from word k on. What stands on three axes is read and written by one function, three times.
+use super::layout::AXIS_WORDS;
+use super::layout::BIQUAD_WORDS;
+use super::layout::QUINTIC_WORDS;
+use super::layout::VEC_WORDS;
+use joint::Leg;
+use relay_adrc::AdrcAxis;
+use relay_adrc::AdrcGains;
+use relay_adrc::AdrcRate;
+use relay_adrc::Biquad;
+use relay_adrc::GyroLpf;
+use relay_geo::GeoGains;
+use relay_geo::Quat;
+use relay_geo::RecoverableSet;
+use relay_traj::Quintic;
+use relay_traj::RefGovernor;
+use relay_traj::Segment3;
+use words::float_at;
+use words::put_float;
+use words::put_three;
+use words::put_vec;
+use words::vec_at;
+ghost use mathlib.Core.Path.{_≡_};
+ghost use Prim.Native.Nat.{_+_, _*_, _≤_};
+ghost use lib.ListN.{length};
+ghost use Rattle.words.specs.Words.{wordsOf, Put};
+ghost use Rattle.image.specs.Parts.{quatAt, gainsAt, setAt, governorAt, quinticAt, segmentAt, adrcGainsAt, axisAt, rateAt, biquadAt, lpfAt, legAt, floatsOfGains, floatsOfSet, floatsOfGovernor, floatsOfQuintic, floatsOfSegment, floatsOfAdrcGains, floatsOfAxis, floatsOfRate, floatsOfBiquad, floatsOfLpf};
+
+pub fn quat_at(bytes: &[u8], k: usize) -> Quat
+    requires { ⌜ 4 * k + 16 ≤ length (now bytes) ⌝ }
+    ensures { λ r. ⌜ r ≡ quatAt (now (bytes .entry)) k ⌝ }
+{
+    Quat(
+        float_at(bytes, k),
+        float_at(bytes, k + 1),
+        float_at(bytes, k + 2),
+        float_at(bytes, k + 3),
+    )
+}
+
+pub fn gains_at(bytes: &[u8], k: usize) -> GeoGains
+    requires { ⌜ 4 * k + 36 ≤ length (now bytes) ⌝ }
+    ensures { λ r. ⌜ r ≡ gainsAt (now (bytes .entry)) k ⌝ }
+{
+    GeoGains {
+        k_r: vec_at(bytes, k),
+        k_omega: vec_at(bytes, k + VEC_WORDS),
+        j: vec_at(bytes, k + VEC_WORDS + VEC_WORDS),
+    }
+}
+
+pub fn set_at(bytes: &[u8], k: usize) -> RecoverableSet
+    requires { ⌜ 4 * k + 12 ≤ length (now bytes) ⌝ }
+    ensures { λ r. ⌜ r ≡ setAt (now (bytes .entry)) k ⌝ }
+{
+    RecoverableSet {
+        k_r: float_at(bytes, k),
+        lambda_j: float_at(bytes, k + 1),
+        psi_max: float_at(bytes, k + 2),
+    }
+}
+
+pub fn governor_at(bytes: &[u8], k: usize) -> RefGovernor
+    requires { ⌜ 4 * k + 16 ≤ length (now bytes) ⌝ }
+    ensures { λ r. ⌜ r ≡ governorAt (now (bytes .entry)) k ⌝ }
+{
+    RefGovernor {
+        s: float_at(bytes, k),
+        err_lo: float_at(bytes, k + 1),
+        err_hi: float_at(bytes, k + 2),
+        g_min: float_at(bytes, k + 3),
+    }
+}
+
+pub fn quintic_at(bytes: &[u8], k: usize) -> Quintic
+    requires { ⌜ 4 * k + 28 ≤ length (now bytes) ⌝ }
+    ensures { λ r. ⌜ r ≡ quinticAt (now (bytes .entry)) k ⌝ }
+{
+    Quintic {
+        c5: float_at(bytes, k),
+        c4: float_at(bytes, k + 1),
+        c3: float_at(bytes, k + 2),
+        c2: float_at(bytes, k + 3),
+        c1: float_at(bytes, k + 4),
+        c0: float_at(bytes, k + 5),
+        t_end: float_at(bytes, k + 6),
+    }
+}
+
+pub fn segment_at(bytes: &[u8], k: usize) -> Segment3
+    requires { ⌜ 4 * k + 84 ≤ length (now bytes) ⌝ }
+    ensures { λ r. ⌜ r ≡ segmentAt (now (bytes .entry)) k ⌝ }
+{
+    Segment3(
+        quintic_at(bytes, k),
+        quintic_at(bytes, k + QUINTIC_WORDS),
+        quintic_at(bytes, k + QUINTIC_WORDS + QUINTIC_WORDS),
+    )
+}
+
+pub fn adrc_gains_at(bytes: &[u8], k: usize) -> AdrcGains
+    requires { ⌜ 4 * k + 16 ≤ length (now bytes) ⌝ }
+    ensures { λ r. ⌜ r ≡ adrcGainsAt (now (bytes .entry)) k ⌝ }
+{
+    AdrcGains {
+        omega_o: float_at(bytes, k),
+        omega_c: float_at(bytes, k + 1),
+        b0: float_at(bytes, k + 2),
+        tau: float_at(bytes, k + 3),
+    }
+}
+
+pub fn axis_at(bytes: &[u8], k: usize) -> AdrcAxis
+    requires { ⌜ 4 * k + 36 ≤ length (now bytes) ⌝ }
+    ensures { λ r. ⌜ r ≡ axisAt (now (bytes .entry)) k ⌝ }
+{
+    AdrcAxis {
+        z1: float_at(bytes, k),
+        z2: float_at(bytes, k + 1),
+        u_prev: float_at(bytes, k + 2),
+        u_act: float_at(bytes, k + 3),
+        u_delivered_frac: float_at(bytes, k + 4),
+        g: adrc_gains_at(bytes, k + 5),
+    }
+}
+
+pub fn rate_at(bytes: &[u8], k: usize) -> AdrcRate
+    requires { ⌜ 4 * k + 108 ≤ length (now bytes) ⌝ }
+    ensures { λ r. ⌜ r ≡ rateAt (now (bytes .entry)) k ⌝ }
+{
+    AdrcRate {
+        roll: axis_at(bytes, k),
+        pitch: axis_at(bytes, k + AXIS_WORDS),
+        yaw: axis_at(bytes, k + AXIS_WORDS + AXIS_WORDS),
+    }
+}
+
+pub fn biquad_at(bytes: &[u8], k: usize) -> Biquad
+    requires { ⌜ 4 * k + 36 ≤ length (now bytes) ⌝ }
+    ensures { λ r. ⌜ r ≡ biquadAt (now (bytes .entry)) k ⌝ }
+{
+    Biquad {
+        b0: float_at(bytes, k),
+        b1: float_at(bytes, k + 1),
+        b2: float_at(bytes, k + 2),
+        a1: float_at(bytes, k + 3),
+        a2: float_at(bytes, k + 4),
+        x1: float_at(bytes, k + 5),
+        x2: float_at(bytes, k + 6),
+        y1: float_at(bytes, k + 7),
+        y2: float_at(bytes, k + 8),
+    }
+}
+
+pub fn lpf_at(bytes: &[u8], k: usize) -> GyroLpf
+    requires { ⌜ 4 * k + 108 ≤ length (now bytes) ⌝ }
+    ensures { λ r. ⌜ r ≡ lpfAt (now (bytes .entry)) k ⌝ }
+{
+    GyroLpf {
+        roll: biquad_at(bytes, k),
+        pitch: biquad_at(bytes, k + BIQUAD_WORDS),
+        yaw: biquad_at(bytes, k + BIQUAD_WORDS + BIQUAD_WORDS),
+    }
+}
+
+// A leg as it is given, before mending. Every reader of legs goes through this one.
+pub fn leg_at(bytes: &[u8], k: usize) -> Leg
+    requires { ⌜ 4 * k + 76 ≤ length (now bytes) ⌝ }
+    ensures { λ r. ⌜ r ≡ legAt (now (bytes .entry)) k ⌝ }
+{
+    Leg {
+        p0: vec_at(bytes, k),
+        v0: vec_at(bytes, k + 3),
+        a0: vec_at(bytes, k + 6),
+        pf: vec_at(bytes, k + 9),
+        vf: vec_at(bytes, k + 12),
+        af: vec_at(bytes, k + 15),
+        t: float_at(bytes, k + 18),
+    }
+}
+
+pub fn put_gains(bytes: &mut [u8], k: usize, g: GeoGains)
+    requires { ⌜ 4 * k + 36 ≤ length (now bytes) ⌝ }
+    ensures { λ _. ⌜ Put (now (bytes .entry)) k (wordsOf (floatsOfGains g)) (now (bytes .exit)) ⌝ }
+{
+    put_vec(bytes, k, g.k_r);
+    put_vec(bytes, k + VEC_WORDS, g.k_omega);
+    put_vec(bytes, k + VEC_WORDS + VEC_WORDS, g.j);
+}
+
+pub fn put_set(bytes: &mut [u8], k: usize, s: RecoverableSet)
+    requires { ⌜ 4 * k + 12 ≤ length (now bytes) ⌝ }
+    ensures { λ _. ⌜ Put (now (bytes .entry)) k (wordsOf (floatsOfSet s)) (now (bytes .exit)) ⌝ }
+{
+    put_three(bytes, k, s.k_r, s.lambda_j, s.psi_max);
+}
+
+pub fn put_governor(bytes: &mut [u8], k: usize, g: RefGovernor)
+    requires { ⌜ 4 * k + 16 ≤ length (now bytes) ⌝ }
+    ensures { λ _. ⌜ Put (now (bytes .entry)) k (wordsOf (floatsOfGovernor g)) (now (bytes .exit)) ⌝ }
+{
+    put_three(bytes, k, g.s, g.err_lo, g.err_hi);
+    put_float(bytes, k + 3, g.g_min);
+}
+
+pub fn put_quintic(bytes: &mut [u8], k: usize, q: Quintic)
+    requires { ⌜ 4 * k + 28 ≤ length (now bytes) ⌝ }
+    ensures { λ _. ⌜ Put (now (bytes .entry)) k (wordsOf (floatsOfQuintic q)) (now (bytes .exit)) ⌝ }
+{
+    put_three(bytes, k, q.c5, q.c4, q.c3);
+    put_three(bytes, k + 3, q.c2, q.c1, q.c0);
+    put_float(bytes, k + 6, q.t_end);
+}
+
+pub fn put_segment(bytes: &mut [u8], k: usize, s: Segment3)
+    requires { ⌜ 4 * k + 84 ≤ length (now bytes) ⌝ }
+    ensures { λ _. ⌜ Put (now (bytes .entry)) k (wordsOf (floatsOfSegment s)) (now (bytes .exit)) ⌝ }
+{
+    put_quintic(bytes, k, s.0);
+    put_quintic(bytes, k + QUINTIC_WORDS, s.1);
+    put_quintic(bytes, k + QUINTIC_WORDS + QUINTIC_WORDS, s.2);
+}
+
+pub fn put_adrc_gains(bytes: &mut [u8], k: usize, g: AdrcGains)
+    requires { ⌜ 4 * k + 16 ≤ length (now bytes) ⌝ }
+    ensures { λ _. ⌜ Put (now (bytes .entry)) k (wordsOf (floatsOfAdrcGains g)) (now (bytes .exit)) ⌝ }
+{
+    put_three(bytes, k, g.omega_o, g.omega_c, g.b0);
+    put_float(bytes, k + 3, g.tau);
+}
+
+pub fn put_axis(bytes: &mut [u8], k: usize, a: AdrcAxis)
+    requires { ⌜ 4 * k + 36 ≤ length (now bytes) ⌝ }
+    ensures { λ _. ⌜ Put (now (bytes .entry)) k (wordsOf (floatsOfAxis a)) (now (bytes .exit)) ⌝ }
+{
+    put_three(bytes, k, a.z1, a.z2, a.u_prev);
+    put_float(bytes, k + 3, a.u_act);
+    put_float(bytes, k + 4, a.u_delivered_frac);
+    put_adrc_gains(bytes, k + 5, a.g);
+}
+
+pub fn put_rate(bytes: &mut [u8], k: usize, r: AdrcRate)
+    requires { ⌜ 4 * k + 108 ≤ length (now bytes) ⌝ }
+    ensures { λ _. ⌜ Put (now (bytes .entry)) k (wordsOf (floatsOfRate r)) (now (bytes .exit)) ⌝ }
+{
+    put_axis(bytes, k, r.roll);
+    put_axis(bytes, k + AXIS_WORDS, r.pitch);
+    put_axis(bytes, k + AXIS_WORDS + AXIS_WORDS, r.yaw);
+}
+
+pub fn put_biquad(bytes: &mut [u8], k: usize, f: Biquad)
+    requires { ⌜ 4 * k + 36 ≤ length (now bytes) ⌝ }
+    ensures { λ _. ⌜ Put (now (bytes .entry)) k (wordsOf (floatsOfBiquad f)) (now (bytes .exit)) ⌝ }
+{
+    put_three(bytes, k, f.b0, f.b1, f.b2);
+    put_three(bytes, k + 3, f.a1, f.a2, f.x1);
+    put_three(bytes, k + 6, f.x2, f.y1, f.y2);
+}
+
+pub fn put_lpf(bytes: &mut [u8], k: usize, l: GyroLpf)
+    requires { ⌜ 4 * k + 108 ≤ length (now bytes) ⌝ }
+    ensures { λ _. ⌜ Put (now (bytes .entry)) k (wordsOf (floatsOfLpf l)) (now (bytes .exit)) ⌝ }
+{
+    put_biquad(bytes, k, l.roll);
+    put_biquad(bytes, k + BIQUAD_WORDS, l.pitch);
+    put_biquad(bytes, k + BIQUAD_WORDS + BIQUAD_WORDS, l.yaw);
+}

@@ -15,4 +15,13 @@ input-at-spec =
     (λ c κs. search needs)
     (λ c κs. search needs)
     (λ c κs. search needs)
-    (λ c. cc))
+    (λ c. simp (
+      c .vec-at3 .ensures,
+      c .before .vec-at2 .ensures,
+      c .before .before .float-at4 .ensures,
+      c .before .before .before .float-at3 .ensures,
+      c .before .before .before .before .float-at2 .ensures,
+      c .before .before .before .before .before .float-at .ensures,
+      c .before .before .before .before .before .before .quat-at .ensures,
+      c .before .before .before .before .before .before .before .vec-at .ensures,
+    )))

@@ -11,4 +11,4 @@ shield-at-spec =
     (λ c κs. search needs)
     (λ c κs. search needs)
     (λ c κs. search needs)
-    (λ c. cc))
+    (λ c. simp (c .float-at2 .ensures, c .before .float-at .ensures, c .before .before .word-at .ensures, c .before .before .before .set-at .ensures)))

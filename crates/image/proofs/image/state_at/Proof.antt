@@ -13,4 +13,11 @@ state-at-spec =
     (λ c κs. search needs)
     (λ c κs. search needs)
     (λ c κs. search needs)
-    (λ c. cc))
+    (λ c. simp (
+      c .lpf-at .ensures,
+      c .before .rate-at .ensures,
+      c .before .before .segment-at .ensures,
+      c .before .before .before .governor-at .ensures,
+      c .before .before .before .before .shield-at .ensures,
+      c .before .before .before .before .before .gains-at .ensures,
+    )))

@@ -14,4 +14,9 @@ adrc-gains-at-spec =
     (λ c κs. search needs)
     (λ c. search needs)
     (λ c κs. search needs)
-    (λ c. cc))
+    (λ c. simp (
+      c .float-at4 .ensures,
+      c .before .float-at3 .ensures,
+      c .before .before .float-at2 .ensures,
+      c .before .before .before .float-at .ensures,
+    )))

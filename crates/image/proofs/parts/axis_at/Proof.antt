@@ -18,4 +18,11 @@ axis-at-spec =
     (λ c κs. search needs)
     (λ c. search needs)
     (λ c κs. search needs)
-    (λ c. cc))
+    (λ c. simp (
+      c .adrc-gains-at .ensures,
+      c .before .float-at5 .ensures,
+      c .before .before .float-at4 .ensures,
+      c .before .before .before .float-at3 .ensures,
+      c .before .before .before .before .float-at2 .ensures,
+      c .before .before .before .before .before .float-at .ensures,
+    )))

@@ -24,4 +24,14 @@ biquad-at-spec =
     (λ c κs. search needs)
     (λ c. search needs)
     (λ c κs. search needs)
-    (λ c. cc))
+    (λ c. simp (
+      c .float-at9 .ensures,
+      c .before .float-at8 .ensures,
+      c .before .before .float-at7 .ensures,
+      c .before .before .before .float-at6 .ensures,
+      c .before .before .before .before .float-at5 .ensures,
+      c .before .before .before .before .before .float-at4 .ensures,
+      c .before .before .before .before .before .before .float-at3 .ensures,
+      c .before .before .before .before .before .before .before .float-at2 .ensures,
+      c .before .before .before .before .before .before .before .before .float-at .ensures,
+    )))

@@ -13,4 +13,4 @@ gains-at-spec =
     (λ c. search needs)
     (λ c. search needs)
     (λ c κs. search needs)
-    (λ c. cc))
+    (λ c. simp (c .vec-at3 .ensures, c .before .vec-at2 .ensures, c .before .before .vec-at .ensures)))

@@ -20,4 +20,12 @@ leg-at-spec =
     (λ c κs. search needs)
     (λ c. search needs)
     (λ c κs. search needs)
-    (λ c. cc))
+    (λ c. simp (
+      c .float-at .ensures,
+      c .before .vec-at6 .ensures,
+      c .before .before .vec-at5 .ensures,
+      c .before .before .before .vec-at4 .ensures,
+      c .before .before .before .before .vec-at3 .ensures,
+      c .before .before .before .before .before .vec-at2 .ensures,
+      c .before .before .before .before .before .before .vec-at .ensures,
+    )))

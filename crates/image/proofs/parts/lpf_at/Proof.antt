@@ -13,4 +13,4 @@ lpf-at-spec =
     (λ c. search needs)
     (λ c. search needs)
     (λ c κs. search needs)
-    (λ c. cc))
+    (λ c. simp (c .biquad-at3 .ensures, c .before .biquad-at2 .ensures, c .before .before .biquad-at .ensures)))

@@ -13,4 +13,4 @@ rate-at-spec =
     (λ c. search needs)
     (λ c. search needs)
     (λ c κs. search needs)
-    (λ c. cc))
+    (λ c. simp (c .axis-at3 .ensures, c .before .axis-at2 .ensures, c .before .before .axis-at .ensures)))

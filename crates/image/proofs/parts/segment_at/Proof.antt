@@ -13,4 +13,4 @@ segment-at-spec =
     (λ c. search needs)
     (λ c. search needs)
     (λ c κs. search needs)
-    (λ c. cc))
+    (λ c. simp (c .quintic-at3 .ensures, c .before .quintic-at2 .ensures, c .before .before .quintic-at .ensures)))

@@ -12,4 +12,4 @@ set-at-spec =
     (λ c κs. search needs)
     (λ c. search needs)
     (λ c κs. search needs)
-    (λ c. cc))
+    (λ c. simp (c .float-at3 .ensures, c .before .float-at2 .ensures, c .before .before .float-at .ensures)))

@@ -10,8 +10,8 @@ use lib.Ieee.{Float, nan}
 use lib.ListN.{length, getD, take}
 use Rattle.words.specs.Words.{float}
 use Rattle.relay_geo.specs.declared.shield.SimplexShield.{SimplexShield}
-use Rattle.relay_geo.specs.Latch.{Flies, FliesAt}
-use Rattle.relay_geo.proofs.LatchFlies.{flag-flies, flag-flies-at}
+use Rattle.latch.specs.Latch.{Flies, FliesAt}
+use Rattle.latch.proofs.LatchFlies.{flag-flies, flag-flies-at}
 use Rattle.relay_geo.proofs.SetUp.{starts-engaged}
 use Rattle.joint.specs.declared.state.State.{State}
 use Rattle.joint.specs.declared.stages.Reference.{Reference}

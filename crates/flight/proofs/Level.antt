@@ -12,7 +12,7 @@ use Rattle.relay_geo.specs.Vectors.{9·81, dot, normalize, identity3, prod3}
 use Rattle.relay_geo.specs.Attitude.{quatToRotmat, thrustForce, thrustAxisNed, thrustAttitude}
 use Rattle.relay_geo.specs.Controller.{psi}
 use Rattle.relay_geo.specs.Set.{newSet, margin}
-use Rattle.relay_geo.specs.Latch.{latch}
+use Rattle.latch.specs.Latch.{latch}
 use Rattle.relay_geo.specs.Shield.{mend, newShield}
 use Rattle.relay_geo.proofs.Figures.{level}
 use Rattle.relay_traj.specs.Quintic.{quintic, ofMended, eval, sampleAt, timeOn}

@@ -6,7 +6,7 @@ use Prim.Native.Nat.{ℕ}
 use lib.Ieee.{Float, lt}
 use Rattle.words.specs.Words.{word, flag}
 use Rattle.relay_geo.specs.declared.shield.SimplexShield.{SimplexShield}
-use Rattle.relay_geo.specs.Latch.{releases, engages, latch}
+use Rattle.latch.specs.Latch.{releases, engages, latch}
 use Rattle.relay_geo.proofs.Steps.{released-only-above-exit, above-exit-releases, engaged-by, released-stays-in-band, engaged-stays-in-band}
 use Rattle.joint.specs.Tick.{referenceAt, ticked}
 use Rattle.joint.specs.Runs as run

@@ -15,7 +15,7 @@ use Rattle.relay_geo.specs.declared.set.RecoverableSet.{RecoverableSet}
 use Rattle.relay_geo.specs.Vectors.{norm, sanitise3}
 use Rattle.relay_geo.specs.Attitude.{thrustForce, thrustAttitude, tooWeak, flatnessOmegaFf, feedforwardFrom}
 use Rattle.relay_geo.specs.Set.{minusInfinity}
-use Rattle.relay_geo.specs.Latch.{latch}
+use Rattle.latch.specs.Latch.{latch}
 use Rattle.relay_geo.proofs.Accepts.{feedforward-shares}
 use Rattle.relay_geo.proofs.NoAttitude.{bad-heading-none}
 use Rattle.joint.specs.declared.state.State.{State}

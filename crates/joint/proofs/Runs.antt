@@ -5,9 +5,9 @@ use mathlib.Core.Bool.{Bool, true, false}
 use mathlib.Core.List.{List, [], _∷_, _++_}
 use lib.Ieee.{Float, lt}
 use Rattle.relay_geo.specs.declared.shield.SimplexShield.{SimplexShield}
-use Rattle.relay_geo.specs.Latch.{latch, Flies}
-use Rattle.relay_geo.specs.Latch.{after as flag-after}
-use Rattle.relay_geo.proofs.LatchFlies.{latch-flies}
+use Rattle.latch.specs.Latch.{latch, Flies}
+use Rattle.latch.specs.Latch.{after as flag-after}
+use Rattle.latch.proofs.LatchFlies.{latch-flies}
 use Rattle.joint.specs.declared.state.State.{State}
 use Rattle.joint.specs.declared.state.TickInput.{TickInput}
 use Rattle.joint.specs.declared.stages.Reference.{Reference}

@@ -3,7 +3,7 @@ use mathlib.Core.Path.{_≡_, refl, _∙_}
 use mathlib.Core.Bool.{Bool, true, false, cond}
 use lib.Ieee.{Float}
 use Rattle.relay_geo.specs.Vectors.{sanitise3}
-use Rattle.relay_geo.specs.Latch.{latch}
+use Rattle.latch.specs.Latch.{latch}
 use Rattle.relay_geo.proofs.Finite.{sanitise3-finite, sanitise3-keeps}
 use Rattle.relay_geo.proofs.Steps.{step-latches, step-keeps, planner-passed-on, fallback-passed-on}
 use Rattle.joint.specs.declared.state.State.{State}

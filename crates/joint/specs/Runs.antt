@@ -3,7 +3,7 @@ use mathlib.Core.Path.{_≡_}
 use mathlib.Core.List.{List, [], _∷_, _++_}
 use lib.Ieee.{Float}
 use Rattle.relay_geo.specs.declared.shield.SimplexShield.{SimplexShield}
-use Rattle.relay_geo.specs.Latch as latch
+use Rattle.latch.specs.Latch as latch
 
 -- `next` is the state after an event; `margins` are those that it steps the shield by: one, or none if it keeps the shield
 module _ {S E : Type 0} (next : S → E → S) where

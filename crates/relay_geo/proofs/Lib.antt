@@ -6,5 +6,4 @@ pub mod Figures
 pub mod MarginRange
 pub mod SetUp
 pub mod Steps
-pub mod LatchFlies
 pub mod OneAnswer

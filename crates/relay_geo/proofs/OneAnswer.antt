@@ -85,12 +85,6 @@ recoverable-set-recoverable-once κs a x y v w p q = (no-second p q, refl)
 pub mend-once : OneAnswer shield.mend.ended shield.mend.Reads.Post
 mend-once κs a x y v w p q = (no-second p q, refl)
 
-pub engages-once : OneAnswer shield.engages.ended shield.engages.Reads.Post
-engages-once κs a x y v w p q = (no-second p q, refl)
-
-pub latch-once : OneAnswer shield.latch.ended shield.latch.Reads.Post
-latch-once κs a x y v w p q = (no-second p q, refl)
-
 pub pick-once : OneAnswer shield.pick.ended shield.pick.Reads.Post
 pick-once κs a x y v w p q = (no-second p q, refl)
 

@@ -10,9 +10,9 @@ use Rattle.relay_math.specs.declared.BodyRate.{BodyRate}
 use Rattle.relay_math.proofs.Finite.{or-zero-finite}
 use Rattle.relay_geo.specs.declared.shield.SimplexShield.{SimplexShield}
 use Rattle.relay_geo.specs.Vectors.{sanitise3}
-use Rattle.relay_geo.specs.Latch.{releases, engages, latch}
+use Rattle.latch.specs.Latch.{releases, engages, latch}
 use Rattle.relay_geo.specs.Shield.{step}
-use Rattle.relay_geo.proofs.LatchFlies.{released-is-calm}
+use Rattle.latch.proofs.LatchFlies.{released-is-calm}
 
 -- ---- the flag
 

@@ -2,6 +2,5 @@ pub mod Vectors
 pub mod Attitude
 pub mod Controller
 pub mod Set
-pub mod Latch
 pub mod Shield
 pub mod Lent

@@ -9,7 +9,7 @@ use Rattle.relay_geo.specs.declared.shield.SimplexShield.{SimplexShield}
 use Rattle.relay_geo.specs.declared.shield.Shielded.{Shielded}
 use Rattle.relay_geo.specs.Vectors.{sanitise3}
 use Rattle.relay_geo.specs.Set.{margin}
-use Rattle.relay_geo.specs.Latch.{latch}
+use Rattle.latch.specs.Latch.{latch}
 
 abbrev pub mendEnter : Float → Float
 mendEnter enter = cond (finiteAbove 0·0 enter) enter 0·1

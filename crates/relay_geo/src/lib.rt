@@ -26,8 +26,6 @@ pub use set::RecoverableSet;
 pub use shield::Shielded;
 pub use shield::SimplexShield;
 pub use shield::Thresholds;
-pub use shield::engages;
-pub use shield::latch;
 pub use shield::mend;
 pub use shield::pick;
 pub use vectors::GRAVITY_NED;

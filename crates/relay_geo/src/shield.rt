@@ -1,11 +1,10 @@
 // The simplex shield: the planner's command flies only while the margin is safely inside the recoverable set, else the fallback does.
 use crate::set::RecoverableSet;
 use crate::vectors::sanitise3;
+use latch::latch;
 use relay_math::BodyRate;
 use relay_math::finite_above;
-use relay_math::is_finite;
 ghost use mathlib.Core.Path.{_≡_};
-ghost use Rattle.relay_geo.specs.Latch.{engages, latch};
 ghost use Rattle.relay_geo.specs.Shield.{mendEnter, mendExit, mend, newShield, picked, step, filter};
 
 // Below `enter` the fallback takes over, above `exit` it hands back.
@@ -55,29 +54,6 @@ pub fn mend(enter: f32, exit: f32) -> Thresholds
     Thresholds {
         enter: enter,
         exit: mend_exit(enter, exit),
-    }
-}
-
-// The margin takes control from the planner.
-pub fn engages(enter: f32, margin: f32) -> bool
-    ensures { λ r. ⌜ r ≡ engages enter margin ⌝ }
-{
-    if !is_finite(margin) {
-        true
-    } else {
-        margin < enter
-    }
-}
-
-// Whether the fallback has control after this margin. Between the two thresholds it stays as it was: giving control back as soon as the
-// margin rises over `enter` would change controllers on nearly every tick.
-pub fn latch(enter: f32, exit: f32, engaged: bool, margin: f32) -> bool
-    ensures { λ r. ⌜ r ≡ latch enter exit engaged margin ⌝ }
-{
-    if engaged {
-        !finite_above(exit, margin)
-    } else {
-        engages(enter, margin)
     }
 }
 

@@ -6,7 +6,7 @@ use Prim.Native.Nat.{ℕ}
 use lib.Ieee.{Float}
 use lib.ListN.{length, take, drop}
 use Rattle.words.specs.Words.{float}
-use Rattle.relay_geo.specs.Latch.{Flies}
+use Rattle.latch.specs.Latch.{Flies}
 use Rattle.relay_geo.specs.Shield.{step}
 use Rattle.relay_traj.specs.Governor.{advance}
 use Rattle.joint.specs.declared.state.State.{State}

@@ -1,6 +1,6 @@
 use borrow.Author.Needs.{needs}
-use Rattle.relay_geo.proofs.shield.engages.Statement.{statement}
-use Rattle.relay_geo.proofs.shield.engages.Tie as tie
+use Rattle.latch.proofs.engages.Statement.{statement}
+use Rattle.latch.proofs.engages.Tie as tie
 
 pub engages-spec : {M : Type 1} → statement M
 engages-spec =

@@ -1,7 +1,7 @@
 use borrow.Author.Needs.{needs}
-use Rattle.relay_geo.specs.Latch.{latch}
-use Rattle.relay_geo.proofs.shield.latch.Statement.{statement}
-use Rattle.relay_geo.proofs.shield.latch.Tie as tie
+use Rattle.latch.specs.Latch.{latch}
+use Rattle.latch.proofs.latch.Statement.{statement}
+use Rattle.latch.proofs.latch.Tie as tie
 
 pub latch-spec : {M : Type 1} → statement M
 unfolding latch

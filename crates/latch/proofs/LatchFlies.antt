@@ -12,7 +12,7 @@ use lib.Seq.{split-at, length-take-le, getD-append-add, getD-take, getD-drop}
 use Rattle.relay_math.specs.F32.{f32, isFinite}
 use Rattle.relay_math.proofs.Tests.{no}
 use Rattle.relay_math.proofs.Order.{lt-above}
-use Rattle.relay_geo.specs.Latch.{releases, engages, latch, after, flagsFrom, engagedAfter, flags, Flies, FliesAt}
+use Rattle.latch.specs.Latch.{releases, engages, latch, after, flagsFrom, engagedAfter, flags, Flies, FliesAt}
 
 -- ---- one step, as tests on plain Bools: r that the margin releases, g that it engages
 

@@ -1,0 +1,2 @@
+pub mod LatchFlies
+pub mod OneAnswer

@@ -2,7 +2,7 @@
 use relay_math::Vec3;
 use relay_math::finite_above;
 use relay_math::finite_or;
-use relay_math::sqrtf;
+use relay_math::sqrtf_near_one;
 ghost use mathlib.Core.Path.{_≡_};
 ghost use Rattle.relay_geo.specs.Vectors.{cross, dot, norm, unitOf, normalize, identity3, transpose3, prod3, matmul3, transposedTimes, vee, sanitise3};
 
@@ -39,10 +39,11 @@ pub fn dot(a: Vec3, b: Vec3) -> f32
     a.0 * b.0 + a.1 * b.1 + a.2 * b.2
 }
 
+// An axis is brought to length 1 twice over in each tick, so a sum next to 1 comes often.
 pub fn norm(a: Vec3) -> f32
     ensures { λ r. ⌜ r ≡ norm a ⌝ }
 {
-    sqrtf(dot(a, a))
+    sqrtf_near_one(dot(a, a))
 }
 
 // The direction of a vector whose length n is there already.

@@ -38,3 +38,6 @@ clamp-once κs a x y v w p q = (no-second p q, refl)
 
 pub sqrtf-once : OneAnswer sqrt.sqrtf.ended sqrt.sqrtf.Reads.Post
 sqrtf-once κs a x y v w p q = (no-second (p .1) (q .1), refl)
+
+pub sqrtf-near-one-once : OneAnswer sqrt.sqrtf_near_one.ended sqrt.sqrtf_near_one.Reads.Post
+sqrtf-near-one-once κs a x y v w p q = (no-second p q, refl)

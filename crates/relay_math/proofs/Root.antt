@@ -29,6 +29,16 @@ pub record Scaled (X m e : ℕ) : Type 0 where
   pub high : m < 2 ^ 24
   pub under : e < 300
 
+-- The code has both in one number d = e * 2 ^ 23 + m.
+abbrev pub M : ℕ → ℕ
+M d = d % 2 ^ 23 + 2 ^ 23
+
+abbrev pub E : ℕ → ℕ
+E d = d / 2 ^ 23 - 1
+
+pub joined : {X m e d : ℕ} → Scaled X m e → d ≡ e * 2 ^ 23 + m → (M d ≡ m) × (E d ≡ e) × (2 ^ 23 ≤ d) × (d < 301 * 2 ^ 23)
+joined w i = (omega (arith, w .low, w .high), omega (arith, w .low, w .high), omega (arith, w .low), omega (arith, w .high, w .under))
+
 -- a pattern b from 2 ^ 23 on has the digits' field and the exponent's
 pub scaled-normal : {n b : ℕ} → Digits n b → 2 ^ 23 ≤ b → Scaled n (b % 2 ^ 23 + 2 ^ 23) (b / 2 ^ 23 + 22)
 scaled-normal {n} {b} w h =
@@ -81,6 +91,17 @@ pub under-size : (m c : ℕ) → 2 ^ 23 ≤ m → m < 2 ^ 24 → c < 2 → (2 ^ 
 under-size m zero l h s = omega arith
 under-size m (suc zero) l h s = omega arith
 under-size m (suc (suc c)) l h s = omega arith
+
+-- m times 2 ^ 23 or 2 ^ 24, by whether e is odd
+pub as-product : (d : ℕ) → 2 ^ 23 ≤ d → M d * (d / 2 ^ 23 % 2 * 2 ^ 23 + 2 ^ 23) ≡ under (M d) (E d)
+as-product d l =
+    let h : (E d + 103) % 2 ≡ d / 2 ^ 23 % 2 = omega arith in
+    rw h (twice (d / 2 ^ 23 % 2) (omega arith))
+  where
+    twice : (p : ℕ) → p < 2 → M d * (p * 2 ^ 23 + 2 ^ 23) ≡ M d * 2 ^ (23 + p)
+    twice zero s = refl
+    twice (suc zero) s = refl
+    twice (suc (suc p)) s = omega arith
 
 module _ (X m e : ℕ) (w : Scaled X m e) where
   whole : X * 2 ^ 149 ≡ m * 2 ^ (e + 126)

@@ -1,11 +1,15 @@
 -- Whole numbers about a root: r * r < n + r and n ≤ r * r + r say that r is the whole number nearest to the root of n. Assumes nothing.
 use mathlib.Core.Path.{_≡_}
-use Prim.Native.Nat.{ℕ, suc, _+_, _*_, _/_, _^_, _≤_, _<_}
-use native.Mathlib.Nat.{mul-le-mul, mul-le-mul-left, mul-le-mul-right, le-of-suc-le-suc, lt-of-not-le}
+use Prim.Native.Nat.{ℕ, zero, suc, _+_, _*_, _/_, _^_, _≤_, _<_}
+use native.Mathlib.Nat.{zero-lt-suc, mul-le-mul, mul-le-mul-left, mul-le-mul-right, le-of-suc-le-suc, lt-of-not-le}
 use native.Mathlib.Omega.{arith}
 
 pub square-le : (r : ℕ) → r ≤ 2 ^ 26 → r * r ≤ 2 ^ 52
 square-le r h = mul-le-mul h h
+
+pub own-square : (r : ℕ) → r ≤ r * r
+own-square zero = omega arith
+own-square (suc r) = let q : 1 * suc r ≤ suc r * suc r = mul-le-mul-right (suc r) (zero-lt-suc r) in omega arith
 
 -- a root that is too large is not zero
 pub some : (n r : ℕ) → 0 < n → n + r ≤ r * r → 0 < r

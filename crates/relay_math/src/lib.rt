@@ -12,6 +12,7 @@ pub use angles::cosf;
 pub use angles::sincos;
 pub use angles::sinf;
 pub use sqrt::sqrtf;
+pub use sqrt::sqrtf_near_one;
 
 // Three numbers with no meaning of their own: the Rust's `[f32; 3]`, and `v.0`, `v.1`, `v.2` for its `v[0]`, `v[1]`, `v[2]`.
 #[repr(C)]

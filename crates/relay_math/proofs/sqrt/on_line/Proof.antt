@@ -1,19 +1,18 @@
--- `sqrt::on_line`: the product of the entry's fall and f is below 2 ^ 32. Assumes nothing.
+-- `sqrt::on_line`: the product of the entry's fall and f is below 2 ^ 49. Assumes nothing.
 use borrow.Author.Needs.{needs}
-use Prim.Native.Nat.{ℕ, _*_, _%_, _≤_, _<_}
+use Prim.Native.Nat.{ℕ, _*_, _%_, _^_, _≤_, _<_}
 use native.Mathlib.Nat.{mul-le-mul-left, le-of-lt}
 use native.Mathlib.Omega.{arith}
 use Rattle.relay_math.proofs.sqrt.on_line.Statement.{statement}
 use Rattle.relay_math.proofs.sqrt.on_line.Tie as tie
 
-short : (e f : ℕ) → f < 65536 → e % 65536 * f ≤ e % 65536 * 65536
-short e f h = mul-le-mul-left (e % 65536) (le-of-lt h)
+short : (e f : ℕ) → f < 131072 → e % 4294967296 * f ≤ e % 4294967296 * 131072
+short e f h = mul-le-mul-left (e % 4294967296) (le-of-lt h)
 
 pub on-line-spec : {M : Type 1} → statement M
 on-line-spec =
     tie.close
     (tie.spec (λ c. search needs)
-    (λ c. search needs)
-    (λ c. omega (arith, short (c .args .e) (c .args .f) (c .pre .1)))
-    (λ c. omega (arith, short (c .args .e) (c .args .f) (c .pre .1)))
+    (λ c. omega (arith, short (c .args .e) (c .args .f) (c .pre)))
+    (λ c. omega (arith, short (c .args .e) (c .args .f) (c .pre)))
     (λ c. search needs))

@@ -1,4 +1,4 @@
--- `sqrt::positive_root`: next to 1 half way there, else the digits, and then the root of those. Assumes nothing.
+-- `sqrt::positive_root`: the digits, and then the root of those. Assumes nothing.
 use borrow.Author.Needs.{needs}
 use mathlib.Core.Path.{_≡_}
 use mathlib.Core.Bool.{false}
@@ -8,10 +8,7 @@ use lib.Dec.{lt→ltb}
 use lib.Ieee.{Float, fin, binary32, ofBits, toBits}
 use Rattle.relay_math.specs.F32.{grains}
 use Rattle.relay_math.specs.Sqrt.{sqrtf}
-use native.Mathlib.Omega.{arith}
 use Rattle.relay_math.proofs.Tests.{of-positive}
-use Rattle.relay_math.proofs.Grains.{reads}
-use Rattle.relay_math.proofs.Root.{near-one}
 use Rattle.relay_math.proofs.sqrt.positive_root.Statement.{statement}
 use Rattle.relay_math.proofs.sqrt.positive_root.Tie as tie
 
@@ -23,11 +20,9 @@ pub positive-root-spec : {M : Type 1} → statement M
 unfolding sqrtf
 positive-root-spec =
     tie.close
-    (tie.spec (λ c. search needs) (λ c. search needs)
-    (λ c. (of-positive (Rooted (c .before .args .b) _) (λ m i f e. near-one (rw e at (reads (suc m) i f)) (c .if1 .taken)), omega arith))
-    (λ c κs. search needs) (λ c κs. c .digits .ensures .0)
+    (tie.spec (λ c κs. search needs) (λ c κs. c .digits .ensures .0)
     (λ c. (
-      of-positive (Rooted (c .before .before .before .args .b) (c .root-bits .result))
+      of-positive (Rooted (c .before .before .args .b) (c .root-bits .result))
           (λ m i f e. c .root-bits .ensures .0 (grains (fin false (suc m) i)) (c .before .digits .ensures .1 (fin false (suc m) i) f (lt→ltb 0 (suc m) (zero-lt-suc m)) e)),
       c .root-bits .ensures .1,
     )))

@@ -1,23 +1,24 @@
 -- `sqrt::root_bits`: m shifted so that its exponent is even has 47 or 48 digits, and its root 24. Assumes nothing.
 use borrow.Author.Needs.{needs}
 use mathlib.Core.Path.{_≡_}
-use Prim.Native.Nat.{_+_, _%_, _^_}
+use Prim.Native.Nat.{ℕ, _+_, _-_, _*_, _/_, _%_, _^_, _≤_, _<_}
 use native.Mathlib.Omega.{arith}
-use lib.Pow.{shl-exact}
-use Rattle.relay_math.proofs.Root.{Scaled, under, under-size, closest-read}
+use Rattle.relay_math.proofs.Root.{Scaled, M, E, under, half, under-size, as-product, closest-read}
 use Rattle.relay_math.proofs.sqrt.root_bits.Statement.{statement}
 use Rattle.relay_math.proofs.sqrt.root_bits.Tie as tie
 
-exact : (c : tie.Start) → under (c .args .m) (c .args .e) % 2 ^ 64 ≡ under (c .args .m) (c .args .e)
-exact c = shl-exact 24 (23 + (c .args .e + 103) % 2) 64 (c .pre .1) (omega arith)
+sized : (d : ℕ) → 2 ^ 23 ≤ d → let n = M d * (d / 2 ^ 23 % 2 * 2 ^ 23 + 2 ^ 23) in (2 ^ 46 ≤ n) × (n ≤ 2 ^ 48 - 2 ^ 24)
+sized d l = rw (as-product d l) (under-size (M d) ((E d + 103) % 2) (omega arith) (omega arith) (omega arith))
 
 returns : tie.Need-returns
 returns c = (
   λ x h.
       let s = c .before in
+      let d = s .args .d in
       let r = c .nearest-root in
-      let w : Scaled x (s .args .m) (s .args .e) = record { is = h; low = s .pre .0; high = s .pre .1; under = s .pre .2 } in
-      closest-read x (s .args .m) (s .args .e) w (r .result) (rw (exact s) at (r .ensures .0), rw (exact s) at (r .ensures .1)),
+      let w : Scaled x (M d) (E d) = record { is = h; low = omega arith; high = omega arith; under = omega (arith, s .pre) } in
+      let k : (d / 2 + 427819008) / 8388608 ≡ half (E d) = omega (arith, s .pre) in
+      rw k (closest-read x (M d) (E d) w (r .result) (rw (as-product d (s .pre .0)) at (r .ensures .0), rw (as-product d (s .pre .0)) at (r .ensures .1))),
   search needs,
 )
 
@@ -25,5 +26,7 @@ pub root-bits-spec : {M : Type 1} → statement M
 root-bits-spec =
     tie.close
     (tie.spec (λ c. search needs) (λ c. search needs) (λ c. search needs) (λ c. search needs) (λ c. search needs)
-    (λ c κs. omega (arith, exact c, under-size (c .args .m) ((c .args .e + 103) % 2) (c .pre .0) (c .pre .1) (omega arith)))
+    (λ c. omega (arith, sized (c .args .d) (c .pre .0)))
+    (λ c. search needs) (λ c. search needs)
+    (λ c κs. omega (arith, sized (c .args .d) (c .pre .0)))
     (λ c. search needs) (λ c. search needs) returns)

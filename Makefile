@@ -1,6 +1,8 @@
-# make fly         prove and build the core, then fly a slow pass above a stage: a table and a picture, our shield beside the earlier rule;
+# make fly         prove and build the core, then fly a slow pass above a stage: a table, logs and a picture, our shield beside the earlier rule;
 #                  and a pass of three legs on a route
 #                  `make fly SCENARIO=my.txt` flies that file instead (docs/FLYING.md); INSTALL=no installs nothing for the picture
+# make log         a flight log as CSV on standard output, and its picture: `make log FILE=target/fly/pass-shield.log` (docs/FLYING.md);
+#                  with ENTER=0.03 EXIT=0.07 the picture has these thresholds
 # make choices     the pass with other choices of set, filter and noise: what hangs on them
 # make test        the gate: proofs, must-fail edits, programs, the host's comparisons; its last line is `N passed, 0 failed`
 # make table       roots, sines and cosines beside the hardware's and document 01's
@@ -12,7 +14,7 @@
 # make bench       times, as ratios to the other side in one run
 # make docs        the safe crate's pages, host/target/doc/fosavalo/index.html
 # make map         docs/MAP.md anew, from the sources
-.PHONY: fly choices test table archives core exhaustive routines ticks answers bench docs map clean
+.PHONY: fly log choices test table archives core exhaustive routines ticks answers bench docs map clean
 
 CARGO = cargo
 HOST = cd host && $(CARGO)
@@ -21,6 +23,11 @@ fly: core
 	@$(CARGO) build --manifest-path host/Cargo.toml --release --offline --package fly
 	@INSTALL=$(INSTALL) tools/gnuplot
 	@echo && host/target/release/fly $(if $(SCENARIO),"$(SCENARIO)")
+
+log: core
+	@$(CARGO) build --manifest-path host/Cargo.toml --release --offline --quiet --package fly
+	@INSTALL=$(INSTALL) tools/gnuplot
+	@host/target/release/log $(if $(FILE),"$(FILE)") $(if $(ENTER),--enter "$(ENTER)") $(if $(EXIT),--exit "$(EXIT)")
 
 choices: core
 	@$(CARGO) build --manifest-path host/Cargo.toml --release --offline --quiet --package fly

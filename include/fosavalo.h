@@ -26,16 +26,24 @@ float fosavalo_cosf(float x);
 #define FOSAVALO_LEG_BYTES 76
 #define FOSAVALO_ROUTE_TRAILER_BYTES 8
 #define FOSAVALO_MOST_LEGS 8
+#define FOSAVALO_RECORD_BYTES 108
+#define FOSAVALO_LOG_TRAILER_BYTES 12
+#define FOSAVALO_MOST_RECORDS 65535
 
-/* What set-up and the ticks return. Of 0 to 4 it is the lowest that holds; 5 to 7 come after 4, in the order that the route tick tells. */
-#define FOSAVALO_DONE 0                /* the image is written, at a tick the answer too */
-#define FOSAVALO_WRONG_IMAGE_LENGTH 1  /* image_len is not FOSAVALO_IMAGE_BYTES */
-#define FOSAVALO_WRONG_INPUT_LENGTH 2  /* input_len is not FOSAVALO_SETUP_BYTES, at a tick FOSAVALO_TICK_BYTES */
-#define FOSAVALO_WRONG_ANSWER_LENGTH 3 /* tick only: answer_len is not FOSAVALO_ANSWER_BYTES */
-#define FOSAVALO_BROKEN_IMAGE 4        /* tick only: no set-up or tick leaves such an image */
-#define FOSAVALO_WRONG_LEG_COUNT 5     /* route tick only: the count is 0 or above FOSAVALO_MOST_LEGS */
-#define FOSAVALO_WRONG_ROUTE_LENGTH 6  /* route tick only: under 8 bytes, or the bytes back or the length do not go with the count */
-#define FOSAVALO_LEGS_APART 7          /* route tick only: a leg does not start where the one before it ends */
+/* What set-up and the ticks return. Of 0 to 4 it is the lowest that holds; 5 to 7 come after 4, in the order that the route tick tells. The
+ * log's calls tell theirs. */
+#define FOSAVALO_DONE 0                 /* what the call writes is written: the image, at a tick the answer too, what a log's call tells */
+#define FOSAVALO_WRONG_IMAGE_LENGTH 1   /* image_len is not FOSAVALO_IMAGE_BYTES */
+#define FOSAVALO_WRONG_INPUT_LENGTH 2   /* input_len is not FOSAVALO_SETUP_BYTES, at a tick and an append FOSAVALO_TICK_BYTES; count_len is not 4 */
+#define FOSAVALO_WRONG_ANSWER_LENGTH 3  /* ticks and append: answer_len is not FOSAVALO_ANSWER_BYTES */
+#define FOSAVALO_BROKEN_IMAGE 4         /* ticks only: no set-up or tick leaves such an image */
+#define FOSAVALO_WRONG_LEG_COUNT 5      /* route tick only: the count is 0 or above FOSAVALO_MOST_LEGS */
+#define FOSAVALO_WRONG_ROUTE_LENGTH 6   /* route tick only: under 8 bytes, or the bytes back or the length do not go with the count */
+#define FOSAVALO_LEGS_APART 7           /* route tick only: a leg does not start where the one before it ends */
+#define FOSAVALO_BROKEN_LOG 8           /* log only: the log's length and its three words do not go together */
+#define FOSAVALO_NO_ROOM 9              /* append only: under 108 bytes beyond the log, or FOSAVALO_MOST_RECORDS in it */
+#define FOSAVALO_NO_RECORD 13           /* record only: the log has no record at that place */
+#define FOSAVALO_WRONG_RECORD_LENGTH 14 /* record only: record_len is not FOSAVALO_RECORD_BYTES */
 
 /* Writes a fresh image, the state that goes from tick to tick; what stood in it is not read.
  *
@@ -73,6 +81,36 @@ uint32_t fosavalo_tick_refusal(const uint8_t *image, size_t image_len, size_t in
  * changed; the input and the route never are. Each pointer has to be good for its length, whatever that is, and no two of the four buffers
  * may overlap, but for the input and the route, which are only read. */
 uint32_t fosavalo_route_tick(uint8_t *image, size_t image_len, const uint8_t *input, size_t input_len, const uint8_t *route, size_t route_len, uint8_t *answer, size_t answer_len);
+
+/* A flight log is 0 to 65,535 records of 108 bytes, each a tick's input and then its answer, and behind them three words: the count, how many
+ * bytes back from there the first record starts (108 times the count), and 108. A log of no record is these words alone:
+ *
+ *   uint8_t log[FOSAVALO_LOG_TRAILER_BYTES + 1000 * FOSAVALO_RECORD_BYTES] = FOSAVALO_EMPTY_LOG;
+ *   uint64_t log_len = FOSAVALO_LOG_TRAILER_BYTES;
+ */
+#define FOSAVALO_EMPTY_LOG {0, 0, 0, 0, 0, 0, 0, 0, FOSAVALO_RECORD_BYTES, 0, 0, 0}
+
+/* Appends a record to the log in the first log_len bytes of the buffer: where the three words stood comes the record, byte for byte as the
+ * input and the answer are, and behind it the new three words. The log is then log_len + FOSAVALO_RECORD_BYTES long; no other byte is changed.
+ * It takes the same time however long the log is.
+ *
+ * Returns 0; 2 or 3 if the input or the answer has not the length of a tick's; then 8; then 9. Unless it is 0 no byte is changed; the input
+ * and the answer never are. Each pointer has to be good for its length, whatever that is (log_len may be anything), and the buffer must not
+ * overlap the others. */
+uint32_t fosavalo_log_append(uint8_t *buffer, size_t buffer_len, uint64_t log_len, const uint8_t *input, size_t input_len, const uint8_t *answer, size_t answer_len);
+
+/* How many records a log has: one word, little-endian, into the 4 bytes of count. The log is all log_len bytes.
+ *
+ * Returns 0; 2 if count_len is not 4; then 8. Unless it is 0 no byte is changed; the log never is. Each pointer has to be good for its length,
+ * whatever that is, and the two buffers must not overlap. */
+uint32_t fosavalo_log_count(const uint8_t *log, size_t log_len, uint8_t *count, size_t count_len);
+
+/* The record at a place, counted from 0 in the order in which they were appended: a tick's input and then its answer. The log is all log_len
+ * bytes.
+ *
+ * Returns 0; 14 if record_len is not FOSAVALO_RECORD_BYTES; then 8; then 13 if the place is at or beyond the count. Unless it is 0 no byte is
+ * changed; the log never is. Each pointer has to be good for its length, whatever that is, and the two buffers must not overlap. */
+uint32_t fosavalo_log_record(const uint8_t *log, size_t log_len, uint64_t place, uint8_t *record, size_t record_len);
 
 #ifdef __cplusplus
 }

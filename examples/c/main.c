@@ -1,4 +1,5 @@
-/* Sets up an image, ticks it along a slow pass and prints who flies; then a tick on a route of two legs, and calls that are refused.
+/* Sets up an image, ticks it along a slow pass, keeps a log of it and prints who flies; then reads the log back, ticks on a route of two legs, and
+ * makes calls that are refused.
  *
  *   gcc -std=c11 -Wall -Wextra -Werror -I../../include main.c ../../target/staticlib/libfosavalo.a -o joint && ./joint
  */
@@ -52,6 +53,7 @@ static const float legs[2][LEG_WORDS] = {
 
 /* Roll rates that take the margin above exit, into the band, below enter, into the band again and out at the top. */
 static const float rates[] = {1.8f, 1.0f, 1.75f, 1.8f, 1.9f, 1.8f, 1.75f, 1.0f};
+#define TICKS (sizeof rates / sizeof rates[0])
 
 int main(void) {
     uint8_t image[FOSAVALO_IMAGE_BYTES], input[FOSAVALO_SETUP_BYTES], answer[FOSAVALO_ANSWER_BYTES] = {0};
@@ -63,8 +65,11 @@ int main(void) {
         return 1;
     }
 
+    uint8_t log[FOSAVALO_LOG_TRAILER_BYTES + TICKS * FOSAVALO_RECORD_BYTES] = FOSAVALO_EMPTY_LOG;
+    uint64_t log_len = FOSAVALO_LOG_TRAILER_BYTES;
+
     printf("tick    torque                      command                     flag        margin\n");
-    for (size_t tick = 0; tick < sizeof rates / sizeof rates[0]; tick++) {
+    for (size_t tick = 0; tick < TICKS; tick++) {
         const float words[FOSAVALO_TICK_BYTES / 4] = {
             rates[tick], 0, 0,          /* gyro */
             1, 0, 0, 0,                 /* quaternion */
@@ -81,7 +86,22 @@ int main(void) {
         printf("%4zu  %8.4f %8.4f %8.4f  %8.4f %8.4f %8.4f  %u %-8s  %7.4f\n", tick + 1, number(answer, 0), number(answer, 1), number(answer, 2),
                number(answer, 3), number(answer, 4), number(answer, 5), (unsigned)word(answer, 6), word(answer, 6) ? "fallback" : "planner",
                number(answer, 9));
+        refused = fosavalo_log_append(log, sizeof log, log_len, input, FOSAVALO_TICK_BYTES, answer, sizeof answer);
+        if (refused != FOSAVALO_DONE) {
+            printf("the log takes no more: %u\n", (unsigned)refused);
+            return 1;
+        }
+        log_len += FOSAVALO_RECORD_BYTES;
     }
+
+    uint8_t count[4], record[FOSAVALO_RECORD_BYTES];
+    if (fosavalo_log_count(log, log_len, count, sizeof count) != FOSAVALO_DONE || word(count, 0) != TICKS) return 1;
+    printf("the log, %u records, has the margins", (unsigned)word(count, 0));
+    for (uint64_t place = 0; fosavalo_log_record(log, log_len, place, record, sizeof record) == FOSAVALO_DONE; place++)
+        printf(" %.4f", number(record + FOSAVALO_TICK_BYTES, 9));
+    refused = fosavalo_log_append(log, sizeof log, log_len, input, FOSAVALO_TICK_BYTES, answer, sizeof answer);
+    printf("\none more than there is room for: refused with %u\n", (unsigned)refused);
+    if (refused != FOSAVALO_NO_ROOM) return 1;
 
     uint8_t route[2 * FOSAVALO_LEG_BYTES + FOSAVALO_ROUTE_TRAILER_BYTES];
     for (size_t k = 0; k < 2 * LEG_WORDS; k++) put(route, k, legs[k / LEG_WORDS][k % LEG_WORDS]);

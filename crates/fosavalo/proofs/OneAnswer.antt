@@ -1,13 +1,16 @@
 -- Of each public function here: no second answer fits its promise. Assumes nothing.
 use mathlib.Core.Path.{refl, ap}
 use Rattle.relay_math.proofs.Determined.{OneAnswer, no-second, both}
-use Rattle.fosavalo.specs.Numbers.{Numbered}
+use Rattle.fosavalo.specs.Numbers.{Numbered, Filled}
 use Rattle.fosavalo.proofs.fosavalo_sinf
 use Rattle.fosavalo.proofs.fosavalo_cosf
 use Rattle.fosavalo.proofs.fosavalo_setup
 use Rattle.fosavalo.proofs.fosavalo_tick
 use Rattle.fosavalo.proofs.fosavalo_tick_refusal
 use Rattle.fosavalo.proofs.fosavalo_route_tick
+use Rattle.fosavalo.proofs.fosavalo_log_append
+use Rattle.fosavalo.proofs.fosavalo_log_count
+use Rattle.fosavalo.proofs.fosavalo_log_record
 
 pub fosavalo-sinf-once : OneAnswer fosavalo_sinf.ended fosavalo_sinf.Reads.Post
 fosavalo-sinf-once κs a x y v w p q = (no-second p q, refl)
@@ -32,3 +35,18 @@ pub fosavalo-route-tick-once : OneAnswer fosavalo_route_tick.ended fosavalo_rout
 fosavalo-route-tick-once κs a x y v w p q =
     let e = no-second p q in
     (ap (λ (c : Numbered). c .returned) e, both (ap (λ (c : Numbered). c .image) e) (both refl (both refl (both (ap (λ (c : Numbered). c .answer) e) refl))))
+
+pub fosavalo-log-append-once : OneAnswer fosavalo_log_append.ended fosavalo_log_append.Reads.Post
+fosavalo-log-append-once κs a x y v w p q =
+    let e = no-second p q in
+    (ap (λ (f : Filled). f .returned) e, both (ap (λ (f : Filled). f .buffer) e) refl)
+
+pub fosavalo-log-count-once : OneAnswer fosavalo_log_count.ended fosavalo_log_count.Reads.Post
+fosavalo-log-count-once κs a x y v w p q =
+    let e = no-second p q in
+    (ap (λ (f : Filled). f .returned) e, both refl (both (ap (λ (f : Filled). f .buffer) e) refl))
+
+pub fosavalo-log-record-once : OneAnswer fosavalo_log_record.ended fosavalo_log_record.Reads.Post
+fosavalo-log-record-once κs a x y v w p q =
+    let e = no-second p q in
+    (ap (λ (f : Filled). f .returned) e, both refl (both refl (both (ap (λ (f : Filled). f .buffer) e) refl)))

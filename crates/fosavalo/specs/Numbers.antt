@@ -5,6 +5,8 @@ use Rattle.flight.specs.Entry.{Called, number, setUpCall, tickCall}
 use Rattle.route.specs.Outcomes as route
 use Rattle.route.specs.Entry.{routeCall}
 use Rattle.route.specs.Entry as on-route
+use Rattle.log.specs.Outcomes as log
+use Rattle.log.specs.Entry.{Left, appendCall, countCall, recordCall}
 
 -- the number that is returned, and what the image and the answer hold afterwards
 pub record Numbered : Type 0 where
@@ -30,3 +32,24 @@ asRouteNumber c = numbered (route.number (c .outcome)) (c .image) (c .answer)
 
 unfoldable pub routeNumbered : List ℕ → List ℕ → List ℕ → List ℕ → Numbered
 routeNumbered image input route answer = asRouteNumber (routeCall image input route answer)
+
+-- ---- the calls on a log: the number that is returned, and what the one buffer that may be written holds afterwards
+
+pub record Filled : Type 0 where
+  pub returned : ℕ
+  pub buffer : List ℕ
+
+abbrev pub filled : ℕ → List ℕ → Filled
+filled n buffer = record { returned = n; buffer = buffer }
+
+abbrev pub asLogNumber : Left → Filled
+asLogNumber l = filled (log.number (l .outcome)) (l .buffer)
+
+unfoldable pub appendNumbered : List ℕ → ℕ → List ℕ → List ℕ → Filled
+appendNumbered buffer len input answer = asLogNumber (appendCall buffer len input answer)
+
+unfoldable pub countNumbered : List ℕ → List ℕ → Filled
+countNumbered log count = asLogNumber (countCall log count)
+
+unfoldable pub recordNumbered : List ℕ → ℕ → List ℕ → Filled
+recordNumbered log place buffer = asLogNumber (recordCall log place buffer)

@@ -3,7 +3,7 @@ ghost use mathlib.Core.Path.{_≡_};
 ghost use mathlib.Core.List.{[]};
 ghost use Rattle.relay_math.specs.Steps.{sinf, cosf};
 ghost use Rattle.flight.specs.Entry.{number, tickRefusal};
-ghost use Rattle.fosavalo.specs.Numbers.{numbered, setUpNumbered, tickNumbered, routeNumbered};
+ghost use Rattle.fosavalo.specs.Numbers.{numbered, setUpNumbered, tickNumbered, routeNumbered, filled, appendNumbered, countNumbered, recordNumbered};
 
 #[no_mangle]
 pub extern "C" fn fosavalo_sinf(x: f32) -> f32
@@ -54,4 +54,33 @@ pub extern "C" fn fosavalo_route_tick(
     ensures { λ r. ⌜ numbered r (now (image .exit)) (now (answer .exit)) ≡ routeNumbered (now (image .entry)) (now (input .entry)) (now (route .entry)) (now (answer .entry)) ⌝ }
 {
     route::number(route::route_tick(image, input, route, answer))
+}
+
+// One record more in a log: the number of the outcome, and the buffer as `log::append` leaves it. A length of 64 bits is a slice's own.
+#[no_mangle]
+pub extern "C" fn fosavalo_log_append(
+    buffer: &mut [u8],
+    log_len: u64,
+    input: &[u8],
+    answer: &[u8],
+) -> u32
+    ensures { λ r. ⌜ filled r (now (buffer .exit)) ≡ appendNumbered (now (buffer .entry)) «log_len» (now (input .entry)) (now (answer .entry)) ⌝ }
+{
+    log::number(log::append(buffer, log_len as usize, input, answer))
+}
+
+// How many records a log has, as a word: the number of the outcome, and the count's buffer as `log::count_into` leaves it.
+#[no_mangle]
+pub extern "C" fn fosavalo_log_count(log: &[u8], count: &mut [u8]) -> u32
+    ensures { λ r. ⌜ filled r (now (count .exit)) ≡ countNumbered (now (log .entry)) (now (count .entry)) ⌝ }
+{
+    log::number(log::count_into(log, count))
+}
+
+// The record at a place of a log: the number of the outcome, and the record's buffer as `log::record_into` leaves it.
+#[no_mangle]
+pub extern "C" fn fosavalo_log_record(log: &[u8], place: u64, into: &mut [u8]) -> u32
+    ensures { λ r. ⌜ filled r (now (into .exit)) ≡ recordNumbered (now (log .entry)) place (now (into .entry)) ⌝ }
+{
+    log::number(log::record_into(log, place as usize, into))
 }

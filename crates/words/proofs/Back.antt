@@ -3,16 +3,16 @@ use mathlib.Core.Path.{_≡_, refl, sym, ap, subst, _∙_}
 use mathlib.Core.Bool.{Bool, true, false, not}
 use mathlib.Core.List.{List, [], _∷_, _++_}
 use Prim.Native.Nat.{ℕ, zero, suc, _+_, _*_, _/_, _%_, _≤_, _<_}
-use native.Mathlib.Nat.{add-zero, suc-add, mod-lt, mod-eq-of-lt, mod-add-div', div-div-eq-div-mul, add-mul-mod-self-right}
+use native.Mathlib.Nat.{add-zero, add-assoc, suc-add, mod-lt, mod-eq-of-lt, mod-add-div', div-div-eq-div-mul, add-mul-mod-self-right}
 use native.Mathlib.Omega.{arith}
 use lib.Dec.{T, eqb, ltb, ltb→lt, lit<}
 use lib.ListN.{length, getD, take, drop}
-use lib.Seq.{getD-take, getD-drop}
+use lib.Seq.{getD-take, getD-drop, getD-append-add}
 use lib.Ieee.{Float, nan, binary32, isNan, fits, ofBits, toBits}
 use lib.Ieee.Fits.{nan-fits}
 use lib.Ieee.Bits.{ofBits-toBits, toBits-lt, toBits-ofBits, ofBits-fits}
 use Rattle.relay_math.specs.declared.Vec3.{Vec3}
-use Rattle.words.specs.Words.{word, float, vec, floatsOfVec, floatOf, bits, canon, flag, wordsOf, bytesOf, AllFit, Holds}
+use Rattle.words.specs.Words.{fourBytes, word, float, vec, floatsOfVec, floatOf, bits, canon, flag, wordsOf, bytesOf, AllFit, Holds}
 
 -- four bytes by weight are the word, below 2 ^ 32
 four : (w : ℕ) → w % 256 + w / 256 % 256 * 256 + w / 65536 % 256 * 65536 + w / 16777216 % 256 * 16777216 ≡ w % 4294967296
@@ -41,6 +41,12 @@ word-bytesOf (w ∷ ws) zero = four w
 word-bytesOf (w ∷ ws) (suc k) =
     let e : 4 * suc k ≡ suc (suc (suc (suc (4 * k)))) = omega arith in
     simp (e, suc-add) (word-bytesOf ws k)
+
+-- a word that stands past the first of two lists is the second's
+pub four-after : (a b : List ℕ) (i : ℕ) → fourBytes (a ++ b) (length a + i) ≡ fourBytes b i
+four-after a b i =
+    let n = length a in
+    rw (add-assoc n i 1, add-assoc n i 2, add-assoc n i 3, getD-append-add a b i 0, getD-append-add a b (i + 1) 0, getD-append-add a b (i + 2) 0, getD-append-add a b (i + 3) 0)
 
 -- every word of an f32 is one of 32 bits
 pub bits-lt : (x : Float) → T (fits binary32 x) → bits x < 4294967296

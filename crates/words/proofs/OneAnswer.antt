@@ -36,3 +36,6 @@ put-three-once κs a x y v w p q = (refl, both (no-second (p .is) (q .is)) refl)
 
 pub put-vec-once : OneAnswer write.put_vec.ended write.put_vec.Reads.Post
 put-vec-once κs a x y v w p q = (refl, both (no-second (p .is) (q .is)) refl)
+
+pub put-bytes-once : OneAnswer write.put_bytes.ended write.put_bytes.Reads.Post
+put-bytes-once κs a x y v w p q = (refl, both (no-second p q) refl)

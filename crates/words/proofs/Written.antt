@@ -4,9 +4,10 @@ use mathlib.Core.Logic.{_⊎_, inl, inr, ⊎-elim}
 use mathlib.Core.List.{List, [], _∷_, _++_, append-nil}
 use Prim.Native.Nat.{ℕ, suc, _+_, _*_, _%_, _≤_, _<_}
 use native.Mathlib.Nat.{add-zero, add-assoc}
+use native.Mathlib.Numerals.{add-one}
 use native.Mathlib.Omega.{arith}
 use lib.ListN.{length, getD, set, take, drop, length-append, drop-of-length-le, List·getD-append}
-use lib.Seq.{sets, sets-eq, length-sets, length-take-le, getD-set-other, getD-append-add}
+use lib.Seq.{sets, sets-eq, length-sets, length-take-le, take-suc, getD-set-other, getD-append-add}
 use Rattle.words.specs.Words.{word, bytesOf, Put}
 use Rattle.words.proofs.Back.{word-bytesOf}
 
@@ -18,11 +19,17 @@ pub bytesOf-append : (a b : List ℕ) → bytesOf (a ++ b) ≡ bytesOf a ++ byte
 bytesOf-append [] b = refl
 bytesOf-append (w ∷ a) b = rw (bytesOf-append a b)
 
-sets-append : (b : List ℕ) (i : ℕ) (u v : List ℕ) → sets (sets b i u) (i + length u) v ≡ sets b i (u ++ v)
+pub sets-append : (b : List ℕ) (i : ℕ) (u v : List ℕ) → sets (sets b i u) (i + length u) v ≡ sets b i (u ++ v)
 sets-append b i [] v = rw add-zero
 sets-append b i (x ∷ u) v =
     let e : i + suc (length u) ≡ suc i + length u = omega arith in
     rw e (sets-append _ (suc i) u v)
+
+-- one byte more of a run
+pub one-more : (b : List ℕ) (at : ℕ) (from : List ℕ) (i : ℕ) → i < length from → set (sets b at (take i from)) (at + i) (getD from i 0) ≡ sets b at (take (i + 1) from)
+one-more b at from i h =
+    let e : at + i ≡ at + length (take i from) = rw (length-take-le i from (omega arith)) in
+    rw (e, add-one i, take-suc from i 0 h) (sets-append b at (take i from) (getD from i 0 ∷ []))
 
 -- one run after another is one run
 pub then : {b s t : List ℕ} {k j : ℕ} {u v : List ℕ} → Put b k u s → Put s j v t → j ≡ k + length u → Put b k (u ++ v) t
@@ -39,14 +46,17 @@ pub put-splits : {b t : List ℕ} {k : ℕ} {ws : List ℕ} → Put b k ws t →
 put-splits {b} {t} {k} {ws} p h = p .is ∙ sets-eq (bytesOf ws) b (4 * k) (omega (arith, length-bytesOf ws))
 
 -- a buffer written whole no longer depends on what it held
+pub over-all : (b vs : List ℕ) → length b ≡ length vs → sets b 0 vs ≡ vs
+over-all b vs h =
+    let n : length b ≤ 0 + length vs = omega arith in
+    sets-eq vs b 0 (omega arith) ∙ rw (drop-of-length-le b n) (append-nil vs)
+
 pub whole : {b t : List ℕ} {ws : List ℕ} → Put b 0 ws t → length b ≡ 4 * length ws → t ≡ bytesOf ws
-whole {b} {t} {ws} p h =
-    let n : length b ≤ 0 + length (bytesOf ws) = omega (arith, length-bytesOf ws) in
-    p .is ∙ sets-eq (bytesOf ws) b 0 (omega (arith, length-bytesOf ws)) ∙ rw (drop-of-length-le b n) (append-nil (bytesOf ws))
+whole {b} {t} {ws} p h = p .is ∙ over-all b (bytesOf ws) (omega (arith, length-bytesOf ws))
 
 -- ---- byte by byte and word by word
 
-sets-other : (vs b : List ℕ) (n i : ℕ) → (i < n) ⊎ (n + length vs ≤ i) → getD (sets b n vs) i 0 ≡ getD b i 0
+pub sets-other : (vs b : List ℕ) (n i : ℕ) → (i < n) ⊎ (n + length vs ≤ i) → getD (sets b n vs) i 0 ≡ getD b i 0
 sets-other [] b n i h = refl
 sets-other (v ∷ vs) b n i h =
     sets-other vs (set b n v) (suc n) i (⊎-elim (λ l. inl (omega arith)) (λ r. inr (omega arith)) h)

@@ -1,9 +1,10 @@
-// Words, floats and vectors into bytes. A written run says which words it put where, and so that every other byte stays.
+// Words, floats, vectors and plain bytes into bytes. A written run says which words it put where, and so that every other byte stays.
 use relay_math::Vec3;
 ghost use mathlib.Core.Path.{_≡_};
 ghost use mathlib.Core.List.{_∷_, []};
 ghost use Prim.Native.Nat.{_+_, _*_, _≤_};
 ghost use lib.ListN.{length};
+ghost use lib.Seq.{sets};
 ghost use Rattle.words.specs.Words.{bits, flag, wordsOf, floatsOfVec, Put};
 
 pub fn put_word(bytes: &mut [u8], k: usize, w: u32)
@@ -60,4 +61,16 @@ pub fn put_vec(bytes: &mut [u8], k: usize, v: Vec3)
     ensures { λ _. ⌜ Put (now (bytes .entry)) k (wordsOf (floatsOfVec v)) (now (bytes .exit)) ⌝ }
 {
     put_three(bytes, k, v.0, v.1, v.2);
+}
+
+// Bytes as they stand, from any byte on.
+pub fn put_bytes(bytes: &mut [u8], at: usize, from: &[u8])
+    requires { ⌜ at + length (now from) ≤ length (now bytes) ⌝ }
+    ensures { λ _. ⌜ now (bytes .exit) ≡ sets (now (bytes .entry)) at (now (from .entry)) ⌝ }
+{
+    let mut i = 0;
+    while i < from.len() {
+        bytes[at + i] = from[i];
+        i += 1;
+    }
 }

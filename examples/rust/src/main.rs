@@ -1,8 +1,8 @@
-//! Sets up an image, ticks it along a slow pass and prints who flies; then two calls that are refused.
+//! Sets up an image, ticks it along a slow pass, keeps a log of it and prints who flies; then the log read back, and two calls that are refused.
 //!
 //!   make core && cargo run --offline --manifest-path examples/rust/Cargo.toml
 
-use fosavalo::{calls, BodyRate, GyroFilter, Image, Pilot, Refusal, Segment, SetUp, TickInput};
+use fosavalo::{calls, BodyRate, GyroFilter, Image, Log, LogView, Pilot, Refusal, Segment, SetUp, TickInput};
 
 /// Roll rates that take the margin above exit, into the band, below enter, into the band again and out at the top.
 const RATES: [f32; 8] = [1.8, 1.0, 1.75, 1.8, 1.9, 1.8, 1.75, 1.0];
@@ -16,6 +16,7 @@ fn main() -> Result<(), Refusal> {
     };
     let mut image = Image::set_up(&set_up)?;
     println!("{image:?}");
+    let mut log = Log::new();
 
     for (tick, rate) in RATES.iter().enumerate() {
         let input = TickInput {
@@ -25,12 +26,18 @@ fn main() -> Result<(), Refusal> {
             ..TickInput::default()
         };
         let answer = image.tick(&input)?;
+        log.append(&input, &answer)?;
         let who = match answer.pilot {
             Pilot::Planner => "planner",
             Pilot::Fallback => "fallback",
         };
         println!("tick {}: margin {:7.4}, {who:8} flies {:?}, torque {:?}", tick + 1, answer.margin, answer.command.0, answer.torque.0);
     }
+
+    // the log's bytes are what would go to a file and come back from it
+    let flown = LogView::from_bytes(log.as_bytes())?;
+    let margins: Vec<f32> = flown.iter().map(|record| record.answer().margin).collect();
+    println!("the log, {} records, has the margins {margins:?}", flown.len());
 
     // an image whose latch is neither 0 nor 1; then an answer that is too short, by the calls on bytes
     let mut bytes = *image.as_bytes();

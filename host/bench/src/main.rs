@@ -1,6 +1,7 @@
 //! `make bench`: each of our calls beside what it is measured against, through the same kind of call, in one run.
 
 mod joint;
+mod log;
 mod stack;
 
 use std::hint::black_box;
@@ -63,6 +64,27 @@ fn line(name: &str, (ours, theirs): (f64, f64), bar: f64) -> bool {
     ratio <= bar
 }
 
+/// The longest log beside the shortest: what goes with the length would be thousands of times as much. A bar leaves room for what the longest
+/// log, seven megabytes, costs the memory.
+fn logs() -> bool {
+    let Some(times) = log::times() else {
+        println!("flight log: a call is refused");
+        return false;
+    };
+    let mut good = true;
+    for (name, times, bar) in [("append", times.append, 1.5), ("read, a record", times.read, 3.0)] {
+        let [one, thousand, most] = times;
+        let (ratio, [_, _, count]) = (most / one, log::COUNTS);
+        let verdict = if ratio <= bar { "within" } else { "OVER" };
+        println!(
+            "{:48} 1: {one:5.2} ns  1000: {thousand:5.2} ns  {count}: {most:5.2} ns  ratio {ratio:5.2}  ({verdict} the bar of {bar})",
+            format!("flight log, {name}, by the records in it")
+        );
+        good &= ratio <= bar;
+    }
+    good
+}
+
 fn main() {
     let mut rng = Rng(1);
     let positive: Vec<f32> = (0..CALLS).map(|_| (rng.next() * 1000.0) as f32).collect();
@@ -97,6 +119,7 @@ fn main() {
             None => println!("  .. and the stack that one tick takes: not measured on this machine"),
         }
     }
+    good &= logs();
     if !good {
         std::process::exit(1);
     }

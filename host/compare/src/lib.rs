@@ -4,6 +4,7 @@ pub mod answers;
 pub mod exact;
 pub mod generate;
 pub mod joint;
+pub mod log;
 pub mod numbers;
 pub mod progress;
 pub mod routine;

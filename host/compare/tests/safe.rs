@@ -1,13 +1,17 @@
 //! The safe crate beside what the comparison knows of the calls.
 
 use compare::joint::bytes;
+use compare::log;
 use faces::{adrc, geo, Vec3};
 
 #[test]
 fn the_same_lengths() {
     use fosavalo::{ANSWER_BYTES, IMAGE_BYTES, LEG_BYTES, ROUTE_TRAILER_BYTES, SETUP_BYTES, TICK_BYTES};
+    use fosavalo::{EMPTY_LOG, LOG_TRAILER_BYTES, MOST_RECORDS, RECORD_BYTES};
     assert_eq!((IMAGE_BYTES, SETUP_BYTES, TICK_BYTES, ANSWER_BYTES), (bytes::IMAGE, bytes::SETUP, bytes::TICK, bytes::ANSWER));
     assert_eq!((LEG_BYTES, ROUTE_TRAILER_BYTES), (bytes::LEG, bytes::TRAILER));
+    assert_eq!((RECORD_BYTES, LOG_TRAILER_BYTES, MOST_RECORDS), (log::RECORD, log::TRAILER, log::MOST));
+    assert_eq!(EMPTY_LOG[..], log::model::written(&[]));
 }
 
 /// Its falcon_quad has relay's gains.

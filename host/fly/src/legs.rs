@@ -67,8 +67,8 @@ pub fn fly(seed: u64) -> Result<Flight, Refusal> {
 /// What happened on each leg.
 pub fn table() -> Result<String, Refusal> {
     let (flight, legs) = (fly(pass::DRAWN)?, legs());
-    let leg_of = |tick: &crate::flight::Tick| flown(&legs, tick.answer.time).0;
-    let changes = flight.changes();
+    let leg_of = |tick: &crate::ticks::Tick| flown(&legs, tick.answer.time).0;
+    let changes = flight.ticks.changes();
     let mut text = format!("A pass of three legs on a route, seed {}, our shield: {} ticks\n\n", pass::DRAWN, flight.ticks.len());
     let _ = writeln!(text, "{:6}   {:>7} {:>7} {:>7} {:>9} {:>10}", "", "seconds", "ticks", "changes", "planner", "furthest");
     for at in 0..legs.len() {

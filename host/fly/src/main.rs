@@ -64,11 +64,10 @@ fn say(text: &str) -> Result<(), String> {
 fn from_file(path: &Path) -> Result<(String, String, Vec<Pair>), String> {
     let bytes = std::fs::read(path).map_err(|error| format!("{}: {error}", path.display()))?;
     let scenario = Scenario::read(&bytes).map_err(|mistake| format!("{}: {mistake}", path.display()))?;
-    let stem = path.file_stem().map_or("flight".into(), |stem| stem.to_string_lossy());
-    let name: String = stem.chars().map(|c| if c.is_ascii_alphanumeric() || c == '-' { c } else { '_' }).collect();
+    let name = output::name(path);
     let fly = |rule| Flight::of(&scenario.set_up, rule, scenario.route.clone(), &scenario.inputs);
     let pair = Pair::new(name.clone(), fly).map_err(|refusal| refusal.to_string())?;
     let [ours, _] = &pair.flights;
-    let title = format!("{name}: {:.3} s in {} ticks, enter {}, exit {}", ours.seconds(), ours.ticks.len(), ours.enter, ours.exit);
+    let title = format!("{name}: {:.3} s in {} ticks, enter {}, exit {}", ours.ticks.seconds(), ours.ticks.len(), ours.enter, ours.exit);
     Ok((name, title, vec![pair]))
 }

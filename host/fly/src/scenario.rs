@@ -254,7 +254,8 @@ fn numbers((name, _, count): Field, words: &[&str]) -> Result<Vec<f32>, Wrong> {
     words.iter().map(|word| number(word).map_err(|what| (name.to_string(), what))).collect()
 }
 
-fn number(word: &str) -> Result<f32, String> {
+/// A decimal, `nan`, `inf`, `-inf`, or `0x` and the bits.
+pub fn number(word: &str) -> Result<f32, String> {
     if let Some(bits) = word.strip_prefix("0x") {
         let hex = bits.len() <= 8 && bits.bytes().all(|byte| byte.is_ascii_hexdigit());
         return match u32::from_str_radix(bits, 16) {

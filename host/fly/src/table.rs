@@ -30,7 +30,7 @@ pub fn choices() -> Result<String, Refusal> {
     for choice in &pass::CHOICES {
         let pairs = passes(choice)?;
         let range = |at: fn(&Pair) -> &Flight| {
-            let changes = || pairs.iter().map(|pair| at(pair).changes().len());
+            let changes = || pairs.iter().map(|pair| at(pair).ticks.changes().len());
             format!("{} to {}", changes().min().unwrap_or(0), changes().max().unwrap_or(0))
         };
         let _ = writeln!(text, "{:32}{:>16}{:>20}", choice.name, range(|pair| &pair.flights[0]), range(|pair| &pair.flights[1]));
@@ -52,8 +52,13 @@ pub fn table(title: &str, pairs: &[Pair]) -> String {
     for pair in pairs {
         let [ours, earlier] = &pair.flights;
         let cells = |flight: &Flight| {
-            let (_, worst) = flight.busiest(1.0);
-            format!("{:7} {worst:12} {:7.1} % {:8.1}", flight.changes().len(), 100.0 * flight.planner_share(), flight.jolts())
+            let (_, worst) = flight.ticks.busiest(1.0);
+            format!(
+                "{:7} {worst:12} {:7.1} % {:8.1}",
+                flight.ticks.changes().len(),
+                100.0 * flight.ticks.planner_share(),
+                flight.ticks.jolts()
+            )
         };
         let _ = writeln!(text, "{:width$}   {:^39}   {:^39}", pair.name, cells(ours), cells(earlier));
     }

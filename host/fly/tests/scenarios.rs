@@ -115,7 +115,7 @@ fn the_examples() {
         flight
     };
     let band = include_bytes!("../scenarios/band.txt");
-    assert_eq!((pilots(band, Rule::Shield).changes().len(), pilots(band, Rule::Earlier).changes().len()), (7, 15));
+    assert_eq!((pilots(band, Rule::Shield).ticks.changes().len(), pilots(band, Rule::Earlier).ticks.changes().len()), (7, 15));
     let headings = pilots(include_bytes!("../scenarios/headings.txt"), Rule::Shield);
     let flew: Vec<Pilot> = [100, 220, 300, 380, 450, 560].iter().map(|at| headings.ticks[*at].answer.pilot).collect();
     use Pilot::{Fallback, Planner};

@@ -38,6 +38,17 @@ mod raw {
             answer_len: usize,
         ) -> u32;
         pub fn fosavalo_tick_refusal(image: *const u8, image_len: usize, input_len: usize, answer_len: usize) -> u32;
+        pub fn fosavalo_log_append(
+            buffer: *mut u8,
+            buffer_len: usize,
+            log_len: u64,
+            input: *const u8,
+            input_len: usize,
+            answer: *const u8,
+            answer_len: usize,
+        ) -> u32;
+        pub fn fosavalo_log_count(log: *const u8, log_len: usize, count: *mut u8, count_len: usize) -> u32;
+        pub fn fosavalo_log_record(log: *const u8, log_len: usize, place: u64, record: *mut u8, record_len: usize) -> u32;
     }
 }
 
@@ -121,4 +132,55 @@ pub fn route_tick(image: &mut [u8], input: &[u8], route: &[u8], answer: &mut [u8
 pub fn tick_refusal(image: &[u8], input_len: usize, answer_len: usize) -> u32 {
     // SAFETY: as above.
     unsafe { raw::fosavalo_tick_refusal(image.as_ptr(), image.len(), input_len, answer_len) }
+}
+
+/// Appends a tick's input and its answer to the log in the first `log_len` bytes of the buffer, which is then 108 bytes longer; no other byte
+/// is changed. Gives 0, 2, 3, 8 or 9.
+///
+/// ```
+/// use fosavalo::{calls, ANSWER_BYTES, EMPTY_LOG, TICK_BYTES};
+///
+/// // room for one record
+/// let mut buffer = [0; 120];
+/// buffer[..12].copy_from_slice(&EMPTY_LOG);
+/// let mut append = |log_len| calls::log_append(&mut buffer, log_len, &[1; TICK_BYTES], &[2; ANSWER_BYTES]);
+/// assert_eq!(append(121), 8); // longer than the buffer
+/// assert_eq!(append(12), 0);
+/// assert_eq!(append(120), 9); // no room
+/// ```
+#[inline]
+pub fn log_append(buffer: &mut [u8], log_len: u64, input: &[u8], answer: &[u8]) -> u32 {
+    let buffer_len = buffer.len();
+    // SAFETY: as above.
+    unsafe {
+        raw::fosavalo_log_append(buffer.as_mut_ptr(), buffer_len, log_len, input.as_ptr(), input.len(), answer.as_ptr(), answer.len())
+    }
+}
+
+/// How many records these bytes have as a log, into four bytes. Gives 0, 2 or 8.
+///
+/// ```
+/// let mut count = [0xa5; 4];
+/// assert_eq!(fosavalo::calls::log_count(&fosavalo::EMPTY_LOG, &mut count), 0);
+/// assert_eq!(u32::from_le_bytes(count), 0);
+/// assert_eq!(fosavalo::calls::log_count(&[0; 12], &mut count), 8);
+/// ```
+#[inline]
+pub fn log_count(log: &[u8], count: &mut [u8]) -> u32 {
+    // SAFETY: as above.
+    unsafe { raw::fosavalo_log_count(log.as_ptr(), log.len(), count.as_mut_ptr(), count.len()) }
+}
+
+/// The record at a place, counted from 0, into 108 bytes. Gives 0, 8, 13 or 14.
+///
+/// ```
+/// use fosavalo::{calls, EMPTY_LOG, RECORD_BYTES};
+///
+/// assert_eq!(calls::log_record(&EMPTY_LOG, 0, &mut [0; RECORD_BYTES]), 13); // it has none
+/// assert_eq!(calls::log_record(&EMPTY_LOG, 0, &mut [0; RECORD_BYTES - 1]), 14);
+/// ```
+#[inline]
+pub fn log_record(log: &[u8], place: u64, record: &mut [u8]) -> u32 {
+    // SAFETY: as above.
+    unsafe { raw::fosavalo_log_record(log.as_ptr(), log.len(), place, record.as_mut_ptr(), record.len()) }
 }

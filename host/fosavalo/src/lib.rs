@@ -24,6 +24,7 @@
 //! |---|---|
 //! | numbers | [`SetUp`], [`Image::set_up`], [`TickInput`], [`Image::tick`], [`Answer`] |
 //! | a path of several legs | [`Leg`], [`Route`], [`Image::route_tick`] |
+//! | ticks to keep, or a flight to look at | [`Log`], [`LogView`], [`Record`] |
 //! | bytes of your own | [`calls`]: the C calls as they are, on slices |
 //! | a refusal's number | [`Refusal`] |
 //! | an angle | [`sinf`], [`cosf`] |
@@ -37,6 +38,7 @@
 
 pub mod calls;
 mod image;
+mod log;
 mod refusal;
 mod route;
 mod setup;
@@ -45,6 +47,7 @@ mod words;
 
 pub use calls::{cosf, sinf};
 pub use image::Image;
+pub use log::{Log, LogView, Record, Records};
 pub use refusal::Refusal;
 pub use route::{Leg, Route};
 pub use setup::{AdrcGains, Gains, Governor, GyroFilter, RecoverableSet, Segment, SetUp};
@@ -64,3 +67,11 @@ pub const LEG_BYTES: usize = 76;
 pub const ROUTE_TRAILER_BYTES: usize = 8;
 /// The most legs that a route has.
 pub const MOST_LEGS: usize = 8;
+/// The length of a record of a log: a tick's input and its answer.
+pub const RECORD_BYTES: usize = TICK_BYTES + ANSWER_BYTES;
+/// The length of what stands behind the records of a log.
+pub const LOG_TRAILER_BYTES: usize = 12;
+/// The most records that a log has.
+pub const MOST_RECORDS: usize = 65_535;
+/// A log of no record: no count, nothing back, and the length of a record.
+pub const EMPTY_LOG: [u8; LOG_TRAILER_BYTES] = [0, 0, 0, 0, 0, 0, 0, 0, RECORD_BYTES as u8, 0, 0, 0];

@@ -80,8 +80,11 @@ impl TickInput {
         if bytes.len() != TICK_BYTES {
             return Err(Refusal::InputLength);
         }
-        let mut from = Take(bytes);
-        Ok(TickInput {
+        Ok(TickInput::take(&mut Take(bytes)))
+    }
+
+    pub(crate) fn take(from: &mut Take) -> Self {
+        TickInput {
             gyro: BodyRate(from.floats()),
             attitude: from.floats(),
             tracking_error: from.float(),
@@ -90,7 +93,7 @@ impl TickInput {
             dt: from.float(),
             planner: BodyRate(from.floats()),
             delivered: from.floats(),
-        })
+        }
     }
 }
 
@@ -142,14 +145,17 @@ impl Answer {
         if bytes.len() != ANSWER_BYTES {
             return Err(Refusal::AnswerLength);
         }
-        let mut from = Take(bytes);
-        Ok(Answer {
+        Ok(Answer::take(&mut Take(bytes)))
+    }
+
+    pub(crate) fn take(from: &mut Take) -> Self {
+        Answer {
             torque: Torque(from.floats()),
             command: BodyRate(from.floats()),
             pilot: if from.word() == 0 { Pilot::Planner } else { Pilot::Fallback },
             time: from.float(),
             psi: from.float(),
             margin: from.float(),
-        })
+        }
     }
 }

@@ -1,7 +1,8 @@
 //! Any bytes at all: nothing panics, what is written is read back, and the typed calls are the C calls.
 
-use fosavalo::{calls, Answer, Image, Leg, Refusal, Route, SetUp, TickInput};
+use fosavalo::{calls, Answer, Image, Leg, Log, LogView, Record, Refusal, Route, SetUp, TickInput, EMPTY_LOG};
 use fosavalo::{ANSWER_BYTES, IMAGE_BYTES, LEG_BYTES, MOST_LEGS, ROUTE_TRAILER_BYTES, SETUP_BYTES, TICK_BYTES};
+use fosavalo::{LOG_TRAILER_BYTES, MOST_RECORDS, RECORD_BYTES};
 
 /// Bytes that look like anything: random ones, with words of special floats among them.
 struct Bytes(u64);
@@ -101,6 +102,100 @@ fn routes_of_any_legs() {
     assert!([0, 5, 6, 7].iter().all(|number| seen[*number] > 500), "{seen:?}");
 }
 
+/// What is appended is read back, byte for byte, and the log is that of the C calls; it may be stored and gone on with at any time.
+#[test]
+fn logs_of_any_records() {
+    let mut rng = Bytes(5);
+    for round in 0..300 {
+        let records: Vec<[u8; RECORD_BYTES]> = (0..rng.next() % 40)
+            .map(|_| {
+                let mut record = [0; RECORD_BYTES];
+                rng.fill(&mut record);
+                record
+            })
+            .collect();
+        let mut log = if round % 2 == 0 { Log::new() } else { Log::with_capacity(records.len()) };
+        let (mut buffer, mut len) = ([0xa5; 40 * RECORD_BYTES], LOG_TRAILER_BYTES);
+        buffer[..len].copy_from_slice(&EMPTY_LOG);
+        let start = log.as_bytes().as_ptr();
+        for (at, record) in records.iter().enumerate() {
+            let (input, answer) = record.split_at(TICK_BYTES);
+            assert_eq!(log.append_bytes(input, answer), Ok(()));
+            assert_eq!(calls::log_append(&mut buffer, len as u64, input, answer), 0);
+            len += RECORD_BYTES;
+            assert_eq!((log.as_bytes(), log.len(), log.is_empty()), (&buffer[..len], at + 1, false));
+            if round % 2 == 0 && rng.next() & 7 == 0 {
+                log = Log::from_bytes(log.as_bytes()).expect("it is a log");
+            }
+        }
+        assert!(round % 2 == 0 || log.as_bytes().as_ptr() == start, "it was moved");
+        let mut read = LogView::from_bytes(log.as_bytes()).expect("it is a log").iter();
+        for (at, record) in records.iter().enumerate() {
+            assert_eq!(read.len(), records.len() - at);
+            let said = read.next().expect("there is one more");
+            assert_eq!((said.as_bytes(), log.view().get(at)), (record, Some(said)));
+            assert!(said.words().iter().flat_map(|word| word.to_le_bytes()).eq(*record));
+            let (input, answer) = record.split_at(TICK_BYTES);
+            assert_eq!(said.input().to_bytes(), input);
+            assert_eq!(Ok(said.answer().to_bytes()), Answer::from_bytes(answer).map(|answer| answer.to_bytes()));
+            let _ = format!("{said:?} {log:?} {read:?}");
+        }
+        assert_eq!(
+            (read.len(), read.next(), read.next(), log.iter().nth(records.len()), log.iter().nth(usize::MAX)),
+            (0, None, None, None, None)
+        );
+        assert_eq!(log.iter().count(), records.len());
+    }
+}
+
+/// Bytes of any length and content are a log exactly where the C call counts them.
+#[test]
+fn logs_of_any_bytes() {
+    let (mut rng, mut logs) = (Bytes(6), 0);
+    for round in 0..20_000usize {
+        let mut bytes = vec![0; round % 400];
+        rng.fill(&mut bytes);
+        if let (Some(at), true) = (bytes.len().checked_sub(LOG_TRAILER_BYTES), round % 3 != 0) {
+            let count = at / RECORD_BYTES + (rng.next() & 3 == 0) as usize;
+            let words = [count, RECORD_BYTES * count, RECORD_BYTES];
+            bytes[at..].iter_mut().zip(words.iter().flat_map(|w| (*w as u32).to_le_bytes())).for_each(|(own, byte)| *own = byte);
+        }
+        let mut count = [0xa5; 4];
+        let number = calls::log_count(&bytes, &mut count);
+        match LogView::from_bytes(&bytes) {
+            Err(refusal) => {
+                assert_eq!((refusal, number, count), (Refusal::BrokenLog, 8, [0xa5; 4]));
+                assert_eq!(Log::from_bytes(&bytes), Err(Refusal::BrokenLog));
+            }
+            Ok(log) => {
+                assert_eq!((number, log.len()), (0, u32::from_le_bytes(count) as usize));
+                assert_eq!(log.iter().flat_map(|record| *record.as_bytes()).count() + LOG_TRAILER_BYTES, bytes.len());
+                logs += 1;
+            }
+        }
+    }
+    assert!(logs > 50, "{logs}");
+}
+
+/// A full log takes no more, and is what it was; typed ticks go in as they come out.
+#[test]
+fn a_full_log() {
+    let input = TickInput::default();
+    let answer = Image::set_up(&SetUp::falcon_quad()).and_then(|mut image| image.tick(&input)).expect("no tick from set-up is refused");
+    let mut log = Log::new();
+    for _ in 0..MOST_RECORDS {
+        assert_eq!(log.append(&input, &answer), Ok(()));
+    }
+    let full = log.clone();
+    for _ in 0..3 {
+        assert_eq!(log.append(&input, &answer), Err(Refusal::NoRoom));
+        assert_eq!(log.append_bytes(&[0; 67], &[]), Err(Refusal::InputLength));
+        assert_eq!(log.append_bytes(&[0; 68], &[]), Err(Refusal::AnswerLength));
+    }
+    assert!(log == full && log.len() == MOST_RECORDS && log.iter().all(|record| record == Record::new(&input, &answer)));
+    assert_eq!(Log::with_capacity(usize::MAX), Log::new());
+}
+
 /// Images of any bytes: a tick answers or refuses with 4, and then nothing is changed.
 #[test]
 fn images_of_any_bytes() {
@@ -153,6 +248,9 @@ fn the_header() {
         ("LEG_BYTES", LEG_BYTES),
         ("ROUTE_TRAILER_BYTES", ROUTE_TRAILER_BYTES),
         ("MOST_LEGS", MOST_LEGS),
+        ("RECORD_BYTES", RECORD_BYTES),
+        ("LOG_TRAILER_BYTES", LOG_TRAILER_BYTES),
+        ("MOST_RECORDS", MOST_RECORDS),
     ] {
         assert_eq!(defined(name), Some(length), "{name}");
     }
@@ -164,6 +262,10 @@ fn the_header() {
         ("WRONG_LEG_COUNT", Refusal::LegCount, vec![MOST_LEGS]),
         ("WRONG_ROUTE_LENGTH", Refusal::RouteLength, vec![LEG_BYTES, ROUTE_TRAILER_BYTES]),
         ("LEGS_APART", Refusal::LegsApart, vec![]),
+        ("BROKEN_LOG", Refusal::BrokenLog, vec![RECORD_BYTES]),
+        ("NO_ROOM", Refusal::NoRoom, vec![RECORD_BYTES, MOST_RECORDS]),
+        ("NO_RECORD", Refusal::NoRecord, vec![]),
+        ("WRONG_RECORD_LENGTH", Refusal::RecordLength, vec![RECORD_BYTES]),
     ] {
         assert_eq!(defined(name), Some(refusal.number() as usize), "{name}");
         assert!(lengths.iter().all(|length| refusal.meaning().contains(&length.to_string())), "{refusal}");

@@ -1,0 +1,6 @@
+pub mod Taken
+pub mod Apart
+pub mod Made
+pub mod Reading
+pub mod Refused
+pub mod OneAnswer

@@ -1,0 +1,123 @@
+-- Over any sequence of appends from the empty log: what is read back, and that none of it is refused. Assumes nothing.
+use mathlib.Core.Path.{_≡_, refl, sym, ap, _∙_}
+use mathlib.Core.Bool.{Bool, true, false, cond}
+use mathlib.Core.List.{List, [], _∷_, _++_, append-assoc, append-nil}
+use Prim.Native.Nat.{ℕ, zero, suc, _+_, _-_, _<_}
+use native.Mathlib.Nat.{zero-add, add-zero}
+use native.Mathlib.Numerals.{add-one}
+use native.Mathlib.Omega.{arith}
+use borrow.Author.Tests.{lt-ltb, le-ltb}
+use lib.ListN.{length, take, getD, replicate}
+use Rattle.log.specs.declared.outcome.Outcome.the-variants.{Done}
+use Rattle.log.specs.Outcomes.{isDone}
+use Rattle.log.specs.Form.{RECORD-BYTES, TRAILER-BYTES, emptyLog, fromEnd, countOf, isLog, logRefusal}
+use Rattle.log.specs.Records.{bytesAt, recordsFrom, records, hasRecord, recordAt, placeAfter, handedOut}
+use Rattle.log.specs.Entry.{left, withRecord, appendCall}
+use Rattle.log.specs.Runs.{Held, logIn, Given, refusalOf, afterOne, keptBy, afterAll, keptAlong, Accepted, recordsOf, atFirst}
+use Rattle.log.proofs.Taken.{taken}
+use Rattle.log.proofs.Made.{records-of, one-more-record}
+
+-- ---- one append, accepted or refused, and any number of them
+
+-- a log, whose records are these
+abbrev Keeps : List ℕ → List (List ℕ) → Type 0
+Keeps log rs = (isLog log ≡ true) × (records log ≡ rs)
+
+one : (h : Held) (g : Given) → isLog (logIn h) ≡ true → Keeps (logIn (afterOne h g)) (records (logIn h) ++ keptBy h g)
+unfolding appendCall
+one h g e = go (isDone (refusalOf h g)) refl
+  where
+    go : (t : Bool) → isDone (refusalOf h g) ≡ t
+        → Keeps (take (cond t (h .len + RECORD-BYTES) (h .len)) (cond t (left Done (withRecord (h .buffer) (h .len - TRAILER-BYTES) (countOf (logIn h) + 1) (g .input) (g .answer))) (left (refusalOf h g) (h .buffer)) .buffer))
+        (records (logIn h) ++ cond t ((g .input ++ g .answer) ∷ []) [])
+    go true d = one-more-record (h .buffer) (h .len) (g .input) (g .answer) (taken (h .buffer) (h .len) (length (g .input)) (length (g .answer)) d)
+    go false d = (e, sym (append-nil (records (logIn h))))
+
+-- after any appends on a log: a log, with the old records and then those kept
+pub after-appends : (h : Held) (appends : List Given) → isLog (logIn h) ≡ true → Keeps (logIn (afterAll h appends)) (records (logIn h) ++ keptAlong h appends)
+unfolding afterAll keptAlong
+after-appends h [] e = (e, sym (append-nil (records (logIn h))))
+after-appends h (g ∷ more) e =
+    let o = one h g e in
+    let r = after-appends (afterOne h g) more (o .0) in
+    (r .0, r .1 ∙ ap (λ (rs : List (List ℕ)). rs ++ keptAlong (afterOne h g) more) (o .1) ∙ append-assoc (records (logIn h)) (keptBy h g) (keptAlong (afterOne h g) more))
+
+-- ---- reading a log
+
+-- from a place on, with m records left: these, and then none for ever
+from-here : (b : List ℕ) (k m i : ℕ) → isLog b ≡ true → countOf b ≡ i + m → handedOut b i (m + k) ≡ recordsFrom b m i ++ replicate k []
+unfolding handedOut recordAt placeAfter hasRecord
+from-here b k zero i l e = rw (zero-add k) (none k)
+  where
+    none : (k : ℕ) → handedOut b i k ≡ replicate k []
+    none zero = refl
+    none (suc k) = rw (l, le-ltb i (countOf b) (omega arith), none k)
+from-here b k (suc m) i l e =
+    let s : suc m + k ≡ suc (m + k) = omega arith in
+    rw (s, l, lt-ltb i (countOf b) (omega arith), add-one i, from-here b k m (suc i) l (omega arith))
+
+length-from : (b : List ℕ) (n i : ℕ) → length (recordsFrom b n i) ≡ n
+length-from b zero i = refl
+length-from b (suc n) i = ap suc (length-from b n (suc i))
+
+pub records-count : (b : List ℕ) → isLog b ≡ true → length (records b) ≡ countOf b
+records-count b l = rw (records-of b l) (length-from b (countOf b) 0)
+
+-- the record at a place is the list's
+at-from : (b : List ℕ) (n i j : ℕ) → j < n → getD (recordsFrom b n i) j [] ≡ bytesAt b (i + j)
+at-from b zero i j h = absurd (omega (arith, h))
+at-from b (suc n) i zero h = rw (add-zero i)
+at-from b (suc n) i (suc j) h = let e : i + suc j ≡ suc i + j = omega arith in rw e (at-from b n (suc i) j (omega arith))
+
+pub record-is : (b : List ℕ) (i : ℕ) → isLog b ≡ true → i < countOf b → recordAt b i ≡ getD (records b) i []
+unfolding recordAt hasRecord
+record-is b i l h = rw (l, lt-ltb i (countOf b) h, records-of b l, at-from b (countOf b) 0 i h, zero-add i)
+
+-- "handing out one record at a time .. and then says that there is none": all records in order, and then none for ever
+pub reader-hands-out : (b : List ℕ) → isLog b ≡ true → (k : ℕ) → handedOut b 0 (length (records b) + k) ≡ records b ++ replicate k []
+reader-hands-out b l k =
+    let n = countOf b in
+    rw (records-count b l, records-of b l) (from-here b k n 0 l (sym (zero-add n)))
+
+-- a reader made on what is no log hands out nothing
+pub nothing-of-no-log : (b : List ℕ) (i n : ℕ) → isLog b ≡ false → handedOut b i n ≡ replicate n []
+unfolding handedOut recordAt placeAfter hasRecord
+nothing-of-no-log b i zero e = refl
+nothing-of-no-log b i (suc n) e = rw (e, nothing-of-no-log b i n e)
+
+-- ---- "An empty log is the trailer 0, 0, 108."
+
+empty-is : (isLog emptyLog ≡ true) × (records emptyLog ≡ [])
+unfolding isLog fromEnd records
+empty-is = (refl, refl)
+
+module _ (beyond : List ℕ) (appends : List Given) where
+  abbrev log : List ℕ
+  log = logIn (afterAll (atFirst beyond) appends)
+
+  abbrev kept : List (List ℕ)
+  kept = keptAlong (atFirst beyond) appends
+
+  made : Keeps log kept
+  made = let a = after-appends (atFirst beyond) appends (empty-is .0) in (a .0, a .1 ∙ ap (λ (rs : List (List ℕ)). rs ++ kept) (empty-is .1))
+
+  -- a log that append made is never refused
+  pub never-refused : logRefusal log ≡ Done
+  never-refused = rw (made .0)
+
+  pub records-kept : records log ≡ kept
+  records-kept = made .1
+
+  -- "Reading back gives exactly the records appended, in order, and then says that there is none." Appends that were refused may stand among them.
+  pub reading-back : (k : ℕ) → handedOut log 0 (length kept + k) ≡ kept ++ replicate k []
+  reading-back k = rw records-kept at (reader-hands-out log (made .0) k)
+
+kept-all : (h : Held) (appends : List Given) → Accepted h appends → keptAlong h appends ≡ recordsOf appends
+unfolding Accepted keptAlong recordsOf
+kept-all h [] a = refl
+kept-all h (g ∷ more) a = rw (kept-all (afterOne h g) more (a .1), a .0)
+
+-- and if none was: all that was given
+pub reading-back-all : (beyond : List ℕ) (appends : List Given) → Accepted (atFirst beyond) appends → (k : ℕ)
+    → let rs = recordsOf appends in handedOut (logIn (afterAll (atFirst beyond) appends)) 0 (length rs + k) ≡ rs ++ replicate k []
+reading-back-all beyond appends a k = rw (kept-all (atFirst beyond) appends a) at (reading-back beyond appends k)

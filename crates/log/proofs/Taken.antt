@@ -1,0 +1,149 @@
+-- What bytes that are a log have, and what an append that is not refused has. Assumes nothing.
+use mathlib.Core.Path.{_≡_, refl, sym, _∙_}
+use mathlib.Core.Bool.{Bool, true, false, not, cond, _&&_, _||_}
+use mathlib.Core.List.{List, _++_}
+use Prim.Native.Nat.{ℕ, _+_, _-_, _*_, _/_, _≤_, _<_}
+use native.Mathlib.Omega.{arith}
+use borrow.Author.Tests.{leb-true, ltb-true, ltb-false, eqb-true, eqb-false, not-true, not-false}
+use lib.Dec.{eqb, leb, ltb}
+use lib.ListN.{length, take, drop, length-append, length-drop}
+use lib.Seq.{sets, length-take-le}
+use Rattle.words.specs.Words.{Put}
+use Rattle.words.proofs.Written.{sets-append}
+use Rattle.relay_math.proofs.Tests.{no, both}
+use Rattle.image.specs.Layout.{INPUT-BYTES, ANSWER-BYTES}
+use Rattle.log.specs.declared.outcome.Outcome.{Outcome}
+use Rattle.log.specs.declared.outcome.Outcome.the-variants.{Done, InputLength, AnswerLength}
+use Rattle.log.specs.Outcomes.{isDone}
+use Rattle.log.specs.Form.{RECORD-BYTES, TRAILER-BYTES, MOST-RECORDS, trailerWords, trailer, fromEnd, countOf, isLog}
+use Rattle.log.specs.Records.{hasRecord, recordAt}
+use Rattle.log.specs.Entry.{brokenOrFull, appendRefusal, left, withRecord, appendCall, recordCall}
+
+pub record Log (b : List ℕ) : Type 0 where
+  pub trailer : TRAILER-BYTES ≤ length b
+  pub few : countOf b ≤ MOST-RECORDS
+  pub whole : length b ≡ RECORD-BYTES * countOf b + TRAILER-BYTES
+
+pub is-a-log : (b : List ℕ) → isLog b ≡ true → Log b
+unfolding isLog
+is-a-log b e =
+    let n = countOf b in
+    let long = leb TRAILER-BYTES (length b) in
+    let size = eqb (fromEnd b 4) RECORD-BYTES in
+    let few = leb n MOST-RECORDS in
+    let back = eqb (fromEnd b 8) (RECORD-BYTES * n) in
+    let w = both (long && size && few && back) (eqb (length b) (RECORD-BYTES * n + TRAILER-BYTES)) e in
+    let f = both (long && size) few (both (long && size && few) back (w .0) .0) in
+    record {
+      trailer = leb-true TRAILER-BYTES (length b) (both long size (f .0) .0);
+      few = leb-true n MOST-RECORDS (f .1);
+      whole = eqb-true (length b) (RECORD-BYTES * n + TRAILER-BYTES) (w .1);
+    }
+
+-- and what a place has at which there is a record
+pub record There (b : List ℕ) (i : ℕ) : Type 0 where
+  pub few : i < MOST-RECORDS
+  pub within : RECORD-BYTES * i + RECORD-BYTES ≤ length b
+
+pub there : (b : List ℕ) (i : ℕ) → hasRecord b i ≡ true → There b i
+unfolding hasRecord
+there b i e =
+    let t = both (isLog b) (ltb i (countOf b)) e in
+    let l = is-a-log b (t .0) in
+    let h = ltb-true i (countOf b) (t .1) in
+    record { few = omega (arith, l .few); within = omega (arith, l .whole) }
+
+pub record Taken (buffer : List ℕ) (len inputLen answerLen : ℕ) : Type 0 where
+  pub input-length : inputLen ≡ INPUT-BYTES
+  pub answer-length : answerLen ≡ ANSWER-BYTES
+  pub within : len ≤ length buffer
+  pub log : isLog (take len buffer) ≡ true
+  pub len-is : len ≡ RECORD-BYTES * countOf (take len buffer) + TRAILER-BYTES
+  pub room : RECORD-BYTES * countOf (take len buffer) + RECORD-BYTES + TRAILER-BYTES ≤ length buffer
+  pub one-more : countOf (take len buffer) < MOST-RECORDS
+
+lengths : (x y : Bool) (o : Outcome) → isDone (cond (not x) InputLength (cond (not y) AnswerLength o)) ≡ true → (x ≡ true) × (y ≡ true) × (isDone o ≡ true)
+lengths true true o e = (refl, refl, e)
+lengths true false o e = no e
+lengths false y o e = no e
+
+fine : (b f : Bool) → isDone (brokenOrFull b f) ≡ true → (b ≡ false) × (f ≡ false)
+fine false false e = (refl, refl)
+fine false true e = no e
+fine true false e = no e
+fine true true e = no e
+
+neither : (a b : Bool) → (a || b) ≡ false → (a ≡ false) × (b ≡ false)
+neither false b e = (refl, e)
+neither true b e = no (sym e)
+
+pub taken : (buffer : List ℕ) (len inputLen answerLen : ℕ) → isDone (appendRefusal buffer len inputLen answerLen) ≡ true → Taken buffer len inputLen answerLen
+unfolding appendRefusal
+taken buffer len inputLen answerLen e =
+    let log = take len buffer in
+    let n = countOf log in
+    let over = ltb (length buffer) len in
+    let scarce = ltb (length buffer - len) RECORD-BYTES in
+    let full = eqb n MOST-RECORDS in
+    let t = lengths (eqb inputLen INPUT-BYTES) (eqb answerLen ANSWER-BYTES) (brokenOrFull (over || not (isLog log)) (scarce || full)) e in
+    let f = fine (over || not (isLog log)) (scarce || full) (t .2) in
+    let b = neither over (not (isLog log)) (f .0) in
+    let r = neither scarce full (f .1) in
+    let h = ltb-false (length buffer) len (b .0) in
+    let is = not-false (isLog log) (b .1) in
+    let l = is-a-log log is in
+    let m = eqb-false n MOST-RECORDS (r .1) in
+    let e : len ≡ RECORD-BYTES * n + TRAILER-BYTES = sym (length-take-le len buffer h) ∙ l .whole in
+    record {
+      input-length = eqb-true inputLen INPUT-BYTES (t .0);
+      answer-length = eqb-true answerLen ANSWER-BYTES (t .1);
+      within = h;
+      log = is;
+      len-is = e;
+      room = omega (arith, ltb-false (length buffer - len) RECORD-BYTES (r .0));
+      one-more = below n (l .few) m;
+    }
+  where
+    below : (n : ℕ) → n ≤ MOST-RECORDS → (n ≡ MOST-RECORDS → ⊥) → n < MOST-RECORDS
+    below n h m = omega (arith, m)
+
+-- ---- the two ways that an append can go, by what it was told
+
+pub taken-here : (buffer : List ℕ) (len inputLen answerLen : ℕ) {o : Outcome} {t : Bool} → o ≡ appendRefusal buffer len inputLen answerLen → t ≡ isDone o → not t ≡ false
+    → Taken buffer len inputLen answerLen
+taken-here buffer len inputLen answerLen {o} {t} e d n = taken buffer len inputLen answerLen (rw (← e, ← d) (not-false t n))
+
+module _ (buffer : List ℕ) (len : ℕ) (input answer : List ℕ) {o : Outcome} {t : Bool} (e : o ≡ appendRefusal buffer len (length input) (length answer)) (d : t ≡ isDone o) where
+  pub refused : not t ≡ true → left o buffer ≡ appendCall buffer len input answer
+  unfolding appendCall
+  refused n = rw (← e, ← d, not-true t n)
+
+  pub written : not t ≡ false → {n : ℕ} {later : List ℕ} → n ≡ countOf (take len buffer) → later ≡ withRecord buffer (RECORD-BYTES * n) (n + 1) input answer → left Done later ≡ appendCall buffer len input answer
+  unfolding appendCall
+  written f c p =
+      let at : len - TRAILER-BYTES ≡ RECORD-BYTES * countOf (take len buffer) = omega (arith, taken-here buffer len (length input) (length answer) e d f .len-is) in
+      rw (← e, ← d, not-false t f, at, p, c)
+
+-- ---- the input, the answer and the trailer, written one after another, are one run
+
+pub recorded : (b : List ℕ) (n : ℕ) (input answer : List ℕ) {s t r : List ℕ} → (length input ≡ INPUT-BYTES) × (length answer ≡ ANSWER-BYTES)
+    → s ≡ sets b (RECORD-BYTES * n) input → t ≡ sets s (RECORD-BYTES * n + INPUT-BYTES) answer → Put t ((RECORD-BYTES * n + RECORD-BYTES) / 4) (trailerWords (n + 1)) r
+    → r ≡ withRecord b (RECORD-BYTES * n) (n + 1) input answer
+recorded b n input answer h p q r =
+    let at = RECORD-BYTES * n in
+    let e : at + INPUT-BYTES ≡ at + length input = omega (arith, h .0) in
+    let g : 4 * ((at + RECORD-BYTES) / 4) ≡ at + length (input ++ answer) = omega (arith, h .0, h .1, length-append input answer) in
+    r .is ∙ rw (g, q, e, p, sets-append b at input answer) (sets-append b at (input ++ answer) (trailer (n + 1)))
+
+-- ---- a record that is there has its length
+
+pub record-length : (b : List ℕ) (i : ℕ) → hasRecord b i ≡ true → length (recordAt b i) ≡ RECORD-BYTES
+unfolding recordAt
+record-length b i e =
+    let h : RECORD-BYTES ≤ length (drop (RECORD-BYTES * i) b) = omega (arith, length-drop (RECORD-BYTES * i) b, there b i e .within) in
+    rw e (length-take-le RECORD-BYTES (drop (RECORD-BYTES * i) b) h)
+
+pub handed : (log : List ℕ) (i : ℕ) (into : List ℕ) {later : List ℕ} → length into ≡ RECORD-BYTES → isLog log ≡ true → hasRecord log i ≡ true → later ≡ recordAt log i
+    → left Done later ≡ recordCall log i into
+unfolding recordCall
+handed log i into h l r e = rw (h, l, r, e)

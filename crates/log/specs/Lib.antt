@@ -1,0 +1,5 @@
+pub mod Outcomes
+pub mod Form
+pub mod Records
+pub mod Entry
+pub mod Runs

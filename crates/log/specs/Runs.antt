@@ -1,0 +1,58 @@
+-- Any sequence of appends, each on the buffer and the length that the last one left. Definitions only.
+use Prim.Native.Nat.{ℕ, _+_}
+use mathlib.Core.Path.{_≡_}
+use mathlib.Core.Bool.{true, cond}
+use mathlib.Core.List.{List, [], _∷_, _++_}
+use lib.ListN.{length, take}
+use Rattle.log.specs.declared.outcome.Outcome.{Outcome}
+use Rattle.log.specs.Outcomes.{isDone}
+use Rattle.log.specs.Form.{RECORD-BYTES, TRAILER-BYTES, emptyLog}
+use Rattle.log.specs.Entry.{appendRefusal, appendCall}
+
+-- a buffer, and the length of the log at its start
+pub record Held : Type 0 where
+  pub buffer : List ℕ
+  pub len : ℕ
+
+abbrev pub held : List ℕ → ℕ → Held
+held buffer len = record { buffer = buffer; len = len }
+
+abbrev pub logIn : Held → List ℕ
+logIn h = take (h .len) (h .buffer)
+
+-- what an append is given beside them
+pub record Given : Type 0 where
+  pub input : List ℕ
+  pub answer : List ℕ
+
+abbrev pub refusalOf : Held → Given → Outcome
+refusalOf h g = appendRefusal (h .buffer) (h .len) (length (g .input)) (length (g .answer))
+
+-- what an append leaves, and the record that it kept: none if it was refused
+abbrev pub afterOne : Held → Given → Held
+afterOne h g = held (appendCall (h .buffer) (h .len) (g .input) (g .answer) .buffer) (cond (isDone (refusalOf h g)) (h .len + RECORD-BYTES) (h .len))
+
+abbrev pub keptBy : Held → Given → List (List ℕ)
+keptBy h g = cond (isDone (refusalOf h g)) ((g .input ++ g .answer) ∷ []) []
+
+unfoldable pub afterAll : Held → List Given → Held
+afterAll h [] = h
+afterAll h (g ∷ more) = afterAll (afterOne h g) more
+
+unfoldable pub keptAlong : Held → List Given → List (List ℕ)
+keptAlong h [] = []
+keptAlong h (g ∷ more) = keptBy h g ++ keptAlong (afterOne h g) more
+
+-- "each accepted tick kept": none of the appends is refused
+unfoldable pub Accepted : Held → List Given → Type 0
+Accepted h [] = Unit
+Accepted h (g ∷ more) = (isDone (refusalOf h g) ≡ true) × Accepted (afterOne h g) more
+
+-- the records of what was given
+unfoldable pub recordsOf : List Given → List (List ℕ)
+recordsOf [] = []
+recordsOf (g ∷ more) = (g .input ++ g .answer) ∷ recordsOf more
+
+-- the empty log at the start of a buffer, whatever stands beyond it
+abbrev pub atFirst : List ℕ → Held
+atFirst beyond = held (emptyLog ++ beyond) TRAILER-BYTES

@@ -1,0 +1,42 @@
+// The count and a record into buffers of the caller's, for callers that hold no slice of ours. Nothing is asked of them; a refused call changes no byte.
+use super::form::RECORD_BYTES;
+use super::form::is_log;
+use super::form::record_count;
+use super::outcome::Outcome;
+use super::reader::read;
+use super::record::has_record;
+use words::put_bytes;
+use words::put_word;
+ghost use mathlib.Core.Path.{_≡_};
+ghost use Rattle.log.specs.Entry.{left, countCall, recordCall};
+
+// The count as a word.
+pub fn count_into(log: &[u8], count: &mut [u8]) -> Outcome
+    ensures { λ r. ⌜ left r (now (count .exit)) ≡ countCall (now (log .entry)) (now (count .entry)) ⌝ }
+{
+    if count.len() != 4 {
+        return Outcome::CountLength;
+    }
+    if !is_log(log) {
+        return Outcome::BrokenLog;
+    }
+    put_word(count, 0, record_count(log) as u32);
+    Outcome::Done
+}
+
+// The record at a place, by the reader.
+pub fn record_into(log: &[u8], place: usize, into: &mut [u8]) -> Outcome
+    ensures { λ r. ⌜ left r (now (into .exit)) ≡ recordCall (now (log .entry)) place (now (into .entry)) ⌝ }
+{
+    if into.len() != RECORD_BYTES {
+        return Outcome::RecordLength;
+    }
+    if !is_log(log) {
+        return Outcome::BrokenLog;
+    }
+    if !has_record(log, place) {
+        return Outcome::NoRecord;
+    }
+    put_bytes(into, 0, read(log, place));
+    Outcome::Done
+}

@@ -1,0 +1,30 @@
+// The flight log (request Two of document 02): records of one accepted tick each, written into a lent buffer and read back.
+mod calls; // calls.rt: the count and a record into lent buffers
+mod entry; // entry.rt: one record more
+mod form; // form.rt: how a log stands in bytes, and which are refused
+mod outcome; // outcome.rt: how a call ends
+mod reader; // reader.rt: the lent log and a place in it
+mod record; // record.rt: the records of a log, by their place
+
+pub use calls::count_into;
+pub use calls::record_into;
+pub use entry::append;
+pub use entry::append_refusal;
+pub use form::MOST_RECORDS;
+pub use form::RECORD_BYTES;
+pub use form::TRAILER_BYTES;
+pub use form::is_log;
+pub use form::log_refusal;
+pub use form::record_count;
+pub use outcome::Outcome;
+pub use outcome::is_done;
+pub use outcome::number;
+pub use reader::Reader;
+pub use reader::has_next;
+pub use reader::moved;
+pub use reader::next;
+pub use reader::open;
+pub use reader::read;
+pub use record::has_record;
+pub use record::place_after;
+pub use record::record_at;

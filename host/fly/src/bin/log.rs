@@ -1,0 +1,92 @@
+//! `log FILE`: a flight log as CSV, and its picture.
+
+use fly::output::{csv, name};
+use fly::picture::{Picture, Row};
+use fly::scenario::number;
+use fly::ticks::Ticks;
+use fosavalo::{Image, LogView, SetUp, LOG_TRAILER_BYTES, MOST_RECORDS, RECORD_BYTES};
+use std::ffi::OsString;
+use std::io::{self, Read, Write};
+use std::path::{Path, PathBuf};
+use std::process::ExitCode;
+
+const USAGE: &str = "log FILE [--enter NUMBER --exit NUMBER] [--out FOLDER]
+
+Prints the flight log in FILE (`make fly` keeps one) as CSV on standard output, a record on a line, and draws it as
+FOLDER/NAME.svg and FOLDER/NAME.png (target/log) where gnuplot is there. A log does not tell the shield's thresholds:
+with --enter and --exit, mended as at set-up, the picture has them and the band between them.
+Bytes that are no log are refused with the number and its meaning.";
+
+fn main() -> ExitCode {
+    match run(std::env::args_os().skip(1)) {
+        Ok(()) => ExitCode::SUCCESS,
+        Err(text) => {
+            note(&format!("log: {text}"));
+            ExitCode::from(2)
+        }
+    }
+}
+
+/// For the reader of the CSV's standard error, if there is one.
+fn note(text: &str) {
+    let _ = writeln!(io::stderr(), "{text}");
+}
+
+fn run(mut words: impl Iterator<Item = OsString>) -> Result<(), String> {
+    let (mut file, mut folder, mut enter, mut exit) = (None, PathBuf::from("target/log"), None, None);
+    while let Some(word) = words.next() {
+        let mut threshold = |option: &str| {
+            let text = words.next().ok_or(format!("{option} wants a number"))?;
+            number(&text.to_string_lossy()).map(Some).map_err(|what| format!("{option}: {what}"))
+        };
+        match word.to_str() {
+            Some("--help" | "-h") => return print(|to| writeln!(to, "{USAGE}")),
+            Some("--enter") => enter = threshold("--enter")?,
+            Some("--exit") => exit = threshold("--exit")?,
+            Some("--out") => folder = words.next().map(PathBuf::from).ok_or("--out wants a folder")?,
+            Some(option) if option.starts_with('-') => return Err(format!("`{option}` is no option\n\n{USAGE}")),
+            _ if file.is_some() => return Err(format!("one log at a time\n\n{USAGE}")),
+            _ => file = Some(PathBuf::from(word)),
+        }
+    }
+    let file = file.ok_or(format!("which log?\n\n{USAGE}"))?;
+    let thresholds = match (enter, exit) {
+        (Some(enter), Some(exit)) => {
+            let image = Image::set_up(&SetUp { enter, exit, ..SetUp::falcon_quad() }).map_err(|refusal| refusal.to_string())?;
+            Some((image.enter(), image.exit()))
+        }
+        (None, None) => None,
+        _ => return Err("--enter and --exit go together".to_string()),
+    };
+    let of_file = |what: String| format!("{}: {what}", file.display());
+    let bytes = read(&file).map_err(|error| of_file(error.to_string()))?;
+    let log = LogView::from_bytes(&bytes).map_err(|refusal| of_file(refusal.to_string()))?;
+    let ticks = Ticks::of(log);
+    print(|to| csv(ticks.iter().map(|tick| tick.seconds).zip(log), to))?;
+    draw(&file, &folder, &ticks, thresholds).map(|said| note(&said)).map_err(|error| format!("{}: {error}", folder.display()))
+}
+
+/// The file, but no more of it than tells that it is too long for a log.
+fn read(file: &Path) -> io::Result<Vec<u8>> {
+    let most = MOST_RECORDS * RECORD_BYTES + LOG_TRAILER_BYTES;
+    let mut bytes = Vec::new();
+    std::fs::File::open(file)?.take(most as u64 + 1).read_to_end(&mut bytes)?;
+    Ok(bytes)
+}
+
+/// To standard output. A reader that wants no more of it is no mistake.
+fn print(what: impl FnOnce(&mut io::StdoutLock) -> io::Result<()>) -> Result<(), String> {
+    match what(&mut io::stdout().lock()) {
+        Err(error) if error.kind() != io::ErrorKind::BrokenPipe => Err(format!("standard output: {error}")),
+        _ => Ok(()),
+    }
+}
+
+fn draw(file: &Path, folder: &Path, ticks: &Ticks, thresholds: Option<(f32, f32)>) -> io::Result<String> {
+    std::fs::create_dir_all(folder)?;
+    let name = name(file);
+    let band = thresholds.map_or(String::new(), |(enter, exit)| format!(", enter {enter}, exit {exit}"));
+    let title = format!("{name}: {:.3} s in {} ticks{band}", ticks.seconds(), ticks.len());
+    let row = Row { suffix: "", caption: "As the log has it", ticks };
+    Picture { title: &title, thresholds, rows: &[row] }.draw(&folder.join(&name))
+}

@@ -1,0 +1,304 @@
+use crate::words::Take;
+use crate::{calls, Answer, Refusal, TickInput, EMPTY_LOG, LOG_TRAILER_BYTES, MOST_RECORDS, RECORD_BYTES, TICK_BYTES};
+use std::fmt;
+
+const LONGEST: usize = MOST_RECORDS * RECORD_BYTES + LOG_TRAILER_BYTES;
+
+/// A flight kept tick by tick: up to 65,535 records, in the order in which they were appended. Its bytes are what goes to a file.
+///
+/// ```
+/// use fosavalo::{Image, Log, LogView, Refusal, SetUp, TickInput};
+///
+/// let mut image = Image::set_up(&SetUp::falcon_quad())?;
+/// let mut log = Log::new();
+/// for yaw in [0.0, 0.5, f32::NAN] {
+///     let input = TickInput { yaw, ..TickInput::default() };
+///     log.append(&input, &image.tick(&input)?)?;
+/// }
+///
+/// // another program, another day
+/// let file = log.as_bytes().to_vec();
+/// let flown = LogView::from_bytes(&file)?;
+/// assert_eq!(flown.len(), 3);
+/// let margins: Vec<f32> = flown.iter().map(|record| record.answer().margin).collect();
+/// assert_eq!(margins.last(), Some(&f32::NEG_INFINITY));
+/// assert_eq!(flown.get(1).map(|record| record.input().yaw), Some(0.5));
+/// assert_eq!(flown.get(3), None);
+///
+/// // a file that lost its last byte is none
+/// assert_eq!(LogView::from_bytes(&file[..file.len() - 1]), Err(Refusal::BrokenLog));
+/// # Ok::<(), Refusal>(())
+/// ```
+#[derive(Clone)]
+pub struct Log {
+    /// The log, and room for more.
+    buffer: Vec<u8>,
+    len: usize,
+}
+
+impl Log {
+    /// A log of no record.
+    pub fn new() -> Self {
+        Log { buffer: EMPTY_LOG.to_vec(), len: EMPTY_LOG.len() }
+    }
+
+    /// A log of no record with room for so many: appending these allocates nothing. Room for more than 65,535 is no use and not taken.
+    pub fn with_capacity(records: usize) -> Self {
+        let mut log = Log::new();
+        log.make_room(records.min(MOST_RECORDS) * RECORD_BYTES + LOG_TRAILER_BYTES);
+        log
+    }
+
+    /// A log from bytes, to be gone on with; refused where these are none. To read alone, [`LogView::from_bytes`] copies nothing.
+    ///
+    /// ```
+    /// use fosavalo::{Log, Refusal};
+    ///
+    /// assert_eq!(Log::from_bytes(Log::new().as_bytes()), Ok(Log::new()));
+    /// assert_eq!(Log::from_bytes(b"no log"), Err(Refusal::BrokenLog));
+    /// ```
+    pub fn from_bytes(bytes: &[u8]) -> Result<Self, Refusal> {
+        LogView::from_bytes(bytes)?;
+        Ok(Log { buffer: bytes.to_vec(), len: bytes.len() })
+    }
+
+    /// Appends a tick's input and its answer. Refused where the log has 65,535 records; it then stays as it is.
+    pub fn append(&mut self, input: &TickInput, answer: &Answer) -> Result<(), Refusal> {
+        self.append_bytes(&input.to_bytes(), &answer.to_bytes())
+    }
+
+    /// The same with the bytes of both, which are kept as they are.
+    ///
+    /// ```
+    /// use fosavalo::{Log, Refusal};
+    ///
+    /// let mut log = Log::new();
+    /// assert_eq!(log.append_bytes(&[0xff; 68], &[0xff; 40]), Ok(()));
+    /// assert_eq!(log.append_bytes(&[0; 67], &[0; 40]), Err(Refusal::InputLength));
+    /// assert_eq!(log.append_bytes(&[0; 68], &[0; 41]), Err(Refusal::AnswerLength));
+    /// assert!(log.iter().all(|record| record.as_bytes() == &[0xff; 108]) && log.len() == 1);
+    /// ```
+    pub fn append_bytes(&mut self, input: &[u8], answer: &[u8]) -> Result<(), Refusal> {
+        if self.buffer.len() - self.len < RECORD_BYTES {
+            self.make_room(2 * self.len + RECORD_BYTES);
+        }
+        Refusal::check(calls::log_append(&mut self.buffer, self.len as u64, input, answer))?;
+        self.len += RECORD_BYTES;
+        Ok(())
+    }
+
+    /// The bytes: 108 for each record, then the count, how many bytes back the first record starts, and 108.
+    pub fn as_bytes(&self) -> &[u8] {
+        self.buffer.get(..self.len).unwrap_or_default()
+    }
+
+    /// The same, to be read.
+    pub fn view(&self) -> LogView<'_> {
+        LogView { bytes: self.as_bytes() }
+    }
+
+    /// How many records.
+    pub fn len(&self) -> usize {
+        self.view().len()
+    }
+
+    /// Whether there is none.
+    pub fn is_empty(&self) -> bool {
+        self.view().is_empty()
+    }
+
+    /// The records, in the order in which they were appended.
+    pub fn iter(&self) -> Records<'_> {
+        self.view().iter()
+    }
+
+    /// A buffer of this length, but none longer than any log.
+    fn make_room(&mut self, len: usize) {
+        self.buffer.resize(len.min(LONGEST).max(self.buffer.len()), 0);
+    }
+}
+
+impl Default for Log {
+    fn default() -> Self {
+        Log::new()
+    }
+}
+
+impl PartialEq for Log {
+    /// The room beyond them is no part of the logs.
+    fn eq(&self, other: &Self) -> bool {
+        self.as_bytes() == other.as_bytes()
+    }
+}
+
+impl Eq for Log {}
+
+impl fmt::Debug for Log {
+    fn fmt(&self, f: &mut fmt::Formatter<'_>) -> fmt::Result {
+        f.debug_struct("Log").field("len", &self.len()).finish_non_exhaustive()
+    }
+}
+
+impl<'a> IntoIterator for &'a Log {
+    type Item = Record;
+    type IntoIter = Records<'a>;
+
+    fn into_iter(self) -> Records<'a> {
+        self.iter()
+    }
+}
+
+/// A log in bytes of someone else's, checked once and then read. Nothing is copied but the record that is asked for.
+#[derive(Clone, Copy, PartialEq, Eq)]
+pub struct LogView<'a> {
+    bytes: &'a [u8],
+}
+
+impl<'a> LogView<'a> {
+    /// These bytes as a log; refused where they are none.
+    ///
+    /// ```
+    /// use fosavalo::{LogView, Refusal, EMPTY_LOG};
+    ///
+    /// assert_eq!(LogView::from_bytes(&EMPTY_LOG).map(|log| log.len()), Ok(0));
+    /// assert_eq!(LogView::from_bytes(&[]), Err(Refusal::BrokenLog));
+    /// ```
+    pub fn from_bytes(bytes: &'a [u8]) -> Result<Self, Refusal> {
+        count(bytes)?;
+        Ok(LogView { bytes })
+    }
+
+    /// The bytes.
+    pub fn as_bytes(&self) -> &'a [u8] {
+        self.bytes
+    }
+
+    /// How many records.
+    pub fn len(&self) -> usize {
+        count(self.bytes).unwrap_or(0)
+    }
+
+    /// Whether there is none.
+    pub fn is_empty(&self) -> bool {
+        self.len() == 0
+    }
+
+    /// The record at a place, counted from 0; None from the count on.
+    pub fn get(&self, place: usize) -> Option<Record> {
+        let mut bytes = [0; RECORD_BYTES];
+        Refusal::check(calls::log_record(self.bytes, place as u64, &mut bytes)).ok()?;
+        Some(Record { bytes })
+    }
+
+    /// The records, in the order in which they were appended.
+    pub fn iter(&self) -> Records<'a> {
+        Records { log: *self, place: 0, end: self.len() }
+    }
+}
+
+impl fmt::Debug for LogView<'_> {
+    fn fmt(&self, f: &mut fmt::Formatter<'_>) -> fmt::Result {
+        f.debug_struct("LogView").field("len", &self.len()).finish_non_exhaustive()
+    }
+}
+
+impl<'a> IntoIterator for LogView<'a> {
+    type Item = Record;
+    type IntoIter = Records<'a>;
+
+    fn into_iter(self) -> Records<'a> {
+        self.iter()
+    }
+}
+
+fn count(bytes: &[u8]) -> Result<usize, Refusal> {
+    let mut count = [0; 4];
+    Refusal::check(calls::log_count(bytes, &mut count))?;
+    // at most 65,535
+    Ok(u32::from_le_bytes(count) as usize)
+}
+
+/// The records of a log, one after another, and then none, for ever.
+#[derive(Clone, Debug)]
+pub struct Records<'a> {
+    log: LogView<'a>,
+    place: usize,
+    end: usize,
+}
+
+impl Iterator for Records<'_> {
+    type Item = Record;
+
+    fn next(&mut self) -> Option<Record> {
+        let record = self.log.get(self.place)?;
+        self.place += 1;
+        Some(record)
+    }
+
+    fn size_hint(&self) -> (usize, Option<usize>) {
+        let left = self.end - self.place;
+        (left, Some(left))
+    }
+
+    fn nth(&mut self, n: usize) -> Option<Record> {
+        self.place = self.place.saturating_add(n).min(self.end);
+        self.next()
+    }
+}
+
+impl ExactSizeIterator for Records<'_> {}
+
+impl std::iter::FusedIterator for Records<'_> {}
+
+/// One tick of a log: 108 bytes, its input and its answer, as they were appended.
+#[derive(Clone, Copy, PartialEq, Eq, Hash)]
+pub struct Record {
+    bytes: [u8; RECORD_BYTES],
+}
+
+impl Record {
+    /// A tick's input and its answer.
+    ///
+    /// ```
+    /// use fosavalo::{Image, Log, Record, SetUp, TickInput};
+    ///
+    /// let input = TickInput { yaw: 0.5, ..TickInput::default() };
+    /// let answer = Image::set_up(&SetUp::falcon_quad())?.tick(&input)?;
+    /// let record = Record::new(&input, &answer);
+    /// assert_eq!((record.input(), record.answer()), (input, answer));
+    /// # Ok::<(), fosavalo::Refusal>(())
+    /// ```
+    pub fn new(input: &TickInput, answer: &Answer) -> Self {
+        let mut bytes = [0; RECORD_BYTES];
+        let both = input.to_bytes().into_iter().chain(answer.to_bytes());
+        bytes.iter_mut().zip(both).for_each(|(own, byte)| *own = byte);
+        Record { bytes }
+    }
+
+    /// What the tick was given.
+    pub fn input(&self) -> TickInput {
+        TickInput::take(&mut Take(&self.bytes))
+    }
+
+    /// What it answered. A flag that is neither 0 nor 1, which no tick writes, counts as the fallback's.
+    pub fn answer(&self) -> Answer {
+        Answer::take(&mut Take(self.bytes.get(TICK_BYTES..).unwrap_or_default()))
+    }
+
+    /// The twenty-seven words: the seventeen of the input, the ten of the answer, a float as its bits.
+    pub fn words(&self) -> [u32; RECORD_BYTES / 4] {
+        let mut from = Take(&self.bytes);
+        std::array::from_fn(|_| from.word())
+    }
+
+    /// The bytes.
+    pub fn as_bytes(&self) -> &[u8; RECORD_BYTES] {
+        &self.bytes
+    }
+}
+
+impl fmt::Debug for Record {
+    fn fmt(&self, f: &mut fmt::Formatter<'_>) -> fmt::Result {
+        f.debug_struct("Record").field("input", &self.input()).field("answer", &self.answer()).finish()
+    }
+}

@@ -11,10 +11,11 @@
 # make ticks       the joint tick beside the Rust's calls, TICKS accepted ticks: `make ticks TICKS=100000000` (without it, the gate's five million);
 #                  then half as many, mixed with ticks on routes
 # make answers     makes the oracle's stored answers again, which the program `replay` runs (docs/ORACLE.md)
-# make bench       times, as ratios to the other side in one run
+# make bench       times, as ratios to the other side in one run; `make bench BEFORE=../old/libfosavalo.a` has an earlier archive's tick beside ours
+# make stack       the stack that each C call takes, painted and looked at on the compiled archive
 # make docs        the safe crate's pages, host/target/doc/fosavalo/index.html
 # make map         docs/MAP.md anew, from the sources
-.PHONY: fly log choices test table archives core exhaustive routines ticks answers bench docs map clean
+.PHONY: fly log choices test table archives core exhaustive routines ticks answers bench stack docs map clean
 
 CARGO = cargo
 HOST = cd host && $(CARGO)
@@ -58,7 +59,10 @@ answers: archives
 	@$(HOST) run --release --offline --quiet --bin answers
 
 bench: archives
-	@$(HOST) run --release --offline --quiet --bin bench
+	@export FOSAVALO_BEFORE=$(abspath $(BEFORE)) && $(HOST) run --release --offline --quiet --bin bench
+
+stack: archives
+	@$(HOST) run --release --offline --quiet --bin bench stack
 
 docs: core
 	@$(HOST) doc --release --offline --no-deps --package fosavalo

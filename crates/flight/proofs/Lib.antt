@@ -1,3 +1,4 @@
+pub mod Flown
 pub mod Going
 pub mod Shown
 pub mod Kept

@@ -2,22 +2,30 @@
 use image::ANSWER_BYTES;
 use image::COUNT;
 use image::ENGAGED;
+use image::GOVERNOR;
 use image::IMAGE_BYTES;
 use image::IMAGE_WORDS;
 use image::INPUT_BYTES;
+use image::QUINTIC_WORDS;
+use image::SEGMENT;
 use image::SETUP_BYTES;
 use image::input_at;
+use image::prepared_at;
 use image::put_answer;
 use image::put_state;
+use image::put_steered;
 use image::setup_at;
-use image::state_at;
-use joint::State;
+use image::shield_at;
+use words::float_at;
 use words::word_at;
 ghost use mathlib.Core.Path.{_≡_};
 ghost use mathlib.Core.List.{[]};
 ghost use lib.ListN.{length};
-ghost use Rattle.image.specs.Layout.{IMAGE-BYTES};
-ghost use Rattle.flight.specs.Entry.{number, intactWith, tickRefusal, called, setUpCall, tickCall};
+ghost use Rattle.joint.specs.Good.{segmentOk, good};
+ghost use Rattle.image.specs.Layout.{SEGMENT, IMAGE-BYTES};
+ghost use Rattle.image.specs.Parts.{segmentAt};
+ghost use Rattle.image.specs.Image.{stateAt};
+ghost use Rattle.flight.specs.Entry.{number, intact, tickRefusal, called, setUpCall, tickCall};
 
 // How a call ends: each has a number in document 01's table.
 pub enum Outcome {
@@ -40,10 +48,42 @@ pub fn number(outcome: Outcome) -> u32
     }
 }
 
-// Row 4, of an image whose state was read already.
-fn intact(image: &[u8], state: State) -> bool
+// The last word of each axis of the segment, which is its t_end.
+fn segment_lasts(image: &[u8]) -> bool
     requires { ⌜ length (now image) ≡ IMAGE-BYTES ⌝ }
-    ensures { λ r. ⌜ r ≡ intactWith (now (image .entry)) state ⌝ }
+    ensures { λ r. ⌜ r ≡ segmentOk (segmentAt (now (image .entry)) SEGMENT) ⌝ }
+{
+    if joint::lasts(float_at(image, SEGMENT + 6)) {
+        if joint::lasts(float_at(image, SEGMENT + QUINTIC_WORDS + 6)) {
+            joint::lasts(float_at(image, SEGMENT + QUINTIC_WORDS + QUINTIC_WORDS + 6))
+        } else {
+            false
+        }
+    } else {
+        false
+    }
+}
+
+// `joint::good` of the image's state, looking at the words that it speaks of and no others.
+fn good_at(image: &[u8]) -> bool
+    requires { ⌜ length (now image) ≡ IMAGE-BYTES ⌝ }
+    ensures { λ r. ⌜ r ≡ good (stateAt (now (image .entry))) ⌝ }
+{
+    if joint::shield_ok(shield_at(image)) {
+        if joint::time_ok(float_at(image, GOVERNOR)) {
+            segment_lasts(image)
+        } else {
+            false
+        }
+    } else {
+        false
+    }
+}
+
+// Row 4.
+fn intact(image: &[u8]) -> bool
+    requires { ⌜ length (now image) ≡ IMAGE-BYTES ⌝ }
+    ensures { λ r. ⌜ r ≡ intact (now (image .entry)) ⌝ }
 {
     let count = word_at(image, COUNT);
     let engaged = word_at(image, ENGAGED);
@@ -51,10 +91,10 @@ fn intact(image: &[u8], state: State) -> bool
         return false;
     }
     if engaged == 0 {
-        return joint::good(state);
+        return good_at(image);
     }
     if engaged == 1 {
-        return joint::good(state);
+        return good_at(image);
     }
     false
 }
@@ -72,7 +112,7 @@ pub fn tick_refusal(image: &[u8], input_len: usize, answer_len: usize) -> Outcom
     if answer_len != ANSWER_BYTES {
         return Outcome::AnswerLength;
     }
-    if intact(image, state_at(image)) {
+    if intact(image) {
         return Outcome::Done;
     }
     Outcome::BrokenImage
@@ -104,12 +144,14 @@ pub fn tick(image: &mut [u8], input: &[u8], answer: &mut [u8]) -> Outcome
     if answer.len() != ANSWER_BYTES {
         return Outcome::AnswerLength;
     }
-    let state = state_at(image);
-    if !intact(image, state) {
+    if !intact(image) {
         return Outcome::BrokenImage;
     }
-    let done = joint::tick(state, input_at(input));
-    put_state(image, done.state);
+    let given = input_at(input);
+    let prepared = prepared_at(image, given);
+    let wanted = joint::reference_at(prepared.state.segment, prepared.time);
+    let done = joint::steer(prepared, wanted, given);
+    put_steered(image, prepared, done);
     put_answer(answer, done.answer);
     Outcome::Done
 }

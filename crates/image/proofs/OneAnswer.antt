@@ -17,6 +17,15 @@ put-answer-once κs a x y v w p q = (refl, both (no-second p q) refl)
 pub state-at-once : OneAnswer image.state_at.ended image.state_at.Reads.Post
 state-at-once κs a x y v w p q = (no-second p q, refl)
 
+pub shield-at-once : OneAnswer image.shield_at.ended image.shield_at.Reads.Post
+shield-at-once κs a x y v w p q = (no-second p q, refl)
+
+pub prepared-at-once : OneAnswer image.prepared_at.ended image.prepared_at.Reads.Post
+prepared-at-once κs a x y v w p q = (no-second p q, refl)
+
+pub put-steered-once : OneAnswer image.put_steered.ended image.put_steered.Reads.Post
+put-steered-once κs a x y v w p q = (refl, both (no-second p q) refl)
+
 pub put-state-once : OneAnswer image.put_state.ended image.put_state.Reads.Post
 put-state-once κs a x y v w p q = (refl, both (no-second p q) refl)
 

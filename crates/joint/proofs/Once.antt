@@ -23,7 +23,9 @@ use Rattle.relay_adrc.specs.declared.rate.AdrcRate.{AdrcRate}
 use Rattle.relay_adrc.proofs.Tick.{tick-in-halves}
 use Rattle.joint.specs.declared.stages.Prepared.{Prepared}
 use Rattle.joint.specs.declared.stages.Guided.{Guided}
-use Rattle.joint.specs.Tick.{prepare, cleaned, plus, rateSq, psiOf, marginOf, referenceAt, guide, guidance, observe, follow, followOn, finish, finishOn, picks, toward, ticked, tick}
+use Rattle.joint.specs.declared.stages.Steered.{Steered}
+use Rattle.joint.specs.declared.stages.Ticked.{Ticked}
+use Rattle.joint.specs.Tick.{prepare, cleaned, plus, rateSq, psiOf, marginOf, referenceAt, guide, guidance, observe, follow, followOn, finish, finishOn, picks, toward, steered, steeredState, ticked, tick}
 
 -- `desired_rate` cleans its acceleration, which is clean already: its R_d is the tick's
 pub one-attitude : (g : GeoGains) (q : Quat) (a : Vec3) (yaw : Float) → desiredRate g q (sanitise3 a) yaw ≡ rateToward g (quatToRotmat q) (thrustAttitude (sanitise3 a) yaw)
@@ -70,3 +72,14 @@ tick-toward source s i = refl
 pub segment-tick-toward : (s : State) (i : TickInput) → toward (prepare s i) (referenceAt (s .segment) (prepare s i .time)) i ≡ tick s i
 unfolding tick
 segment-tick-toward s i = tick-toward (referenceAt (s .segment)) s i
+
+-- what was prepared and what was steered make the tick
+pub steered-tick : (source : Float → Reference) (s : State) (i : TickInput) {p : Prepared} {wanted : Reference} {d : Steered}
+    → p ≡ prepare s i → wanted ≡ source (p .time) → d ≡ steered (toward p wanted i)
+    → _≡_ {A = Ticked} record { state = steeredState p d; answer = d .answer } (ticked source s i)
+unfolding toward finish ticked guidance prepare
+steered-tick source s i e f g = rw (g, f, e)
+
+pub prepared-segment : (s : State) (i : TickInput) {p : Prepared} → p ≡ prepare s i → p .state .segment ≡ s .segment
+unfolding prepare
+prepared-segment s i e = rw e

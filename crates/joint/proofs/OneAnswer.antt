@@ -50,6 +50,9 @@ finish-once κs a x y v w p q = (no-second p q, refl)
 pub tick-toward-once : OneAnswer stages.tick_toward.ended stages.tick_toward.Reads.Post
 tick-toward-once κs a x y v w p q = (no-second p q, refl)
 
+pub steer-once : OneAnswer stages.steer.ended stages.steer.Reads.Post
+steer-once κs a x y v w p q = (no-second p q, refl)
+
 pub tick-once : OneAnswer stages.tick.ended stages.tick.Reads.Post
 tick-once κs a x y v w p q = (no-second p q, refl)
 

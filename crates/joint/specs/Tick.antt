@@ -31,6 +31,7 @@ use Rattle.joint.specs.declared.stages.Reference.{Reference}
 use Rattle.joint.specs.declared.stages.Guided.{Guided}
 use Rattle.joint.specs.declared.stages.Observed3.{Observed3}
 use Rattle.joint.specs.declared.stages.Ticked.{Ticked}
+use Rattle.joint.specs.declared.stages.Steered.{Steered}
 
 -- ---- prepare: "set the fractions; filter the gyro; advance the governor"
 
@@ -172,6 +173,15 @@ ticked source s i = finish (prepare s i) (guidance source s i) (i .dt)
 -- the part of it that comes after the sample: `tick-toward` of proofs/Once.antt
 unfoldable pub toward : Prepared → Reference → TickInput → Ticked
 toward p wanted i = finish p (guide (p .state .gains) (p .state .shield .set) (p .rate) wanted i) (i .dt)
+
+-- the parts of its outcome that are not as they were prepared, and the state of them and of what was prepared: `steered-tick` of proofs/Once.antt
+abbrev pub steered : Ticked → Steered
+steered t = record { shield = t .state .shield; rate = t .state .rate; answer = t .answer }
+
+abbrev pub steeredState : Prepared → Steered → State
+steeredState p d =
+    let s = p .state in
+    record { gains = s .gains; shield = d .shield; governor = s .governor; segment = s .segment; rate = d .rate; lpf = s .lpf }
 
 -- the base's: the stored segment's reference
 unfoldable pub tick : State → TickInput → Ticked

@@ -13,6 +13,7 @@ use relay_geo::GeoAtt;
 use relay_geo::GeoGains;
 use relay_geo::Mat3;
 use relay_geo::RecoverableSet;
+use relay_geo::SimplexShield;
 use relay_geo::attitude_on;
 use relay_geo::dot;
 use relay_geo::feedforward_on;
@@ -24,7 +25,7 @@ use relay_math::Torque;
 use relay_math::Vec3;
 use relay_traj::Segment3;
 ghost use mathlib.Core.Path.{_≡_};
-ghost use Rattle.joint.specs.Tick.{setFractions, prepare, sampleTime, referenceAt, cleaned, plus, rateSq, psiOf, guide, observe, followOn, finishOn, toward, tick};
+ghost use Rattle.joint.specs.Tick.{setFractions, prepare, sampleTime, referenceAt, cleaned, plus, rateSq, psiOf, guide, observe, followOn, finishOn, toward, steered, tick};
 
 // The state with its fractions, filters and clock moved on, the filtered rate and the governor's time.
 #[repr(C)]
@@ -61,6 +62,14 @@ pub struct Observed3 {
 #[repr(C)]
 pub struct Ticked {
     pub state: State,
+    pub answer: Answer,
+}
+
+// What a tick makes after its sample. All else of the state stays as it was prepared.
+#[repr(C)]
+pub struct Steered {
+    pub shield: SimplexShield,
+    pub rate: AdrcRate,
     pub answer: Answer,
 }
 
@@ -273,6 +282,22 @@ pub fn tick_toward(prepared: Prepared, wanted: Reference, input: TickInput) -> T
     let shield = state.shield;
     let guided = guide(state.gains, shield.set, prepared.rate, wanted, input);
     finish(prepared, observed, guided)
+}
+
+// The same without what stays as it was prepared: who has that still needs no second copy of it on the stack.
+pub fn steer(prepared: Prepared, wanted: Reference, input: TickInput) -> Steered
+    ensures { λ r. ⌜ r ≡ steered (toward prepared wanted input) ⌝ }
+{
+    let done = tick_toward(prepared, wanted, input);
+    let state = done.state;
+    let shield = state.shield;
+    let rate = state.rate;
+    let answer = done.answer;
+    Steered {
+        shield,
+        rate,
+        answer,
+    }
 }
 
 pub fn tick(state: State, input: TickInput) -> Ticked

@@ -42,14 +42,6 @@ attitudeError r rd =
 abbrev pub attitudeErrorReduced : Mat3 → Vec3 → Vec3
 attitudeErrorReduced r b3 = let v = transposedTimes r b3 in (2·0 ⊗ v .1, neg 2·0 ⊗ v .0, 0·0)
 
--- a - b
-abbrev pub difference3 : Mat3 → Mat3 → Mat3
-difference3 a b = (
-  (a .0 .0 ⊖ b .0 .0, a .0 .1 ⊖ b .0 .1, a .0 .2 ⊖ b .0 .2),
-  (a .1 .0 ⊖ b .1 .0, a .1 .1 ⊖ b .1 .1, a .1 .2 ⊖ b .1 .2),
-  (a .2 .0 ⊖ b .2 .0, a .2 .1 ⊖ b .2 .1, a .2 .2 ⊖ b .2 .2),
-)
-
 -- ---- torques and rates
 
 unfoldable pub gyroscopic : Vec3 → Vec3 → Vec3

@@ -5,16 +5,13 @@ use super::attitude::thrust_attitude;
 use super::vectors::Mat3;
 use super::vectors::Quat;
 use super::vectors::cross;
-use super::vectors::matmul3;
 use super::vectors::sanitise3;
-use super::vectors::transpose3;
 use super::vectors::transposed_times;
-use super::vectors::vee;
 use relay_math::BodyRate;
 use relay_math::Torque;
 use relay_math::Vec3;
 ghost use mathlib.Core.Path.{_≡_};
-ghost use Rattle.relay_geo.specs.Controller.{FALCON-QUAD, difference3, psi, attitudeError, attitudeErrorReduced, gyroscopic, against, opposed, momentReduced, moment, rateToward, torqueToward, desiredRate, tick};
+ghost use Rattle.relay_geo.specs.Controller.{FALCON-QUAD, psi, attitudeError, attitudeErrorReduced, gyroscopic, against, opposed, momentReduced, moment, rateToward, torqueToward, desiredRate, tick};
 
 // The gains and the diagonal inertia (kg m^2), each axis by axis.
 #[repr(C)]
@@ -44,16 +41,6 @@ impl GeoGains {
 #[repr(C)]
 pub struct GeoAtt {
     pub gains: GeoGains,
-}
-
-fn difference3(a: Mat3, b: Mat3) -> Mat3
-    ensures { λ r. ⌜ r ≡ difference3 a b ⌝ }
-{
-    Mat3(
-        Vec3(a.0.0 - b.0.0, a.0.1 - b.0.1, a.0.2 - b.0.2),
-        Vec3(a.1.0 - b.1.0, a.1.1 - b.1.1, a.1.2 - b.1.2),
-        Vec3(a.2.0 - b.2.0, a.2.1 - b.2.1, a.2.2 - b.2.2),
-    )
 }
 
 // Each number of e times the gain against it.
@@ -89,22 +76,39 @@ impl GeoAtt {
         GeoAtt { gains: gains }
     }
 
-    // The configuration error, half the trace of I - R_d^T R: the potential term of the Lyapunov function.
+    // The configuration error, half the trace of I - R_d^T R: the potential term of the Lyapunov function. `pij` is entry (i, j) of R_d^T R,
+    // read where its numbers stand: no matrix is built on the way.
     pub fn psi(r: Mat3, r_d: Mat3) -> f32
         ensures { λ p. ⌜ p ≡ psi r «r_d» ⌝ }
     {
-        let rdt_r = matmul3(transpose3(r_d), r);
-        let tr = rdt_r.0.0 + rdt_r.1.1 + rdt_r.2.2;
-        0.5 * (3.0 - tr)
+        let p00 = 0.0 + r_d.0.0 * r.0.0 + r_d.1.0 * r.1.0 + r_d.2.0 * r.2.0;
+        let p11 = 0.0 + r_d.0.1 * r.0.1 + r_d.1.1 * r.1.1 + r_d.2.1 * r.2.1;
+        let p22 = 0.0 + r_d.0.2 * r.0.2 + r_d.1.2 * r.1.2 + r_d.2.2 * r.2.2;
+        0.5 * (3.0 - (p00 + p11 + p22))
     }
 
-    // The attitude error in the body's axes. It is the full vee, twice Lee's: the half is in the gain k_r.
+    // The attitude error in the body's axes. It is the full vee, twice Lee's: the half is in the gain k_r. `pij` is as above and `qij` the same
+    // entry of R^T R_d. Each sum starts from 0.0, so none is a negative zero; the halved difference stays, since twice an entry can overflow.
     pub fn attitude_error(r: Mat3, r_d: Mat3) -> Vec3
         ensures { λ e. ⌜ e ≡ attitudeError r «r_d» ⌝ }
     {
-        let rdt_r = matmul3(transpose3(r_d), r);
-        let rt_rd = matmul3(transpose3(r), r_d);
-        vee(difference3(rdt_r, rt_rd))
+        let p21 = 0.0 + r_d.0.2 * r.0.1 + r_d.1.2 * r.1.1 + r_d.2.2 * r.2.1;
+        let q21 = 0.0 + r.0.2 * r_d.0.1 + r.1.2 * r_d.1.1 + r.2.2 * r_d.2.1;
+        let p12 = 0.0 + r_d.0.1 * r.0.2 + r_d.1.1 * r.1.2 + r_d.2.1 * r.2.2;
+        let q12 = 0.0 + r.0.1 * r_d.0.2 + r.1.1 * r_d.1.2 + r.2.1 * r_d.2.2;
+        let p02 = 0.0 + r_d.0.0 * r.0.2 + r_d.1.0 * r.1.2 + r_d.2.0 * r.2.2;
+        let q02 = 0.0 + r.0.0 * r_d.0.2 + r.1.0 * r_d.1.2 + r.2.0 * r_d.2.2;
+        let p20 = 0.0 + r_d.0.2 * r.0.0 + r_d.1.2 * r.1.0 + r_d.2.2 * r.2.0;
+        let q20 = 0.0 + r.0.2 * r_d.0.0 + r.1.2 * r_d.1.0 + r.2.2 * r_d.2.0;
+        let p10 = 0.0 + r_d.0.1 * r.0.0 + r_d.1.1 * r.1.0 + r_d.2.1 * r.2.0;
+        let q10 = 0.0 + r.0.1 * r_d.0.0 + r.1.1 * r_d.1.0 + r.2.1 * r_d.2.0;
+        let p01 = 0.0 + r_d.0.0 * r.0.1 + r_d.1.0 * r.1.1 + r_d.2.0 * r.2.1;
+        let q01 = 0.0 + r.0.0 * r_d.0.1 + r.1.0 * r_d.1.1 + r.2.0 * r_d.2.1;
+        Vec3(
+            0.5 * ((p21 - q21) - (p12 - q12)),
+            0.5 * ((p02 - q02) - (p20 - q20)),
+            0.5 * ((p10 - q10) - (p01 - q01)),
+        )
     }
 
     // The error of the thrust axis alone, for a rotor out: yaw is let go. It is zero at b3_d, and upside down too.

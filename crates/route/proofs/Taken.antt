@@ -8,11 +8,12 @@ use borrow.Author.Tests.{ltb-false, eqb-true, eqb-false, not-true, not-false}
 use lib.Dec.{eqb, ltb}
 use lib.ListN.{length}
 use Rattle.relay_math.proofs.Tests.{no}
-use Rattle.joint.specs.declared.state.State.{State}
 use Rattle.joint.specs.declared.state.TickInput.{TickInput}
-use Rattle.joint.specs.declared.stages.Ticked.{Ticked}
-use Rattle.joint.specs.Tick.{prepare, toward, ticked}
-use Rattle.joint.proofs.Once.{tick-toward}
+use Rattle.joint.specs.declared.stages.Prepared.{Prepared}
+use Rattle.joint.specs.declared.stages.Reference.{Reference}
+use Rattle.joint.specs.declared.stages.Steered.{Steered}
+use Rattle.joint.specs.Tick.{prepare, toward, steered, steeredState}
+use Rattle.joint.proofs.Once.{steered-tick}
 use Rattle.image.specs.Image.{stateAt, imageOf}
 use Rattle.image.specs.Calls.{inputAt, answerOf}
 use Rattle.flight.specs.declared.entry.Outcome.the-variants as tick
@@ -90,13 +91,8 @@ module _ (image input route answer : List ℕ) {o : Outcome} {t : Bool} (e : o �
   unfolding routeCall
   refused n = rw (← e, ← d, not-true t n)
 
-  pub flew : not t ≡ false → {done : Ticked} {later answered : List ℕ} → done ≡ ticked (onRoute route) (stateAt image) (inputAt input)
-      → later ≡ imageOf (done .state) → answered ≡ answerOf (done .answer) → called Done later answered ≡ routeCall image input route answer
-  unfolding routeCall
-  flew n f p q = rw (← e, ← d, not-false t n, p, q, f)
-
--- ---- a route tick is what comes after its sample
-
-pub route-toward : (route : List ℕ) (s : State) (i : TickInput) → toward (prepare s i) (referenceOn route (countOf route) (prepare s i .time)) i ≡ ticked (onRoute route) s i
-unfolding onRoute
-route-toward route s i = tick-toward (onRoute route) s i
+  pub flew : not t ≡ false → {given : TickInput} {p : Prepared} {wanted : Reference} {s : Steered} {later answered : List ℕ}
+      → given ≡ inputAt input → p ≡ prepare (stateAt image) given → wanted ≡ referenceOn route (countOf route) (p .time) → s ≡ steered (toward p wanted given)
+      → later ≡ imageOf (steeredState p s) → answered ≡ answerOf (s .answer) → called Done later answered ≡ routeCall image input route answer
+  unfolding routeCall onRoute
+  flew n {given} i p w s k l = rw (← e, ← d, not-false t n, ← i, ← steered-tick (onRoute route) (stateAt image) given p w s, k, l)

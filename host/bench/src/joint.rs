@@ -3,10 +3,12 @@
 
 use super::stack;
 use compare::generate::Rng;
-use compare::joint::bytes::{put, ANSWER, IMAGE, TICK};
+use compare::joint::bytes::{put, ANSWER, IMAGE, SETUP, TICK};
+use compare::joint::guide::Guide;
 use compare::joint::model::Flight;
 use compare::joint::pilot::Pilot;
 use compare::joint::ARCHIVE;
+use compare::log::{model, RECORD, TRAILER};
 use std::hint::black_box;
 use std::time::Instant;
 
@@ -19,6 +21,7 @@ type Answer = [u8; ANSWER];
 
 /// A set-up's image and what comes in after it.
 pub struct Run {
+    set_up: [u8; SETUP],
     start: Image,
     inputs: Vec<Input>,
 }
@@ -39,7 +42,8 @@ pub fn headings() -> Run {
 
 fn run(alter: impl Fn(&mut Rng, &mut Input)) -> Run {
     let (mut pilot, mut rng) = (Pilot::on_a_pass(1), Rng::new("bench", 1));
-    let mut flight = Flight::set_up(&pilot.set_up());
+    let set_up = pilot.set_up();
+    let mut flight = Flight::set_up(&set_up);
     let mut start = [0; IMAGE];
     flight.write(&mut start);
     let inputs = (0..TICKS)
@@ -50,7 +54,7 @@ fn run(alter: impl Fn(&mut Rng, &mut Input)) -> Run {
             input
         })
         .collect();
-    Run { start, inputs }
+    Run { set_up, start, inputs }
 }
 
 /// One way to tick.
@@ -111,17 +115,41 @@ fn made(image: &mut Image, input: &Input, answer: &mut Answer) {
     flight.write(image);
 }
 
+/// The C call of an earlier archive.
+#[cfg(before)]
+struct Before(Image);
+
+#[cfg(before)]
+impl Side for Before {
+    fn begin(&mut self, start: &Image) {
+        self.0 = *start;
+    }
+
+    fn tick(&mut self, input: &Input, answer: &mut Answer) {
+        extern "C" {
+            fn fosavalo_tick_before(i: *mut u8, n: usize, input: *const u8, m: usize, answer: *mut u8, k: usize) -> u32;
+        }
+        let image = &mut self.0;
+        // SAFETY: each pointer goes with its own buffer's length, and all three live until the call is over.
+        black_box(unsafe { fosavalo_tick_before(image.as_mut_ptr(), IMAGE, input.as_ptr(), TICK, answer.as_mut_ptr(), ANSWER) });
+    }
+}
+
 /// Nanoseconds a tick: ours, theirs made from bytes, theirs kept. The least of many short tries, the sides taking turns, for a
 /// machine that does other things as well only ever adds.
 pub struct Times {
     pub ours: f64,
     pub made: f64,
     pub kept: f64,
+    /// An earlier archive's, where there is one.
+    pub before: Option<f64>,
 }
 
 pub fn times(run: &Run) -> Times {
-    let mut sides: [Box<dyn Side>; 3] = [Box::new(Ours(run.start)), Box::new(Made(run.start)), Box::new(Kept(None))];
-    let mut least = [f64::INFINITY; 3];
+    let mut sides: Vec<Box<dyn Side>> = vec![Box::new(Ours(run.start)), Box::new(Made(run.start)), Box::new(Kept(None))];
+    #[cfg(before)]
+    sides.push(Box::new(Before(run.start)));
+    let mut least = vec![f64::INFINITY; sides.len()];
     for _ in 0..TRIES {
         for (side, least) in sides.iter_mut().zip(&mut least) {
             let start = Instant::now();
@@ -129,8 +157,7 @@ pub fn times(run: &Run) -> Times {
             *least = least.min(start.elapsed().as_nanos() as f64 / TICKS as f64);
         }
     }
-    let [ours, made, kept] = least;
-    Times { ours, made, kept }
+    Times { ours: least[0], made: least[1], kept: least[2], before: least.get(3).copied() }
 }
 
 fn once(side: &mut dyn Side, run: &Run) {
@@ -155,22 +182,76 @@ pub fn alike(run: &Run) -> bool {
     })
 }
 
-/// The stack that one tick of ours takes, and one of theirs made from bytes, the most over some ticks, on a thread of its own.
-/// None where it can't be measured.
-pub fn stacks(run: &Run) -> Option<(usize, usize)> {
-    let most = |(a, b): (usize, usize), (c, d): (usize, usize)| (a.max(c), b.max(d));
+/// The C calls whose stack is measured, and the Rust's own calls of a tick beside them.
+pub const CALLS: [&str; 10] = [
+    "fosavalo_setup",
+    "fosavalo_tick",
+    "fosavalo_route_tick",
+    "fosavalo_tick_refusal",
+    "fosavalo_sinf",
+    "fosavalo_cosf",
+    "fosavalo_log_append",
+    "fosavalo_log_count",
+    "fosavalo_log_record",
+    "the Rust calls of a tick",
+];
+/// Where in `CALLS` the tick stands, and the Rust's.
+pub const TICKED: usize = 1;
+pub const RUST: usize = 9;
+
+/// The stack that each of `CALLS` takes, the most over some ticks of a run, on a thread of its own. None where it can't be measured.
+pub fn stacks(run: &Run) -> Option<[usize; CALLS.len()]> {
+    fn of<T>(mut call: impl FnMut() -> T) -> Option<usize> {
+        stack::depth(&mut || {
+            black_box(call());
+        })
+    }
     let measure = || {
-        let (mut ours, mut theirs, mut answer) = (run.start, run.start, [0; ANSWER]);
-        run.inputs.iter().take(256).try_fold((0, 0), |before, input| {
-            let own = stack::depth(&mut || {
-                black_box((ARCHIVE.tick)(&mut ours, input, &mut answer));
-            })?;
-            let rust = stack::depth(&mut || made(&mut theirs, input, &mut answer))?;
-            Some(most(before, (own, rust)))
+        let [mut fresh, mut ours, mut routed, mut theirs] = [run.start; 4];
+        let (mut answer, mut guide) = ([0; ANSWER], Guide::new(63));
+        let (mut log, mut record) = ([0; TRAILER + RECORD], [0; RECORD]);
+        let route = std::iter::repeat_with(|| guide.steady()).flatten().next()?;
+        run.inputs.iter().take(256).try_fold([0; CALLS.len()], |most, input| {
+            let yaw = f32::from_le_bytes(input[32..36].try_into().ok()?);
+            log[..TRAILER].copy_from_slice(&model::written(&[]));
+            let here = [
+                of(|| (ARCHIVE.setup)(&mut fresh, &run.set_up))?,
+                of(|| (ARCHIVE.tick)(&mut ours, input, &mut answer))?,
+                of(|| (ARCHIVE.route_tick)(&mut routed, input, &route, &mut answer))?,
+                of(|| faces::tick_refusal(&ours, TICK, ANSWER))?,
+                of(|| faces::sinf(yaw))?,
+                of(|| faces::cosf(yaw))?,
+                of(|| faces::log_append(&mut log, TRAILER as u64, input, &answer))?,
+                of(|| faces::log_count(&log, &mut [0; 4]))?,
+                of(|| faces::log_record(&log, 0, &mut record))?,
+                of(|| made(&mut theirs, input, &mut answer))?,
+            ];
+            Some(std::array::from_fn(|k| most[k].max(here[k])))
         })
     };
     std::thread::scope(|scope| {
         let thread = std::thread::Builder::new().stack_size(stack::LEAST).spawn_scoped(scope, measure);
         thread.ok().and_then(|thread| thread.join().ok()).flatten()
     })
+}
+
+#[cfg(all(test, target_arch = "x86_64"))]
+mod tests {
+    use super::*;
+
+    #[test]
+    fn no_call_takes_more_stack_than_its_bar() {
+        for run in [pass(), headings()] {
+            let depths = stacks(&run).expect("measured on this machine");
+            assert!(depths[..RUST].iter().all(|&depth| depth <= stack::BAR), "{depths:?}");
+        }
+    }
+
+    #[test]
+    fn a_route_tick_that_is_measured_is_a_tick() {
+        let (run, mut guide, mut answer) = (pass(), Guide::new(63), [0; ANSWER]);
+        let route = std::iter::repeat_with(|| guide.steady()).flatten().next().unwrap();
+        assert_eq!(route.len(), 8 * 76 + 8);
+        assert_eq!((ARCHIVE.route_tick)(&mut run.start.clone(), &run.inputs[0], &route, &mut answer), 0);
+    }
 }

@@ -1,4 +1,5 @@
 //! `make bench`: each of our calls beside what it is measured against, through the same kind of call, in one run.
+//! `make stack`: the stack that each of the core's calls takes.
 
 mod joint;
 mod log;
@@ -85,7 +86,31 @@ fn logs() -> bool {
     good
 }
 
+/// The stack of each call, the most over a slow pass and one with random headings.
+fn stacks() -> bool {
+    let (Some(pass), Some(headings)) = (joint::stacks(&joint::pass()), joint::stacks(&joint::headings())) else {
+        println!("the stack is not measured on this machine");
+        return false;
+    };
+    let most = pass.iter().zip(headings).map(|(&a, b)| a.max(b));
+    let mut good = true;
+    for (k, (name, bytes)) in joint::CALLS.iter().zip(most).enumerate() {
+        let within = k == joint::RUST || bytes <= stack::BAR;
+        let verdict = if k == joint::RUST {
+            "no bar".into()
+        } else {
+            format!("{} the bar of {}", if within { "within" } else { "OVER" }, stack::BAR)
+        };
+        println!("{name:28} {bytes:6} B  ({verdict})");
+        good &= within;
+    }
+    good
+}
+
 fn main() {
+    if std::env::args().nth(1).as_deref() == Some("stack") {
+        std::process::exit(i32::from(!stacks()));
+    }
     let mut rng = Rng(1);
     let positive: Vec<f32> = (0..CALLS).map(|_| (rng.next() * 1000.0) as f32).collect();
     let headings: Vec<f32> = (0..CALLS).map(|_| ((rng.next() - 0.5) * 2.0 * std::f64::consts::PI) as f32).collect();
@@ -114,8 +139,17 @@ fn main() {
             "{:48} ours {:6.2} ns  other {:6.2} ns  ratio {ratio:5.2}  (no bar)",
             "  .. and Rust with its objects kept", times.ours, times.kept
         );
+        if let Some(before) = times.before {
+            let ratio = times.ours / before;
+            println!("{:48} ours {:6.2} ns  other {before:6.2} ns  ratio {ratio:5.2}  (no bar)", "  .. and the archive before", times.ours);
+        }
         match joint::stacks(&run) {
-            Some((ours, theirs)) => println!("{:48} ours {ours:6} B   other {theirs:6} B", "  .. and the stack that one tick takes"),
+            Some(depths) => println!(
+                "{:48} ours {:6} B   other {:6} B",
+                "  .. and the stack that one tick takes",
+                depths[joint::TICKED],
+                depths[joint::RUST]
+            ),
             None => println!("  .. and the stack that one tick takes: not measured on this machine"),
         }
     }

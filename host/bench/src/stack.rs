@@ -4,6 +4,9 @@
 #[cfg(target_arch = "x86_64")]
 const BELOW: usize = 256 * 1024;
 
+/// What each of the core's calls may take, on any thread.
+pub const BAR: usize = 2048;
+
 /// The stack that a thread needs for it.
 pub const LEAST: usize = 1024 * 1024;
 

@@ -1,12 +1,12 @@
 -- `flight::entry::intact` meets its contract: what its calls ensure, put together. Assumes nothing.
 use borrow.Author.Needs.{needs}
 use borrow.Author.Tests.{eq-eqb, ne-eqb}
-use Rattle.flight.specs.Entry.{intactWith}
+use Rattle.flight.specs.Entry.{intact}
 use Rattle.flight.proofs.entry.intact.Statement.{statement}
 use Rattle.flight.proofs.entry.intact.Tie as tie
 
 pub intact-spec : {M : Type 1} → statement M
-unfolding intactWith
+unfolding intact
 intact-spec =
     tie.close (tie.spec
     (λ c κs. search needs)
@@ -19,7 +19,7 @@ intact-spec =
     ))
     (λ c κs. search needs)
     (λ c. simp (
-      c .good2 .ensures,
+      c .good-at .ensures,
       ← c .before .before .before .word-at2 .ensures,
       ← c .before .before .before .before .word-at .ensures,
       eq-eqb _ _ (c .before .if2 .taken),
@@ -27,7 +27,7 @@ intact-spec =
     ))
     (λ c κs. search needs)
     (λ c. simp (
-      c .good3 .ensures,
+      c .good-at2 .ensures,
       ← c .before .before .before .before .word-at2 .ensures,
       ← c .before .before .before .before .before .word-at .ensures,
       eq-eqb _ _ (c .before .if3 .taken),

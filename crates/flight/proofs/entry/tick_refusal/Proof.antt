@@ -1,12 +1,12 @@
 -- `flight::entry::tick_refusal` meets its contract: what its calls ensure, put together. Assumes nothing.
 use borrow.Author.Needs.{needs}
 use borrow.Author.Tests.{eq-eqb, ne-eqb}
-use Rattle.flight.specs.Entry.{tickRefusal, intact}
+use Rattle.flight.specs.Entry.{tickRefusal}
 use Rattle.flight.proofs.entry.tick_refusal.Statement.{statement}
 use Rattle.flight.proofs.entry.tick_refusal.Tie as tie
 
 pub tick-refusal-spec : {M : Type 1} → statement M
-unfolding tickRefusal intact
+unfolding tickRefusal
 tick-refusal-spec =
     tie.close (tie.spec
     (λ c. simp (
@@ -21,20 +21,17 @@ tick-refusal-spec =
       eq-eqb _ _ (c .before .before .if1 .left),
     ))
     (λ c κs. search needs)
-    (λ c κs. search needs)
     (λ c. simp (
       ← c .before .intact .ensures,
-      ← c .before .before .state-at .ensures,
       c .if4 .taken,
-      eq-eqb _ _ (c .before .before .before .if3 .left),
-      eq-eqb _ _ (c .before .before .before .before .if2 .left),
-      eq-eqb _ _ (c .before .before .before .before .before .if1 .left),
+      eq-eqb _ _ (c .before .before .if3 .left),
+      eq-eqb _ _ (c .before .before .before .if2 .left),
+      eq-eqb _ _ (c .before .before .before .before .if1 .left),
     ))
     (λ c. simp (
       ← c .before .intact .ensures,
-      ← c .before .before .state-at .ensures,
       c .if4 .left,
-      eq-eqb _ _ (c .before .before .before .if3 .left),
-      eq-eqb _ _ (c .before .before .before .before .if2 .left),
-      eq-eqb _ _ (c .before .before .before .before .before .if1 .left),
+      eq-eqb _ _ (c .before .before .if3 .left),
+      eq-eqb _ _ (c .before .before .before .if2 .left),
+      eq-eqb _ _ (c .before .before .before .before .if1 .left),
     )))

@@ -2,12 +2,12 @@ use borrow.Author.Needs.{needs}
 use mathlib.Core.Path.{refl}
 use Rattle.words.proofs.Written.{then, whole}
 use Rattle.image.specs.Image.{imageOf}
-use Rattle.image.proofs.image.put_state.Statement.{statement}
-use Rattle.image.proofs.image.put_state.Tie as tie
+use Rattle.image.proofs.image.put_parts.Statement.{statement}
+use Rattle.image.proofs.image.put_parts.Tie as tie
 
-pub put-state-spec : {M : Type 1} → statement M
+pub put-parts-spec : {M : Type 1} → statement M
 unfolding imageOf
-put-state-spec =
+put-parts-spec =
     tie.close (tie.spec
     (λ c. search needs)
     (λ c κs. search needs)

@@ -38,14 +38,7 @@ fn pair(ours: impl Fn(f32) -> f32, theirs: impl Fn(f32) -> f32, inputs: &[f32]) 
     // independent calls: no call waits for the answer of the one before it
     let a = |xs: &[f32]| xs.iter().fold(0.0f32, |last, &x| if ours(x) == -7.0 { x } else { last });
     let b = |xs: &[f32]| xs.iter().fold(0.0f32, |last, &x| if theirs(x) == -7.0 { x } else { last });
-    let (mut ta, mut tb) = (Vec::new(), Vec::new());
-    for _ in 0..TRIES {
-        ta.push(once(&a));
-        tb.push(once(&b));
-    }
-    ta.sort_by(f64::total_cmp);
-    tb.sort_by(f64::total_cmp);
-    (ta[0], tb[0])
+    (0..TRIES).fold((f64::INFINITY, f64::INFINITY), |least, _| (once(&a).min(least.0), once(&b).min(least.1)))
 }
 
 /// Numbers in 0..1, the same every time.
@@ -124,9 +117,16 @@ fn main() {
         let c = theirs::sincos(x, &mut s);
         s + c
     };
-    let mut good = line("root, against the hardware's", pair(faces::sqrtf, |x| theirs::sqrtf(x), &positive), 2.5);
-    good &= line("sine and cosine, against relay's kernels, ±pi", pair(ours, theirs, &headings), 1.0);
-    good &= line("sine and cosine, against relay's kernels, ±128", pair(ours, theirs, &wide), 1.0);
+    // Three visits, with the ticks between them: what disturbs the machine for a second or two meets one of them only.
+    let mut least = [(f64::INFINITY, f64::INFINITY); 3];
+    let mut visit = || {
+        let now = [pair(faces::sqrtf, |x| theirs::sqrtf(x), &positive), pair(ours, theirs, &headings), pair(ours, theirs, &wide)];
+        for (least, now) in least.iter_mut().zip(now) {
+            *least = (least.0.min(now.0), least.1.min(now.1));
+        }
+    };
+    let mut good = true;
+    visit();
     for (name, run) in [("slow pass", joint::pass()), ("headings", joint::headings())] {
         if !joint::alike(&run) {
             println!("joint tick, {name}: the sides answer differently");
@@ -152,7 +152,12 @@ fn main() {
             ),
             None => println!("  .. and the stack that one tick takes: not measured on this machine"),
         }
+        visit();
     }
+    let [root, turn, wide] = least;
+    good &= line("root, against the hardware's", root, 2.5);
+    good &= line("sine and cosine, against relay's kernels, ±pi", turn, 1.0);
+    good &= line("sine and cosine, against relay's kernels, ±128", wide, 1.0);
     good &= logs();
     if !good {
         std::process::exit(1);

@@ -1,0 +1,190 @@
+//! docs/DIFFERENCES.md, line by line: the input that shows a difference is run through the archive's own calls and through the Rust as published.
+
+use faces::geo::{Mat3, Quat, RecoverableSet};
+use faces::{adrc, geo, traj, BodyRate, Vec3};
+use opened::{adrc as rust_adrc, geo as rust_geo, traj as rust_traj};
+use relay_math_published as published;
+
+const ZERO: Vec3 = Vec3(0.0, 0.0, 0.0);
+const LEVEL: Mat3 = Mat3(Vec3(1.0, 0.0, 0.0), Vec3(0.0, 1.0, 0.0), Vec3(0.0, 0.0, 1.0));
+
+fn array(v: Vec3) -> [f32; 3] {
+    [v.0, v.1, v.2]
+}
+
+fn rows(m: Mat3) -> [[f32; 3]; 3] {
+    [array(m.0), array(m.1), array(m.2)]
+}
+
+fn f(bits: u32) -> f32 {
+    f32::from_bits(bits)
+}
+
+/// The same bits on both sides, and these.
+fn both(ours: f32, theirs: f32, bits: u32) {
+    assert_eq!([ours.to_bits(), theirs.to_bits()], [bits, bits], "{ours} and {theirs} where {} was expected", f(bits));
+}
+
+#[test]
+fn sine_and_cosine_are_not_the_published_ones() {
+    assert_eq!([faces::sinf(-0.0).to_bits(), published::sinf(-0.0).to_bits()], [0x8000_0000, 0]);
+    let beyond = f(0x4300_0001);
+    assert_eq!([faces::sinf(beyond).to_bits(), faces::cosf(beyond).to_bits()], [0, 0]);
+    assert_eq!(published::sinf(beyond).to_bits(), 0x3f38_953d);
+    assert_eq!([faces::sinf(1.0).to_bits(), published::sinf(1.0).to_bits()], [0x3f57_6aa4, 0x3f57_6aa5]);
+}
+
+#[test]
+fn the_attitude_error_is_the_full_vee() {
+    let (sine, cosine) = faces::sincos(0.5);
+    let tilted = Mat3(LEVEL.0, Vec3(0.0, cosine, -sine), Vec3(0.0, sine, cosine));
+    let (ours, theirs) = (geo::geoatt_attitude_error(tilted, LEVEL), rust_geo::GeoAtt::attitude_error(&rows(tilted), &rows(LEVEL)));
+    both(ours.0, theirs[0], (2.0 * sine).to_bits());
+}
+
+#[test]
+fn the_feedforward_has_the_other_sign() {
+    let ours = geo::flatness_omega_ff(ZERO, Vec3(1.0, 0.0, 0.0), 0.0, 0.0);
+    let theirs = rust_geo::flatness_omega_ff([0.0; 3], [1.0, 0.0, 0.0], 0.0, 0.0).expect("a rate");
+    assert!(ours.given && ours.rate.0 .1 < 0.0);
+    both(ours.rate.0 .1, theirs[1], theirs[1].to_bits());
+}
+
+#[test]
+fn the_reduced_error_is_zero_upside_down() {
+    let over = Mat3(Vec3(1.0, 0.0, 0.0), Vec3(0.0, -1.0, 0.0), Vec3(0.0, 0.0, -1.0));
+    let down = Vec3(0.0, 0.0, 1.0);
+    let (ours, theirs) =
+        (geo::geoatt_attitude_error_reduced(over, down), rust_geo::GeoAtt::attitude_error_reduced(&rows(over), array(down)));
+    for (x, y) in array(ours).into_iter().zip(theirs) {
+        assert_eq!([x, y], [0.0, 0.0]);
+    }
+    // e_z x v is (-v_y, v_x, 0)
+    let aside = geo::geoatt_attitude_error_reduced(LEVEL, Vec3(0.6, 0.3, 0.7));
+    assert!(aside.0 > 0.0 && aside.1 < 0.0);
+}
+
+#[test]
+fn some_sets_that_are_not_finite_leave_a_margin() {
+    let margin = |k_r, psi_max, psi| {
+        let ours = geo::recoverableset_margin(RecoverableSet { k_r, lambda_j: 1.0, psi_max }, psi, 1.0);
+        (ours, rust_geo::RecoverableSet { k_r, lambda_j: 1.0, psi_max }.margin(psi, 1.0))
+    };
+    for psi_max in [f32::NAN, f32::INFINITY] {
+        let (ours, theirs) = margin(1.0, psi_max, 0.25);
+        assert!(ours.is_finite());
+        both(ours, theirs, theirs.to_bits());
+    }
+    let (ours, theirs) = margin(f32::INFINITY, 1.75, 0.25);
+    both(ours, theirs, 1.5f32.to_bits());
+}
+
+#[test]
+fn thresholds_are_mended_beyond_what_the_comment_says() {
+    let set = RecoverableSet { k_r: 1.0, lambda_j: 1.0, psi_max: 1.75 };
+    let rust = rust_geo::RecoverableSet { k_r: 1.0, lambda_j: 1.0, psi_max: 1.75 };
+    let large = f(0x7f00_0000);
+    for (enter, exit, mended) in [(0.25, f32::INFINITY, 0.5), (large, 1.0, f32::INFINITY), (large, f32::INFINITY, f32::INFINITY)] {
+        let mut ours = geo::simplexshield_new(set, enter, exit);
+        assert_eq!(ours.exit.to_bits(), f32::to_bits(mended));
+        // and so the planner flies, or never does
+        let mut theirs = rust_geo::SimplexShield::new(rust, enter, exit);
+        let (agile, fallback) = (BodyRate(Vec3(1.0, 1.0, 1.0)), BodyRate(ZERO));
+        for margin in [mended.min(f32::MAX), f32::MAX] {
+            let (now, rusts) = (geo::simplexshield_step(ours, margin, agile, fallback), theirs.step(margin, [1.0; 3], [0.0; 3]));
+            assert_eq!(now.fallback, rusts.1);
+            ours = now.shield;
+        }
+        assert_eq!(ours.engaged, mended.is_infinite());
+    }
+}
+
+#[test]
+fn a_zero_quaternion_counts_as_level() {
+    let ours = geo::quat_to_rotmat(Quat(0.0, 0.0, 0.0, 0.0));
+    assert_eq!([rows(ours), rust_geo::quat_to_rotmat([0.0; 4])], [rows(LEVEL); 2]);
+    both(geo::geoatt_psi(ours, LEVEL), rust_geo::GeoAtt::psi(&rows(ours), &rows(LEVEL)), 0);
+}
+
+#[test]
+fn a_quintic_is_not_finite_everywhere() {
+    let steep = traj::Quintic { c5: f(0x7f7f_ffff), c4: 0.0, c3: 0.0, c2: 0.0, c1: 0.0, c0: 0.0, t_end: 2.0 };
+    let theirs = rust_traj::Quintic::from_words([steep.c5, 0.0, 0.0, 0.0, 0.0, 0.0, 2.0]).eval(2.0);
+    let ours = traj::quintic_eval(steep, 2.0);
+    both(ours.p, theirs.p, 0x7f80_0000);
+    both(ours.v, theirs.v, 0x7f80_0000);
+}
+
+#[test]
+fn infinite_time_is_time_zero() {
+    let (ours, theirs) = (traj::quintic_new(1.0, 2.0, 3.0, 4.0, 5.0, 6.0, 2.0), rust_traj::Quintic::new(1.0, 2.0, 3.0, 4.0, 5.0, 6.0, 2.0));
+    both(traj::quintic_eval(ours, f32::INFINITY).p, theirs.eval(f32::INFINITY).p, 1.0f32.to_bits());
+}
+
+#[test]
+fn an_end_before_the_start_does_not_panic() {
+    let words = [1.0, 1.0, 1.0, 1.0, 1.0, 1.0, -1.0];
+    assert!(std::panic::catch_unwind(|| rust_traj::Quintic::from_words(words).eval(0.5)).is_err());
+    let [c5, c4, c3, c2, c1, c0, t_end] = words;
+    // at -1, the end itself
+    assert_eq!(traj::quintic_eval(traj::Quintic { c5, c4, c3, c2, c1, c0, t_end }, 0.5).p, 0.0);
+}
+
+#[test]
+fn the_clock_stands_still_after_hours() {
+    let (mut ours, mut theirs) = (traj::refgovernor_new(1.0, 3.0, 0.25), rust_traj::RefGovernor::new(1.0, 3.0, 0.25));
+    let mut ticks = 0u32;
+    let mut coarse = 0.0;
+    while ours.s < 32_768.0 {
+        let before = ours.s;
+        ours = traj::refgovernor_advance(ours, 0.0, 1e-3).governor;
+        both(ours.s, theirs.advance(0.0, 1e-3), ours.s.to_bits());
+        if before == 16_384.0 {
+            coarse = ours.s - before;
+        }
+        ticks += 1;
+    }
+    assert_eq!((ticks, coarse), (25_150_895, 0.001953125));
+    both(traj::refgovernor_advance(ours, 0.0, 1e-3).time, theirs.advance(0.0, 1e-3), 32_768.0f32.to_bits());
+}
+
+#[test]
+fn a_pass_through_loses_a_sign() {
+    both(adrc::biquad_filter(adrc::biquad_passthrough(), -0.0).y, rust_adrc::private::passthrough().filter(-0.0), 0);
+}
+
+#[test]
+fn a_low_pass_whose_angle_overflows() {
+    let (fc, fs) = (f(0x7e96_7699), f(0x7f61_b1e6));
+    assert_eq!([fc, fs], [1e38, 3e38]);
+    let ours = adrc::biquad_lowpass(fc, fs);
+    let theirs = rust_adrc::Biquad::lowpass(fc, fs).words();
+    for (ours, theirs, expected) in [
+        (ours.b0, theirs[0], 0.5),
+        (ours.b1, theirs[1], 1.0),
+        (ours.b2, theirs[2], 0.5),
+        (ours.a1, theirs[3], -0.0),
+        (ours.a2, theirs[4], 1.0f32),
+    ] {
+        both(ours, theirs, expected.to_bits());
+    }
+}
+
+#[test]
+fn bounds_and_fractions_of_what_is_not_finite() {
+    for x in [f32::NAN, f32::INFINITY, f32::NEG_INFINITY] {
+        both(adrc::clamp_sym(x, 2.0), rust_adrc::private::clamp_sym(x, 2.0), 0);
+    }
+    let gains = adrc::adrcgains_with_tau(4.0, 2.0, 2.0, 0.0);
+    let mut theirs = rust_adrc::AdrcAxis::new(rust_adrc::AdrcGains::with_tau(4.0, 2.0, 2.0, 0.0));
+    theirs.set_delivered_fraction(f(0xff80_0000));
+    let ours = adrc::adrcaxis_set_delivered_fraction(adrc::adrcaxis_new(gains), f(0xff80_0000));
+    both(ours.u_delivered_frac, theirs.words()[4], 1.0f32.to_bits());
+}
+
+#[test]
+fn an_observer_that_runs_backwards_counts_as_stable() {
+    let gains = adrc::AdrcGains { omega_o: -40.0, omega_c: 2.0, b0: 2.0, tau: 0.0 };
+    assert!(adrc::adrcgains_eso_dt_stable(gains, 1e-3, 0.8));
+    assert!(rust_adrc::AdrcGains::from_words([-40.0, 2.0, 2.0, 0.0]).eso_dt_stable(1e-3, 0.8));
+}

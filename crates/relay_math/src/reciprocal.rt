@@ -1,6 +1,7 @@
 // 1 / √t over 128 parts of 1 to 4, for a first guess at a root. Nothing is proved of these numbers, and nothing need be.
 
-// Part number i: the 64ths of 1 to 2, then those of 2 to 4. What 1 / √t is at its start, in units of 2^-32, and below 2^32 by how much it falls over it, in the same units.
+// Part number i: the 64ths of 1 to 2, then those of 2 to 4. In the upper 32 bits what 1 / √t is at the part's start, in the lower by how much it falls to its end, both in units of
+// 2^-32: the chord, lowered by half its greatest distance from the curve.
 // (The compiler makes one table of the arms; a `const` array would be written to the stack at each call.)
 pub(crate) fn line(i: u32) -> u64 {
     match i {

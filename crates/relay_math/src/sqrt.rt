@@ -65,6 +65,7 @@ fn root_bits(d: u32) -> u32
 {
     // m shifted by 23 or 24 digits, so that what is left of the exponent is even. (As a product it is quicker than as a shift.)
     let n = ((d % 8388608 + 8388608) as u64) * ((d / 8388608 % 2 * 8388608 + 8388608) as u64);
+    // (e + 103) / 2 above the root's own digits: 427819008 is 51 * 2^23
     (d / 2 + 427819008) / 8388608 * 8388608 + (nearest_root(n, d) as u32)
 }
 
@@ -78,7 +79,7 @@ fn digits(b: u32) -> u32
         let z = u32::leading_zeros(b);
         (31 - z) * 8388608 + (b << (z - 8))
     } else {
-        b + 192937984
+        b + 192937984 // 23 * 2^23: e is 22 more than the pattern's own exponent
     }
 }
 

@@ -21,11 +21,12 @@ use Rattle.joint.specs.Runs.{Leads}
 use Rattle.joint.specs.Runs as run
 use Rattle.joint.proofs.Shielding.{tick-keeps-shield}
 use Rattle.joint.proofs.Runs.{tick-leads, then, Lawful, run-leads, leads-flies}
-use Rattle.flight.specs.declared.entry.Outcome.the-variants.{Done}
+use Rattle.outcome.specs.declared.Outcome.the-variants.{Done}
+use Rattle.outcome.specs.Outcomes.{left, called}
 use Rattle.image.specs.Layout.{ENTER, EXIT, IMAGE-BYTES, SETUP-BYTES}
 use Rattle.image.specs.Image.{shieldAt, stateAt}
 use Rattle.image.specs.Calls.{setupAt, inputAt}
-use Rattle.flight.specs.Entry.{called, setUpRefusal, setUpCall, tickCall}
+use Rattle.flight.specs.Entry.{setUpRefusal, setUpCall, tickCall}
 use Rattle.flight.specs.Runs.{Accepted, start, Given, Right, Event, Tick, leftBy, guided, marginsOf, imageAfter, marginsAlong, AllRight, tickAt, imageAt, guidedAt}
 use Rattle.flight.specs.DemandThree.{enterOf, exitOf, Shows}
 use Rattle.image.proofs.Decoded.{decode-encode}
@@ -35,7 +36,7 @@ use Rattle.flight.proofs.Shown.{shieldOf, leaves, answers, shows, lawfu
 -- ---- from set-up on
 
 -- the image that an accepted set-up leaves is the one that runs start at
-pub set-up-starts : (image setup : List ℕ) → length image ≡ IMAGE-BYTES → length setup ≡ SETUP-BYTES → setUpCall image setup [] ≡ called Done (start setup) []
+pub set-up-starts : (image setup : List ℕ) → length image ≡ IMAGE-BYTES → length setup ≡ SETUP-BYTES → setUpCall image setup ≡ left Done (start setup)
 unfolding setUpCall setUpRefusal start
 set-up-starts image setup p q = rw (p, q)
 

@@ -12,11 +12,12 @@ use Rattle.joint.specs.declared.stages.Reference.{Reference}
 use Rattle.joint.specs.declared.stages.Steered.{Steered}
 use Rattle.joint.specs.Tick.{prepare, referenceAt, toward, steered, steeredState, tick}
 use Rattle.joint.proofs.Once.{steered-tick, prepared-segment}
-use Rattle.flight.specs.declared.entry.Outcome.the-variants.{Done}
+use Rattle.outcome.specs.declared.Outcome.the-variants.{Done}
+use Rattle.outcome.specs.Outcomes.{called}
 use Rattle.image.specs.Layout.{IMAGE-BYTES, INPUT-BYTES, ANSWER-BYTES}
 use Rattle.image.specs.Image.{stateAt, imageOf}
 use Rattle.image.specs.Calls.{inputAt, answerOf}
-use Rattle.flight.specs.Entry.{called, intact, tickRefusal, tickCall}
+use Rattle.flight.specs.Entry.{intact, tickRefusal, tickCall}
 
 pub flown : (image input answer : List ℕ) {sound : Bool} {given : TickInput} {p : Prepared} {wanted : Reference} {d : Steered} {later answered : List ℕ}
     → length image ≡ IMAGE-BYTES → length input ≡ INPUT-BYTES → length answer ≡ ANSWER-BYTES → sound ≡ intact image → not sound ≡ false

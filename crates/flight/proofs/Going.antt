@@ -17,8 +17,7 @@ use Rattle.joint.specs.SetUp.{setUp, segmentOf}
 use Rattle.joint.specs.Tick.{tick, ticked, prepare, finish, follow, referenceAt}
 use Rattle.joint.specs.Good.{shieldOk, good}
 use Rattle.joint.proofs.Kept.{Good, good-parts, set-up-good, tick-good}
-use Rattle.flight.specs.declared.entry.Outcome.{Outcome}
-use Rattle.flight.specs.declared.entry.Outcome.the-variants.{Done, ImageLength, InputLength, AnswerLength, BrokenImage}
+use Rattle.outcome.specs.declared.Outcome.the-variants.{Done, ImageLength, BrokenImage}
 use Rattle.image.specs.Layout.{COUNT, ENGAGED, IMAGE-WORDS, IMAGE-BYTES, INPUT-BYTES, ANSWER-BYTES, SETUP-ENTER}
 use Rattle.image.specs.Parts.{gainsAt, setAt, legAt, adrcGainsAt, quatAt}
 use Rattle.image.specs.Image.{shieldAt, stateAt, imageOf}

@@ -12,11 +12,12 @@ use Rattle.joint.specs.Tick.{referenceAt, ticked}
 use Rattle.joint.specs.Runs as run
 use Rattle.joint.proofs.Shielding.{tick-latch, tick-keeps-shield}
 use Rattle.joint.proofs.Runs.{after-append}
-use Rattle.flight.specs.declared.entry.Outcome.the-variants.{Done}
+use Rattle.outcome.specs.declared.Outcome.the-variants.{Done}
+use Rattle.outcome.specs.Outcomes.{Called, called}
 use Rattle.image.specs.Layout.{FLAG, ENGAGED}
 use Rattle.image.specs.Image.{shieldAt, stateAt}
 use Rattle.image.specs.Calls.{inputAt}
-use Rattle.flight.specs.Entry.{Called, called, tickCall}
+use Rattle.flight.specs.Entry.{tickCall}
 use Rattle.flight.specs.Runs.{start, Given, Right, Event, Tick, callOf, leftBy, guided, marginsOf, imageAfter}
 use Rattle.flight.specs.DemandThree.{enterOf, exitOf, InBand}
 use Rattle.image.proofs.Decoded.{engaged-written}

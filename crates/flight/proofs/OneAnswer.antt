@@ -1,11 +1,8 @@
 -- Of each public function here: no second answer fits its promise. Assumes nothing.
 use mathlib.Core.Path.{refl, ap}
 use Rattle.relay_math.proofs.Determined.{OneAnswer, no-second, both}
-use Rattle.flight.specs.Entry.{Called}
+use Rattle.outcome.specs.Outcomes.{Left, Called}
 use Rattle.flight.proofs.entry
-
-pub number-once : OneAnswer entry.number.ended entry.number.Reads.Post
-number-once κs a x y v w p q = (no-second p q, refl)
 
 pub tick-refusal-once : OneAnswer entry.tick_refusal.ended entry.tick_refusal.Reads.Post
 tick-refusal-once κs a x y v w p q = (no-second p q, refl)
@@ -13,7 +10,7 @@ tick-refusal-once κs a x y v w p q = (no-second p q, refl)
 pub setup-once : OneAnswer entry.setup.ended entry.setup.Reads.Post
 setup-once κs a x y v w p q =
     let e = no-second p q in
-    (ap (λ (c : Called). c .outcome) e, both (ap (λ (c : Called). c .image) e) refl)
+    (ap (λ (l : Left). l .outcome) e, both (ap (λ (l : Left). l .buffer) e) refl)
 
 pub tick-once : OneAnswer entry.tick.ended entry.tick.Reads.Post
 tick-once κs a x y v w p q =

@@ -2,7 +2,7 @@
 -- heading that is no number (specs/Shams.antt). Assumes nothing.
 use mathlib.Core.Path.{_≡_, refl, sym, ap, _∙_, subst}
 use mathlib.Core.Bool.{Bool, true, false}
-use mathlib.Core.List.{List, []}
+use mathlib.Core.List.{List}
 use Prim.Native.Nat.{ℕ, zero, suc}
 use native.Mathlib.Nat.{suc-ne-zero}
 use lib.ListN.{length, replicate}
@@ -15,11 +15,12 @@ use Rattle.joint.specs.SetUp.{setUp}
 use Rattle.joint.specs.Tick.{tick, referenceAt}
 use Rattle.joint.proofs.Shielding.{tick-is, tick-keeps-shield}
 use Rattle.joint.proofs.NoAttitude.{nan-heading-tick}
-use Rattle.flight.specs.declared.entry.Outcome.the-variants.{Done}
+use Rattle.outcome.specs.declared.Outcome.the-variants.{Done}
+use Rattle.outcome.specs.Outcomes.{Left, left, Called, called}
 use Rattle.image.specs.Layout.{COUNT, ENGAGED, FLAG, SETUP-BYTES, INPUT-BYTES, ANSWER-BYTES}
 use Rattle.image.specs.Image.{stateAt, imageOf}
 use Rattle.image.specs.Calls.{setupAt, inputAt, answerOf}
-use Rattle.flight.specs.Entry.{Called, called, setUpRefusal, tickRefusal, setUpCall, tickCall}
+use Rattle.flight.specs.Entry.{setUpRefusal, tickRefusal, setUpCall, tickCall}
 use Rattle.flight.specs.Runs.{ticked}
 use Rattle.flight.specs.Shams.{Program, Keeps, RefusesSetUps, RefusesTicks, AnswersOnly, LeavesSetUp, LeavesTicked, blankAnswer, blankImage, ran, answered, EchoesAfter, levelSetUp, levelInput, lostInput}
 use Rattle.image.proofs.Decoded.{count-written, engaged-written, decode-encode}
@@ -32,7 +33,7 @@ use Rattle.flight.proofs.Level.{planner-first}
 abbrev Accepted : List ℕ → Type 0
 Accepted image = tickRefusal image INPUT-BYTES ANSWER-BYTES ≡ Done
 
-set-up-accepted : (b : List ℕ) → length b ≡ SETUP-BYTES → setUpCall blankImage b [] ≡ called Done (imageOf (setUp (setupAt b))) []
+set-up-accepted : (b : List ℕ) → length b ≡ SETUP-BYTES → setUpCall blankImage b ≡ left Done (imageOf (setUp (setupAt b)))
 unfolding setUpCall setUpRefusal
 set-up-accepted b e = rw e
 
@@ -89,11 +90,11 @@ counted e = suc-ne-zero 94 (sym (count-written s) ∙ ap (λ (b : List ℕ). wor
 -- ---- the shams
 
 -- there is a program that keeps the promises: what follows is not said of none
-pub honest : Keeps record { setUp = λ image input. setUpCall image input []; tick = tickCall }
+pub honest : Keeps record { setUp = setUpCall; tick = tickCall }
 honest = record { setUp = λ image input. refl; tick = λ image input answer. refl }
 
 module _ (p : Program) (k : Keeps p) where
-  sets-up : p .setUp blankImage levelSetUp ≡ called Done fresh []
+  sets-up : p .setUp blankImage levelSetUp ≡ left Done fresh
   sets-up = k .setUp blankImage levelSetUp ∙ set-up-accepted levelSetUp refl
 
   ticks : (image input : List ℕ) → Accepted image → length input ≡ INPUT-BYTES
@@ -107,7 +108,7 @@ module _ (p : Program) (k : Keeps p) where
 
   -- "refusing all calls": demand 2, the table says when
   pub not-refusing-set-ups : ¬ (RefusesSetUps p)
-  not-refusing-set-ups r = r .never blankImage levelSetUp (ap (λ (c : Called). c .outcome) sets-up)
+  not-refusing-set-ups r = r .never blankImage levelSetUp (ap (λ (l : Left). l .outcome) sets-up)
 
   pub not-refusing-ticks : ¬ (RefusesTicks p)
   not-refusing-ticks r = r .never fresh levelInput blankAnswer (ap (λ (c : Called). c .outcome) (ticks fresh levelInput fresh-taken refl))
@@ -130,7 +131,7 @@ module _ (p : Program) (k : Keeps p) where
 
   -- "the image untouched": demand 2, set-up writes its count, and a tick that releases the shield writes that
   pub not-leaving-set-up : ¬ (LeavesSetUp p)
-  not-leaving-set-up r = counted (sym (r .always blankImage levelSetUp) ∙ ap (λ (c : Called). c .image) sets-up)
+  not-leaving-set-up r = counted (sym (r .always blankImage levelSetUp) ∙ ap (λ (l : Left). l .buffer) sets-up)
 
   pub not-leaving-ticked : ¬ (LeavesTicked p)
   not-leaving-ticked r =
@@ -148,10 +149,10 @@ module _ (p : Program) (k : Keeps p) where
   not-echoing n r = suc-ne-zero 0 (sym lost ∙ ap (λ (b : List ℕ). word b FLAG) (r .again levelSetUp levelInput lostInput refl refl refl) ∙ flown)
     where
       start : List ℕ
-      start = p .setUp blankImage levelSetUp .image
+      start = p .setUp blankImage levelSetUp .buffer
 
       is-fresh : start ≡ fresh
-      is-fresh = ap (λ (c : Called). c .image) sets-up
+      is-fresh = ap (λ (l : Left). l .buffer) sets-up
 
       start-taken : Accepted start
       start-taken = subst Accepted (sym is-fresh) fresh-taken

@@ -1,7 +1,7 @@
 -- A tick on bytes: what its answer shows, and what each kind of call does to the shield. Assumes nothing.
 use mathlib.Core.Path.{_≡_, refl, sym, ap, _∙_, subst}
 use mathlib.Core.Logic.{_⊎_, inl, inr, _↔_}
-use mathlib.Core.Bool.{Bool, true, false, not}
+use mathlib.Core.Bool.{Bool, true, false, not, cond}
 use mathlib.Core.List.{List, [], _∷_}
 use Prim.Native.Nat.{ℕ, _+_, _*_, _<_}
 use native.Mathlib.Omega.{arith}
@@ -21,13 +21,14 @@ use Rattle.joint.specs.Tick.{guidance, ticked, tick, referenceAt}
 use Rattle.joint.specs.Runs.{Leads}
 use Rattle.joint.proofs.Shielding.{tick-margin, tick-planner, tick-fallback, planner-is}
 use Rattle.joint.proofs.Runs.{stays, tick-leads}
-use Rattle.flight.specs.declared.entry.Outcome.{Outcome}
-use Rattle.flight.specs.declared.entry.Outcome.the-variants.{Done, ImageLength, InputLength, AnswerLength, BrokenImage}
+use Rattle.outcome.specs.declared.Outcome.{Outcome}
+use Rattle.outcome.specs.declared.Outcome.the-variants.{Done}
+use Rattle.outcome.specs.Outcomes.{isDone, called, calledUnless}
 use Rattle.image.specs.Layout.{FLAG, MARGIN}
 use Rattle.image.specs.Image.{stateAt, imageOf}
 use Rattle.image.specs.Calls.{inputAt, answerOf}
-use Rattle.flight.specs.Entry.{called, unless, tickRefusal, tickCall}
-use Rattle.flight.specs.Runs.{Accepted, Given, Right, Event, Tick, callOf, leftBy, guided, ifDone, marginsOf}
+use Rattle.flight.specs.Entry.{tickRefusal, tickCall}
+use Rattle.flight.specs.Runs.{Accepted, Given, Right, Event, Tick, callOf, leftBy, guided, marginsOf}
 use Rattle.image.specs.Fits.{F32}
 use Rattle.flight.specs.DemandThree.{cleanWord, plannerWords, fallbackWords, commandWords, Shows}
 use Rattle.image.proofs.Decoded.{decode-encode, state-fits}
@@ -141,12 +142,12 @@ module _ (source : Float → Reference) (image input : List ℕ) where
 -- What holds of the image that a call leaves and of the margins that it steps the shield by, if it is done, and of this image and no margin, holds
 -- of the call, done or refused.
 pub unless-refused : (P : List ℕ → List Float → Type 0) (o : Outcome) (image later answer answered : List ℕ) (m : Float)
-    → P later (m ∷ []) → P image [] → P (unless o (called Done later answered) image answer .image) (ifDone o m)
-unless-refused P Done image later answer answered m d r = d
-unless-refused P ImageLength image later answer answered m d r = r
-unless-refused P InputLength image later answer answered m d r = r
-unless-refused P AnswerLength image later answer answered m d r = r
-unless-refused P BrokenImage image later answer answered m d r = r
+    → P later (m ∷ []) → P image [] → P (calledUnless o (called Done later answered) image answer .image) (cond (isDone o) (m ∷ []) [])
+unless-refused P o image later answer answered m d r = go (isDone o)
+  where
+    go : (t : Bool) → P (cond t (called Done later answered) (called o image answer) .image) (cond t (m ∷ []) [])
+    go true = d
+    go false = r
 
 -- so of a tick
 pub either-way : (P : List ℕ → List Float → Type 0) (image : List ℕ) (t : Given)

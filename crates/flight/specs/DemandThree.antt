@@ -10,7 +10,7 @@ use Rattle.relay_math.specs.F32.{0·0, isFinite, finiteOr}
 use Rattle.relay_geo.specs.Vectors.{sanitise3}
 use Rattle.joint.specs.declared.stages.Guided.{Guided}
 use Rattle.image.specs.Layout.{ENTER, EXIT, AGILE, COMMAND, FLAG, MARGIN}
-use Rattle.flight.specs.Entry.{Called, number}
+use Rattle.outcome.specs.Outcomes.{number, Called}
 use Rattle.flight.specs.Runs.{start}
 
 -- the thresholds, as set-up mended them

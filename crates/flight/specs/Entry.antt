@@ -9,19 +9,12 @@ use Rattle.joint.specs.declared.state.State.{State}
 use Rattle.joint.specs.SetUp.{setUp}
 use Rattle.joint.specs.Tick.{tick}
 use Rattle.joint.specs.Good.{good}
-use Rattle.flight.specs.declared.entry.Outcome.{Outcome}
-use Rattle.flight.specs.declared.entry.Outcome.the-variants.{Done, ImageLength, InputLength, AnswerLength, BrokenImage}
 use Rattle.image.specs.Layout.{COUNT, ENGAGED, IMAGE-WORDS, IMAGE-BYTES, SETUP-BYTES, INPUT-BYTES, ANSWER-BYTES}
 use Rattle.image.specs.Image.{stateAt, imageOf}
 use Rattle.image.specs.Calls.{setupAt, inputAt, answerOf}
-
--- document 01's number of each outcome
-abbrev pub number : Outcome → ℕ
-number Done = 0
-number ImageLength = 1
-number InputLength = 2
-number AnswerLength = 3
-number BrokenImage = 4
+use Rattle.outcome.specs.declared.Outcome.{Outcome}
+use Rattle.outcome.specs.declared.Outcome.the-variants.{Done, ImageLength, InputLength, AnswerLength, BrokenImage}
+use Rattle.outcome.specs.Outcomes.{Left, left, leftUnless, Called, called, calledUnless}
 
 -- ---- what is refused: the lowest number that applies
 
@@ -45,30 +38,12 @@ tickRefusal image inputLen answerLen =
 
 -- ---- what a call leaves
 
--- the outcome, and what the image and the answer hold afterwards
-pub record Called : Type 0 where
-  pub outcome : Outcome
-  pub image : List ℕ
-  pub answer : List ℕ
-
-abbrev pub called : Outcome → List ℕ → List ℕ → Called
-called o image answer = record { outcome = o; image = image; answer = answer }
-
--- the accepted call's, unless it is refused: then every byte stays
-abbrev pub unless : Outcome → Called → List ℕ → List ℕ → Called
-unless Done accepted image answer = accepted
-unless ImageLength accepted image answer = called ImageLength image answer
-unless InputLength accepted image answer = called InputLength image answer
-unless AnswerLength accepted image answer = called AnswerLength image answer
-unless BrokenImage accepted image answer = called BrokenImage image answer
-
--- set-up lends no answer: there the third list is empty and stays so
-unfoldable pub setUpCall : List ℕ → List ℕ → List ℕ → Called
+unfoldable pub setUpCall : List ℕ → List ℕ → Left
 unfolding setUpRefusal
-setUpCall image input none = unless (setUpRefusal (length image) (length input)) (called Done (imageOf (setUp (setupAt input))) none) image none
+setUpCall image input = leftUnless (setUpRefusal (length image) (length input)) (left Done (imageOf (setUp (setupAt input)))) image
 
 unfoldable pub tickCall : List ℕ → List ℕ → List ℕ → Called
 unfolding tickRefusal
 tickCall image input answer =
     let t = tick (stateAt image) (inputAt input) in
-    unless (tickRefusal image (length input) (length answer)) (called Done (imageOf (t .state)) (answerOf (t .answer))) image answer
+    calledUnless (tickRefusal image (length input) (length answer)) (called Done (imageOf (t .state)) (answerOf (t .answer))) image answer

@@ -1,5 +1,6 @@
 -- Runs, the image handed back each time as the last call left it. Definitions only.
 use mathlib.Core.Path.{_≡_}
+use mathlib.Core.Bool.{cond}
 use mathlib.Core.List.{List, [], _∷_, map}
 use Prim.Native.Nat.{ℕ}
 use lib.Ieee.{Float}
@@ -8,12 +9,12 @@ use Rattle.joint.specs.declared.stages.Guided.{Guided}
 use Rattle.joint.specs.SetUp.{setUp}
 use Rattle.joint.specs.Tick.{guidance, referenceAt, tick}
 use Rattle.joint.specs.Runs as run
-use Rattle.flight.specs.declared.entry.Outcome.{Outcome}
-use Rattle.flight.specs.declared.entry.Outcome.the-variants.{Done, ImageLength, InputLength, AnswerLength, BrokenImage}
 use Rattle.image.specs.Layout.{INPUT-BYTES, ANSWER-BYTES}
 use Rattle.image.specs.Image.{stateAt, imageOf}
 use Rattle.image.specs.Calls.{setupAt, inputAt}
-use Rattle.flight.specs.Entry.{Called, tickRefusal, tickCall}
+use Rattle.outcome.specs.declared.Outcome.the-variants.{Done}
+use Rattle.outcome.specs.Outcomes.{isDone, Called}
+use Rattle.flight.specs.Entry.{tickRefusal, tickCall}
 
 -- an image that a tick takes
 abbrev pub Accepted : List ℕ → Type 0
@@ -52,17 +53,10 @@ leftBy image e = callOf image e .image
 unfoldable pub guided : List ℕ → List ℕ → Guided
 guided image input = let s = stateAt image in guidance (referenceAt (s .segment)) s (inputAt input)
 
-abbrev pub ifDone : Outcome → Float → List Float
-ifDone Done m = m ∷ []
-ifDone ImageLength m = []
-ifDone InputLength m = []
-ifDone AnswerLength m = []
-ifDone BrokenImage m = []
-
 -- the margin that a call steps the shield by: that of a tick, if it is accepted
 unfoldable pub marginsOf : List ℕ → Event → List Float
 unfolding guided
-marginsOf image (Tick t) = ifDone (tickRefusal image (length (t .input)) (length (t .answer))) (guided image (t .input) .margin)
+marginsOf image (Tick t) = cond (isDone (tickRefusal image (length (t .input)) (length (t .answer)))) (guided image (t .input) .margin ∷ []) []
 
 -- the image after the calls, and the margins of all their accepted ticks, in order
 abbrev pub imageAfter : List ℕ → List Event → List ℕ

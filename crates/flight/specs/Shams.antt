@@ -4,18 +4,19 @@ use mathlib.Core.Path.{_≡_}
 use mathlib.Core.List.{List, [], _∷_, _++_}
 use lib.ListN.{length, replicate}
 use Rattle.words.specs.Words.{bytesOf}
-use Rattle.flight.specs.declared.entry.Outcome.the-variants.{Done}
 use Rattle.image.specs.Layout.{IMAGE-BYTES, ANSWER-BYTES, INPUT-BYTES, SETUP-BYTES}
-use Rattle.flight.specs.Entry.{Called, setUpCall, tickCall}
+use Rattle.outcome.specs.declared.Outcome.the-variants.{Done}
+use Rattle.outcome.specs.Outcomes.{Left, Called}
+use Rattle.flight.specs.Entry.{setUpCall, tickCall}
 
 -- Any program, by what its two calls leave: set-up of an image and an input, a tick of an image, an input and an answer.
 pub record Program : Type 0 where
-  pub setUp : List ℕ → List ℕ → Called
+  pub setUp : List ℕ → List ℕ → Left
   pub tick : List ℕ → List ℕ → List ℕ → Called
 
 -- It keeps the promises of `setup` and `tick`, at every call.
 pub record Keeps (p : Program) : Type 0 where
-  pub setUp : (image input : List ℕ) → p .setUp image input ≡ setUpCall image input []
+  pub setUp : (image input : List ℕ) → p .setUp image input ≡ setUpCall image input
   pub tick : (image input answer : List ℕ) → p .tick image input answer ≡ tickCall image input answer
 
 -- ---- "one refusing all calls": it never sets up, or never ticks
@@ -34,7 +35,7 @@ pub record AnswersOnly (p : Program) (c : List ℕ) : Type 0 where
 -- ---- "one that returns the image untouched"
 
 pub record LeavesSetUp (p : Program) : Type 0 where
-  pub always : (image input : List ℕ) → p .setUp image input .image ≡ image
+  pub always : (image input : List ℕ) → p .setUp image input .buffer ≡ image
 
 pub record LeavesTicked (p : Program) : Type 0 where
   pub always : (image input answer : List ℕ) → p .tick image input answer .image ≡ image
@@ -59,7 +60,7 @@ answered p image input = p .tick image input blankAnswer .answer
 -- from set-up: after a first tick and n more, one more tick answers as the first did, whatever its input. An echo does so for every n; one n is enough.
 pub record EchoesAfter (p : Program) (n : ℕ) : Type 0 where
   pub again : (b first later : List ℕ) → length b ≡ SETUP-BYTES → length first ≡ INPUT-BYTES → length later ≡ INPUT-BYTES →
-      answered p (ran p (p .setUp blankImage b .image) (replicate (suc n) first)) later ≡ answered p (p .setUp blankImage b .image) first
+      answered p (ran p (p .setUp blankImage b .buffer) (replicate (suc n) first)) later ≡ answered p (p .setUp blankImage b .buffer) first
 
 -- ---- a run in which the planner is given control and then loses it
 

@@ -9,6 +9,7 @@ use image::INPUT_BYTES;
 use image::QUINTIC_WORDS;
 use image::SEGMENT;
 use image::SETUP_BYTES;
+use image::T_END;
 use image::input_at;
 use image::prepared_at;
 use image::put_answer;
@@ -16,46 +17,26 @@ use image::put_state;
 use image::put_steered;
 use image::setup_at;
 use image::shield_at;
+use outcome::Outcome;
 use words::float_at;
 use words::word_at;
 ghost use mathlib.Core.Path.{_≡_};
-ghost use mathlib.Core.List.{[]};
 ghost use lib.ListN.{length};
 ghost use Rattle.joint.specs.Good.{segmentOk, good};
 ghost use Rattle.image.specs.Layout.{SEGMENT, IMAGE-BYTES};
 ghost use Rattle.image.specs.Parts.{segmentAt};
 ghost use Rattle.image.specs.Image.{stateAt};
-ghost use Rattle.flight.specs.Entry.{number, intact, tickRefusal, called, setUpCall, tickCall};
+ghost use Rattle.outcome.specs.Outcomes.{left, called};
+ghost use Rattle.flight.specs.Entry.{intact, tickRefusal, setUpCall, tickCall};
 
-// How a call ends: each has a number in document 01's table.
-pub enum Outcome {
-    Done,
-    ImageLength,
-    InputLength,
-    AnswerLength,
-    BrokenImage,
-}
-
-pub fn number(outcome: Outcome) -> u32
-    ensures { λ r. ⌜ r ≡ number outcome ⌝ }
-{
-    match outcome {
-        Outcome::Done => 0,
-        Outcome::ImageLength => 1,
-        Outcome::InputLength => 2,
-        Outcome::AnswerLength => 3,
-        Outcome::BrokenImage => 4,
-    }
-}
-
-// The last word of each axis of the segment, which is its t_end.
+// By the t_end of each axis of the segment.
 fn segment_lasts(image: &[u8]) -> bool
     requires { ⌜ length (now image) ≡ IMAGE-BYTES ⌝ }
     ensures { λ r. ⌜ r ≡ segmentOk (segmentAt (now (image .entry)) SEGMENT) ⌝ }
 {
-    if joint::lasts(float_at(image, SEGMENT + 6)) {
-        if joint::lasts(float_at(image, SEGMENT + QUINTIC_WORDS + 6)) {
-            joint::lasts(float_at(image, SEGMENT + QUINTIC_WORDS + QUINTIC_WORDS + 6))
+    if joint::lasts(float_at(image, SEGMENT + T_END)) {
+        if joint::lasts(float_at(image, SEGMENT + QUINTIC_WORDS + T_END)) {
+            joint::lasts(float_at(image, SEGMENT + QUINTIC_WORDS + QUINTIC_WORDS + T_END))
         } else {
             false
         }
@@ -120,7 +101,7 @@ pub fn tick_refusal(image: &[u8], input_len: usize, answer_len: usize) -> Outcom
 
 // A fresh image from 50 words. What the image held before is not read.
 pub fn setup(image: &mut [u8], input: &[u8]) -> Outcome
-    ensures { λ r. ⌜ called r (now (image .exit)) [] ≡ setUpCall (now (image .entry)) (now (input .entry)) [] ⌝ }
+    ensures { λ r. ⌜ left r (now (image .exit)) ≡ setUpCall (now (image .entry)) (now (input .entry)) ⌝ }
 {
     if image.len() != IMAGE_BYTES {
         return Outcome::ImageLength;

@@ -1,7 +1,7 @@
 -- Of each public function here: no second answer fits its promise. Assumes nothing.
 use mathlib.Core.Path.{refl, ap}
 use Rattle.relay_math.proofs.Determined.{OneAnswer, no-second, both}
-use Rattle.fosavalo.specs.Numbers.{Numbered, Filled}
+use Rattle.fosavalo.specs.Numbers.{Filled, Numbered}
 use Rattle.fosavalo.proofs.fosavalo_sinf
 use Rattle.fosavalo.proofs.fosavalo_cosf
 use Rattle.fosavalo.proofs.fosavalo_setup
@@ -21,7 +21,7 @@ fosavalo-cosf-once κs a x y v w p q = (no-second p q, refl)
 pub fosavalo-setup-once : OneAnswer fosavalo_setup.ended fosavalo_setup.Reads.Post
 fosavalo-setup-once κs a x y v w p q =
     let e = no-second p q in
-    (ap (λ (c : Numbered). c .returned) e, both (ap (λ (c : Numbered). c .image) e) refl)
+    (ap (λ (f : Filled). f .returned) e, both (ap (λ (f : Filled). f .buffer) e) refl)
 
 pub fosavalo-tick-once : OneAnswer fosavalo_tick.ended fosavalo_tick.Reads.Post
 fosavalo-tick-once κs a x y v w p q =

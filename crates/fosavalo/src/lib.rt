@@ -1,9 +1,11 @@
 // The C face: what a simulator links. Exported wrappers over the proved crates, and nothing else; include/fosavalo.h declares them.
 ghost use mathlib.Core.Path.{_≡_};
-ghost use mathlib.Core.List.{[]};
 ghost use Rattle.relay_math.specs.Steps.{sinf, cosf};
-ghost use Rattle.flight.specs.Entry.{number, tickRefusal};
-ghost use Rattle.fosavalo.specs.Numbers.{numbered, setUpNumbered, tickNumbered, routeNumbered, filled, appendNumbered, countNumbered, recordNumbered};
+ghost use Rattle.outcome.specs.Outcomes.{number};
+ghost use Rattle.flight.specs.Entry.{tickRefusal, setUpCall, tickCall};
+ghost use Rattle.route.specs.Entry.{routeCall};
+ghost use Rattle.log.specs.Entry.{appendCall, countCall, recordCall};
+ghost use Rattle.fosavalo.specs.Numbers.{filled, asFilled, numbered, asNumbered};
 
 #[no_mangle]
 pub extern "C" fn fosavalo_sinf(x: f32) -> f32
@@ -22,17 +24,17 @@ pub extern "C" fn fosavalo_cosf(x: f32) -> f32
 // Set-up: the number of its outcome, and the image as `flight::setup` leaves it.
 #[no_mangle]
 pub extern "C" fn fosavalo_setup(image: &mut [u8], input: &[u8]) -> u32
-    ensures { λ r. ⌜ numbered r (now (image .exit)) [] ≡ setUpNumbered (now (image .entry)) (now (input .entry)) ⌝ }
+    ensures { λ r. ⌜ filled r (now (image .exit)) ≡ asFilled (setUpCall (now (image .entry)) (now (input .entry))) ⌝ }
 {
-    flight::number(flight::setup(image, input))
+    outcome::number(flight::setup(image, input))
 }
 
 // A tick: the number of its outcome, and the image and the answer as `flight::tick` leaves them.
 #[no_mangle]
 pub extern "C" fn fosavalo_tick(image: &mut [u8], input: &[u8], answer: &mut [u8]) -> u32
-    ensures { λ r. ⌜ numbered r (now (image .exit)) (now (answer .exit)) ≡ tickNumbered (now (image .entry)) (now (input .entry)) (now (answer .entry)) ⌝ }
+    ensures { λ r. ⌜ numbered r (now (image .exit)) (now (answer .exit)) ≡ asNumbered (tickCall (now (image .entry)) (now (input .entry)) (now (answer .entry))) ⌝ }
 {
-    flight::number(flight::tick(image, input, answer))
+    outcome::number(flight::tick(image, input, answer))
 }
 
 // What a tick would be refused for, by the lengths and the image alone: a caller may ask before it changes anything of its own.
@@ -40,7 +42,7 @@ pub extern "C" fn fosavalo_tick(image: &mut [u8], input: &[u8], answer: &mut [u8
 pub extern "C" fn fosavalo_tick_refusal(image: &[u8], input_len: usize, answer_len: usize) -> u32
     ensures { λ r. ⌜ r ≡ number (tickRefusal (now (image .entry)) «input_len» «answer_len») ⌝ }
 {
-    flight::number(flight::tick_refusal(image, input_len, answer_len))
+    outcome::number(flight::tick_refusal(image, input_len, answer_len))
 }
 
 // A tick on a route: the number of its outcome, and the image and the answer as `route::route_tick` leaves them.
@@ -51,9 +53,9 @@ pub extern "C" fn fosavalo_route_tick(
     route: &[u8],
     answer: &mut [u8],
 ) -> u32
-    ensures { λ r. ⌜ numbered r (now (image .exit)) (now (answer .exit)) ≡ routeNumbered (now (image .entry)) (now (input .entry)) (now (route .entry)) (now (answer .entry)) ⌝ }
+    ensures { λ r. ⌜ numbered r (now (image .exit)) (now (answer .exit)) ≡ asNumbered (routeCall (now (image .entry)) (now (input .entry)) (now (route .entry)) (now (answer .entry))) ⌝ }
 {
-    route::number(route::route_tick(image, input, route, answer))
+    outcome::number(route::route_tick(image, input, route, answer))
 }
 
 // One record more in a log: the number of the outcome, and the buffer as `log::append` leaves it. A length of 64 bits is a slice's own.
@@ -64,23 +66,23 @@ pub extern "C" fn fosavalo_log_append(
     input: &[u8],
     answer: &[u8],
 ) -> u32
-    ensures { λ r. ⌜ filled r (now (buffer .exit)) ≡ appendNumbered (now (buffer .entry)) «log_len» (now (input .entry)) (now (answer .entry)) ⌝ }
+    ensures { λ r. ⌜ filled r (now (buffer .exit)) ≡ asFilled (appendCall (now (buffer .entry)) «log_len» (now (input .entry)) (now (answer .entry))) ⌝ }
 {
-    log::number(log::append(buffer, log_len as usize, input, answer))
+    outcome::number(log::append(buffer, log_len as usize, input, answer))
 }
 
 // How many records a log has, as a word: the number of the outcome, and the count's buffer as `log::count_into` leaves it.
 #[no_mangle]
 pub extern "C" fn fosavalo_log_count(log: &[u8], count: &mut [u8]) -> u32
-    ensures { λ r. ⌜ filled r (now (count .exit)) ≡ countNumbered (now (log .entry)) (now (count .entry)) ⌝ }
+    ensures { λ r. ⌜ filled r (now (count .exit)) ≡ asFilled (countCall (now (log .entry)) (now (count .entry))) ⌝ }
 {
-    log::number(log::count_into(log, count))
+    outcome::number(log::count_into(log, count))
 }
 
 // The record at a place of a log: the number of the outcome, and the record's buffer as `log::record_into` leaves it.
 #[no_mangle]
 pub extern "C" fn fosavalo_log_record(log: &[u8], place: u64, into: &mut [u8]) -> u32
-    ensures { λ r. ⌜ filled r (now (into .exit)) ≡ recordNumbered (now (log .entry)) place (now (into .entry)) ⌝ }
+    ensures { λ r. ⌜ filled r (now (into .exit)) ≡ asFilled (recordCall (now (log .entry)) place (now (into .entry))) ⌝ }
 {
-    log::number(log::record_into(log, place as usize, into))
+    outcome::number(log::record_into(log, place as usize, into))
 }

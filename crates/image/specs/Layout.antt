@@ -8,6 +8,9 @@ VEC-WORDS = 3
 abbrev pub QUINTIC-WORDS : ℕ
 QUINTIC-WORDS = 7
 
+abbrev pub T-END : ℕ
+T-END = 6
+
 abbrev pub ADRC-WORDS : ℕ
 ADRC-WORDS = 4
 

@@ -15,7 +15,7 @@ use Rattle.relay_adrc.specs.declared.rate.AdrcRate.{AdrcRate}
 use Rattle.relay_adrc.specs.declared.biquad.Biquad.{Biquad}
 use Rattle.relay_adrc.specs.declared.biquad.GyroLpf.{GyroLpf}
 use Rattle.joint.specs.declared.state.Leg.{Leg}
-use Rattle.image.specs.Layout.{VEC-WORDS, QUINTIC-WORDS, AXIS-WORDS, BIQUAD-WORDS}
+use Rattle.image.specs.Layout.{VEC-WORDS, QUINTIC-WORDS, T-END, AXIS-WORDS, BIQUAD-WORDS}
 
 -- ---- read
 
@@ -40,7 +40,7 @@ quinticAt b k =
       c2 = float b (k + 3);
       c1 = float b (k + 4);
       c0 = float b (k + 5);
-      «t_end» = float b (k + 6);
+      «t_end» = float b (k + T-END);
     }
 
 unfoldable pub segmentAt : List ℕ → ℕ → Segment3

@@ -6,6 +6,8 @@ pub const VEC_WORDS: usize = 3;
 
 pub const QUINTIC_WORDS: usize = 7;
 
+pub const T_END: usize = 6; // of a quintic's words the last
+
 pub const ADRC_WORDS: usize = 4;
 
 pub const AXIS_WORDS: usize = 9;

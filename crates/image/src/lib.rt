@@ -23,4 +23,5 @@ pub use layout::LEG_WORDS;
 pub use layout::QUINTIC_WORDS;
 pub use layout::SEGMENT;
 pub use layout::SETUP_BYTES;
+pub use layout::T_END;
 pub use parts::leg_at;

@@ -2,6 +2,7 @@
 use super::layout::AXIS_WORDS;
 use super::layout::BIQUAD_WORDS;
 use super::layout::QUINTIC_WORDS;
+use super::layout::T_END;
 use super::layout::VEC_WORDS;
 use joint::Leg;
 use relay_adrc::AdrcAxis;
@@ -83,7 +84,7 @@ pub fn quintic_at(bytes: &[u8], k: usize) -> Quintic
         c2: float_at(bytes, k + 3),
         c1: float_at(bytes, k + 4),
         c0: float_at(bytes, k + 5),
-        t_end: float_at(bytes, k + 6),
+        t_end: float_at(bytes, k + T_END),
     }
 }
 
@@ -209,7 +210,7 @@ pub fn put_quintic(bytes: &mut [u8], k: usize, q: Quintic)
 {
     put_three(bytes, k, q.c5, q.c4, q.c3);
     put_three(bytes, k + 3, q.c2, q.c1, q.c0);
-    put_float(bytes, k + 6, q.t_end);
+    put_float(bytes, k + T_END, q.t_end);
 }
 
 pub fn put_segment(bytes: &mut [u8], k: usize, s: Segment3)

@@ -8,21 +8,14 @@ use denote.Ref.{RefT, now}
 use denote.Triple.Entry.{Args, Res}
 use denote.Triple.Clauses.{Ended, Lasts, atExit}
 use Rattle.relay_math.proofs.Determined.{Promise, OneAnswer, no-second, both}
+use Rattle.outcome.specs.Outcomes.{Left}
 use Rattle.log.specs.declared.reader.Reader.{Reader}
 use Rattle.log.specs.Records.{hasRecord, recordAt, placeAfter}
-use Rattle.log.specs.Entry.{Left}
-use Rattle.log.proofs.outcome
 use Rattle.log.proofs.form
 use Rattle.log.proofs.record
 use Rattle.log.proofs.reader
 use Rattle.log.proofs.entry
 use Rattle.log.proofs.calls
-
-pub number-once : OneAnswer outcome.number.ended outcome.number.Reads.Post
-number-once κs a x y v w p q = (no-second p q, refl)
-
-pub is-done-once : OneAnswer outcome.is_done.ended outcome.is_done.Reads.Post
-is-done-once κs a x y v w p q = (no-second p q, refl)
 
 pub record-count-once : OneAnswer form.record_count.ended form.record_count.Reads.Post
 record-count-once κs a x y v w p q = (no-second p q, refl)

@@ -8,11 +8,11 @@ use native.Mathlib.Numerals.{add-one}
 use native.Mathlib.Omega.{arith}
 use borrow.Author.Tests.{lt-ltb, le-ltb}
 use lib.ListN.{length, take, getD, replicate}
-use Rattle.log.specs.declared.outcome.Outcome.the-variants.{Done}
-use Rattle.log.specs.Outcomes.{isDone}
+use Rattle.outcome.specs.declared.Outcome.the-variants.{Done}
+use Rattle.outcome.specs.Outcomes.{isDone, left}
 use Rattle.log.specs.Form.{RECORD-BYTES, TRAILER-BYTES, emptyLog, fromEnd, countOf, isLog, logRefusal}
 use Rattle.log.specs.Records.{bytesAt, recordsFrom, records, hasRecord, recordAt, placeAfter, handedOut}
-use Rattle.log.specs.Entry.{left, withRecord, appendCall}
+use Rattle.log.specs.Entry.{withRecord, appendCall}
 use Rattle.log.specs.Runs.{Held, logIn, Given, refusalOf, afterOne, keptBy, afterAll, keptAlong, Accepted, recordsOf, atFirst}
 use Rattle.log.proofs.Taken.{taken}
 use Rattle.log.proofs.Made.{records-of, one-more-record}

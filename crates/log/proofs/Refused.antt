@@ -12,10 +12,10 @@ use lib.Seq.{sets, take-length}
 use Rattle.words.specs.Words.{bytesOf}
 use Rattle.words.proofs.Written.{sets-other}
 use Rattle.image.specs.Layout.{INPUT-BYTES, ANSWER-BYTES}
-use Rattle.log.specs.declared.outcome.Outcome.the-variants.{Done, BrokenLog, NoRoom}
-use Rattle.log.specs.Outcomes.{isDone}
+use Rattle.outcome.specs.declared.Outcome.the-variants.{Done, BrokenLog, NoRoom}
+use Rattle.outcome.specs.Outcomes.{isDone, left}
 use Rattle.log.specs.Form.{RECORD-BYTES, TRAILER-BYTES, MOST-RECORDS, trailer, emptyLog, fromEnd, countOf, isLog, logRefusal}
-use Rattle.log.specs.Entry.{brokenOrFull, appendRefusal, left, appendCall}
+use Rattle.log.specs.Entry.{brokenOrFull, appendRefusal, appendCall}
 use Rattle.log.proofs.Taken.{Taken, taken}
 
 -- ---- "The reader, on a whole slice, gives 8 alike."

@@ -12,12 +12,12 @@ use Rattle.words.specs.Words.{Put}
 use Rattle.words.proofs.Written.{sets-append}
 use Rattle.relay_math.proofs.Tests.{no, both}
 use Rattle.image.specs.Layout.{INPUT-BYTES, ANSWER-BYTES}
-use Rattle.log.specs.declared.outcome.Outcome.{Outcome}
-use Rattle.log.specs.declared.outcome.Outcome.the-variants.{Done, InputLength, AnswerLength}
-use Rattle.log.specs.Outcomes.{isDone}
+use Rattle.outcome.specs.declared.Outcome.{Outcome}
+use Rattle.outcome.specs.declared.Outcome.the-variants.{Done, InputLength, AnswerLength}
+use Rattle.outcome.specs.Outcomes.{isDone, left}
 use Rattle.log.specs.Form.{RECORD-BYTES, TRAILER-BYTES, MOST-RECORDS, trailerWords, trailer, fromEnd, countOf, isLog}
 use Rattle.log.specs.Records.{hasRecord, recordAt}
-use Rattle.log.specs.Entry.{brokenOrFull, appendRefusal, left, withRecord, appendCall, recordCall}
+use Rattle.log.specs.Entry.{brokenOrFull, appendRefusal, withRecord, appendCall, recordCall}
 
 pub record Log (b : List ℕ) : Type 0 where
   pub trailer : TRAILER-BYTES ≤ length b

@@ -7,9 +7,9 @@ use lib.ListN.{length, take}
 use lib.Seq.{sets}
 use Rattle.words.specs.Words.{bytesOf}
 use Rattle.image.specs.Layout.{INPUT-BYTES, ANSWER-BYTES}
-use Rattle.log.specs.declared.outcome.Outcome.{Outcome}
-use Rattle.log.specs.declared.outcome.Outcome.the-variants.{Done, InputLength, AnswerLength, BrokenLog, NoRoom, NoRecord, RecordLength, CountLength}
-use Rattle.log.specs.Outcomes.{isDone}
+use Rattle.outcome.specs.declared.Outcome.{Outcome}
+use Rattle.outcome.specs.declared.Outcome.the-variants.{Done, InputLength, AnswerLength, BrokenLog, NoRoom, NoRecord, RecordLength}
+use Rattle.outcome.specs.Outcomes.{Left, left, leftUnless}
 use Rattle.log.specs.Form.{RECORD-BYTES, TRAILER-BYTES, MOST-RECORDS, trailer, countOf, isLog}
 use Rattle.log.specs.Records.{hasRecord, recordAt}
 
@@ -26,18 +26,6 @@ appendRefusal buffer len inputLen answerLen =
     (cond (not (eqb answerLen ANSWER-BYTES)) AnswerLength
     (brokenOrFull (ltb (length buffer) len || not (isLog log)) (ltb (length buffer - len) RECORD-BYTES || eqb (countOf log) MOST-RECORDS)))
 
--- the outcome, and what the buffer holds afterwards
-pub record Left : Type 0 where
-  pub outcome : Outcome
-  pub buffer : List ℕ
-
-abbrev pub left : Outcome → List ℕ → Left
-left o buffer = record { outcome = o; buffer = buffer }
-
--- done with these bytes, unless it is refused: then every byte stays
-abbrev pub unless : Outcome → List ℕ → List ℕ → Left
-unless o written buffer = cond (isDone o) (left Done written) (left o buffer)
-
 -- from byte `at` on a record, and after it the trailer of n records; every other byte as it was
 abbrev pub withRecord : List ℕ → ℕ → ℕ → List ℕ → List ℕ → List ℕ
 withRecord buffer at n input answer = sets buffer at (input ++ answer ++ trailer n)
@@ -45,13 +33,13 @@ withRecord buffer at n input answer = sets buffer at (input ++ answer ++ trailer
 -- "It overwrites the old trailer with the record, writes a new one after it and changes no other byte."
 unfoldable pub appendCall : List ℕ → ℕ → List ℕ → List ℕ → Left
 appendCall buffer len input answer =
-    unless (appendRefusal buffer len (length input) (length answer)) (withRecord buffer (len - TRAILER-BYTES) (countOf (take len buffer) + 1) input answer) buffer
+    leftUnless (appendRefusal buffer len (length input) (length answer)) (left Done (withRecord buffer (len - TRAILER-BYTES) (countOf (take len buffer) + 1) input answer)) buffer
 
 -- the count as a word, into 4 bytes
 unfoldable pub countCall : List ℕ → List ℕ → Left
-countCall log count = unless (cond (eqb (length count) 4) (cond (isLog log) Done BrokenLog) CountLength) (bytesOf (countOf log ∷ [])) count
+countCall log count = leftUnless (cond (eqb (length count) 4) (cond (isLog log) Done BrokenLog) InputLength) (left Done (bytesOf (countOf log ∷ []))) count
 
 -- the record at a place, into as many bytes
 unfoldable pub recordCall : List ℕ → ℕ → List ℕ → Left
 recordCall log place buffer =
-    unless (cond (eqb (length buffer) RECORD-BYTES) (cond (isLog log) (cond (hasRecord log place) Done NoRecord) BrokenLog) RecordLength) (recordAt log place) buffer
+    leftUnless (cond (eqb (length buffer) RECORD-BYTES) (cond (isLog log) (cond (hasRecord log place) Done NoRecord) BrokenLog) RecordLength) (left Done (recordAt log place)) buffer

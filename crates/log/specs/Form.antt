@@ -7,8 +7,8 @@ use lib.Dec.{eqb, leb}
 use lib.ListN.{length}
 use Rattle.words.specs.Words.{fourBytes, bytesOf}
 use Rattle.image.specs.Layout.{INPUT-BYTES, ANSWER-BYTES}
-use Rattle.log.specs.declared.outcome.Outcome.{Outcome}
-use Rattle.log.specs.declared.outcome.Outcome.the-variants.{Done, BrokenLog}
+use Rattle.outcome.specs.declared.Outcome.{Outcome}
+use Rattle.outcome.specs.declared.Outcome.the-variants.{Done, BrokenLog}
 
 abbrev pub RECORD-BYTES : ℕ
 RECORD-BYTES = INPUT-BYTES + ANSWER-BYTES

@@ -1,4 +1,3 @@
-pub mod Outcomes
 pub mod Form
 pub mod Records
 pub mod Entry

@@ -4,8 +4,8 @@ use mathlib.Core.Path.{_≡_}
 use mathlib.Core.Bool.{true, cond}
 use mathlib.Core.List.{List, [], _∷_, _++_}
 use lib.ListN.{length, take}
-use Rattle.log.specs.declared.outcome.Outcome.{Outcome}
-use Rattle.log.specs.Outcomes.{isDone}
+use Rattle.outcome.specs.declared.Outcome.{Outcome}
+use Rattle.outcome.specs.Outcomes.{isDone}
 use Rattle.log.specs.Form.{RECORD-BYTES, TRAILER-BYTES, emptyLog}
 use Rattle.log.specs.Entry.{appendRefusal, appendCall}
 

@@ -2,20 +2,21 @@
 use super::form::RECORD_BYTES;
 use super::form::is_log;
 use super::form::record_count;
-use super::outcome::Outcome;
 use super::reader::read;
 use super::record::has_record;
+use outcome::Outcome;
 use words::put_bytes;
 use words::put_word;
 ghost use mathlib.Core.Path.{_≡_};
-ghost use Rattle.log.specs.Entry.{left, countCall, recordCall};
+ghost use Rattle.outcome.specs.Outcomes.{left};
+ghost use Rattle.log.specs.Entry.{countCall, recordCall};
 
-// The count as a word.
+// The count as a word. A buffer of a wrong length for it has the number that a wrong input has.
 pub fn count_into(log: &[u8], count: &mut [u8]) -> Outcome
     ensures { λ r. ⌜ left r (now (count .exit)) ≡ countCall (now (log .entry)) (now (count .entry)) ⌝ }
 {
     if count.len() != 4 {
-        return Outcome::CountLength;
+        return Outcome::InputLength;
     }
     if !is_log(log) {
         return Outcome::BrokenLog;

@@ -4,10 +4,10 @@ use super::form::MOST_RECORDS;
 use super::form::RECORD_BYTES;
 use super::form::is_log;
 use super::form::record_count;
-use super::outcome::Outcome;
-use super::outcome::is_done;
 use image::ANSWER_BYTES;
 use image::INPUT_BYTES;
+use outcome::Outcome;
+use outcome::is_done;
 use words::put_bytes;
 use words::put_word;
 ghost use mathlib.Core.Path.{_≡_};
@@ -15,8 +15,9 @@ ghost use Prim.Native.Nat.{_+_, _*_, _<_, _≤_};
 ghost use lib.ListN.{length};
 ghost use Rattle.words.specs.Words.{Put};
 ghost use Rattle.image.specs.Layout.{INPUT-BYTES, ANSWER-BYTES};
+ghost use Rattle.outcome.specs.Outcomes.{left};
 ghost use Rattle.log.specs.Form.{RECORD-BYTES, TRAILER-BYTES, MOST-RECORDS, trailerWords};
-ghost use Rattle.log.specs.Entry.{appendRefusal, left, withRecord, appendCall};
+ghost use Rattle.log.specs.Entry.{appendRefusal, withRecord, appendCall};
 
 // What an append would be refused for.
 pub fn append_refusal(buffer: &[u8], log_len: usize, input_len: usize, answer_len: usize) -> Outcome

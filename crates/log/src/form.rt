@@ -1,8 +1,8 @@
 // How a log stands in bytes: records of a tick's input and answer, then a trailer of three words, the count, how many bytes back the first record
 // starts, and the bytes of a record.
-use super::outcome::Outcome;
 use image::ANSWER_BYTES;
 use image::INPUT_BYTES;
+use outcome::Outcome;
 use words::four_bytes;
 ghost use mathlib.Core.Path.{_≡_};
 ghost use Prim.Native.Nat.{_≤_};

@@ -2,7 +2,6 @@
 mod calls; // calls.rt: the count and a record into lent buffers
 mod entry; // entry.rt: one record more
 mod form; // form.rt: how a log stands in bytes, and which are refused
-mod outcome; // outcome.rt: how a call ends
 mod reader; // reader.rt: the lent log and a place in it
 mod record; // record.rt: the records of a log, by their place
 
@@ -16,9 +15,6 @@ pub use form::TRAILER_BYTES;
 pub use form::is_log;
 pub use form::log_refusal;
 pub use form::record_count;
-pub use outcome::Outcome;
-pub use outcome::is_done;
-pub use outcome::number;
 pub use reader::Reader;
 pub use reader::has_next;
 pub use reader::moved;

@@ -14,7 +14,7 @@ fn setup_lent(image: &mut [u8], image_len: usize, input: &[u8], input_len: usize
     if input_len > input.len() {
         return NO_NUMBER;
     }
-    flight::number(flight::setup(&mut image[..image_len], &input[..input_len]))
+    outcome::number(flight::setup(&mut image[..image_len], &input[..input_len]))
 }
 
 // Stored: two lengths, the image, the input; the number, the image afterwards.
@@ -57,7 +57,7 @@ fn tick_lent(
     if answer_len > answer.len() {
         return NO_NUMBER;
     }
-    flight::number(flight::tick(
+    outcome::number(flight::tick(
         &mut image[..image_len],
         &input[..input_len],
         &mut answer[..answer_len],

@@ -19,13 +19,12 @@ use Rattle.image.specs.Calls.{inputAt}
 use Rattle.flight.specs.Runs.{Accepted}
 use Rattle.image.proofs.Decoded.{time-written, state-fits}
 use Rattle.flight.proofs.Going.{ticked-fits, good-image}
-use Rattle.flight.proofs.Shown.{leaves, answers}
+use Rattle.flight.proofs.Shown.{leaves, answers, unless-refused}
 use Rattle.flight.proofs.Kept.{image-runs}
 use Rattle.flight.proofs.Kept.{clock-over-any-run as clock-over-ticks}
-use Rattle.route.specs.Outcomes.{isDone}
 use Rattle.route.specs.Entry.{routeRefusal, onRoute, routeCall}
 use Rattle.route.specs.Runs.{Event, Tick, RouteTick, leftBy, imageAfter}
-use Rattle.route.proofs.Runs.{by-outcome, lawful}
+use Rattle.route.proofs.Runs.{lawful}
 
 one : (image : List ℕ) (e : Event) → Accepted image → T (le (float image GOVERNOR) (float (leftBy image e) GOVERNOR))
 unfolding leftBy run.after routeCall stateAt governorAt
@@ -36,7 +35,7 @@ one image (RouteTick t route) a =
     let source = onRoute route in
     let o = routeRefusal image (length (t .input)) (length (t .answer)) route in
     let written = time-written (ticked source s i .state) (ticked-fits source s (t .input) (state-fits image) .governor .0) in
-    by-outcome (λ (x : List ℕ) (ms : List Float). T (le (float image GOVERNOR) (float x GOVERNOR))) o (isDone o) image (leaves source image (t .input)) (t .answer)
+    unless-refused (λ (x : List ℕ) (ms : List Float). T (le (float image GOVERNOR) (float x GOVERNOR))) o image (leaves source image (t .input)) (t .answer)
     (answers source image (t .input)) (guidance source s i .margin) (rw written (time-never-back source s i (good-runs (good-image image a)) .0)) (le-refl-of _ (never-nan (image-runs image a)))
 
 -- over any calls of both kinds the time word never decreases and is never NaN

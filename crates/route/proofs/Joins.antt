@@ -11,7 +11,7 @@ use lib.Ieee.{Float, nan, inf, fin, eq}
 use lib.ListN.{length, replicate}
 use Rattle.words.specs.Words.{bytesOf}
 use Rattle.relay_math.proofs.Tests.{no, both}
-use Rattle.route.specs.declared.outcome.Outcome.the-variants.{LegCount, RouteLength}
+use Rattle.outcome.specs.declared.Outcome.the-variants.{LegCount, RouteLength}
 use Rattle.route.specs.Form.{legOf, legsMeet, meetFrom, allMeet, countOf, backOf, formRefusal}
 
 -- ---- "Legs meet": each leg but the first meets the one before it

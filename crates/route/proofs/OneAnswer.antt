@@ -1,20 +1,10 @@
 -- Of each public function here: no second answer fits its promise. Assumes nothing.
 use mathlib.Core.Path.{refl, ap}
 use Rattle.relay_math.proofs.Determined.{OneAnswer, no-second, both}
-use Rattle.route.specs.Entry.{Called}
-use Rattle.route.proofs.outcome
+use Rattle.outcome.specs.Outcomes.{Called}
 use Rattle.route.proofs.form
 use Rattle.route.proofs.legs
 use Rattle.route.proofs.entry
-
-pub number-once : OneAnswer outcome.number.ended outcome.number.Reads.Post
-number-once κs a x y v w p q = (no-second p q, refl)
-
-pub is-done-once : OneAnswer outcome.is_done.ended outcome.is_done.Reads.Post
-is-done-once κs a x y v w p q = (no-second p q, refl)
-
-pub after-once : OneAnswer outcome.after.ended outcome.after.Reads.Post
-after-once κs a x y v w p q = (no-second p q, refl)
 
 pub leg-count-once : OneAnswer form.leg_count.ended form.leg_count.Reads.Post
 leg-count-once κs a x y v w p q = (no-second p q, refl)

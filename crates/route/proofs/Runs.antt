@@ -1,6 +1,6 @@
 -- Runs that mix plain ticks and route ticks: demand 3, and what a route tick keeps. The latch and its runs are the base's. Assumes nothing.
 use mathlib.Core.Path.{_≡_, refl, sym, ap, _∙_, subst}
-use mathlib.Core.Bool.{Bool, true, false, cond}
+use mathlib.Core.Bool.{false}
 use mathlib.Core.List.{List, [], _∷_, _++_}
 use Prim.Native.Nat.{ℕ}
 use lib.Ieee.{Float}
@@ -15,39 +15,30 @@ use Rattle.joint.specs.Tick.{referenceAt, prepare, finish, guidance, ticked}
 use Rattle.joint.specs.Runs.{Leads}
 use Rattle.joint.specs.Runs as run
 use Rattle.joint.proofs.Runs.{Lawful, stays}
-use Rattle.flight.specs.declared.entry.Outcome.the-variants as tick
 use Rattle.image.specs.Layout.{ENTER, EXIT}
 use Rattle.image.specs.Image.{stateAt, wordsOfState}
 use Rattle.image.specs.Calls.{inputAt}
-use Rattle.flight.specs.Entry.{tickRefusal, tickCall}
-use Rattle.flight.specs.Entry.{called as tick-called}
+use Rattle.outcome.specs.declared.Outcome.the-variants.{Done}
+use Rattle.outcome.specs.Outcomes.{isDone, called}
+use Rattle.flight.specs.Entry.{tickCall}
 use Rattle.flight.specs.Runs.{Accepted, start, Given, Right, guided}
 use Rattle.flight.specs.Runs.{Tick as PlainTick, leftBy as leftByTick, marginsOf as marginsOfTick}
 use Rattle.flight.specs.DemandThree.{enterOf, exitOf, Shows}
-use Rattle.flight.proofs.Shown.{shieldOf, leaves, answers, leads, done}
+use Rattle.flight.proofs.Shown.{shieldOf, leaves, answers, leads, unless-refused, done}
 use Rattle.flight.proofs.Shown.{lawful as lawful-tick}
 use Rattle.flight.proofs.DemandThree.{ran, keeps-thresholds, shows-then}
-use Rattle.route.specs.declared.outcome.Outcome.{Outcome}
-use Rattle.route.specs.declared.outcome.Outcome.the-variants.{Done}
-use Rattle.route.specs.Outcomes.{number, isDone, after}
 use Rattle.route.specs.Form.{formRefusal}
-use Rattle.route.specs.Entry.{routeRefusal, onRoute, Called, called, routeCall}
+use Rattle.route.specs.Entry.{routeRefusal, onRoute, routeCall}
 use Rattle.route.specs.Runs.{Event, Tick, RouteTick, leftBy, guidedOn, marginsOf, imageAfter, marginsAlong}
 
 -- ---- what each kind of call does to the shield
-
--- What holds of the image and the margins of a done call, and of this image and no margin, holds of the call, done or refused.
-pub by-outcome : (P : List ℕ → List Float → Type 0) (o : Outcome) (t : Bool) (image later answer answered : List ℕ) (m : Float) → P later (m ∷ []) → P image []
-    → P (cond t (called Done later answered) (called o image answer) .image) (cond t (m ∷ []) [])
-by-outcome P o true image later answer answered m d r = d
-by-outcome P o false image later answer answered m d r = r
 
 pub lawful : Lawful leftBy marginsOf shieldOf Accepted
 unfolding leftBy marginsOf routeCall guidedOn
 lawful image (Tick t) a = lawful-tick image (PlainTick t) a
 lawful image (RouteTick t route) a =
     let o = routeRefusal image (length (t .input)) (length (t .answer)) route in
-    by-outcome (λ (x : List ℕ) (ms : List Float). Accepted x × Leads ms (shieldOf image) (shieldOf x)) o (isDone o) image (leaves (onRoute route) image (t .input)) (t .answer)
+    unless-refused (λ (x : List ℕ) (ms : List Float). Accepted x × Leads ms (shieldOf image) (shieldOf x)) o image (leaves (onRoute route) image (t .input)) (t .answer)
     (answers (onRoute route) image (t .input)) (guidance (onRoute route) (stateAt image) (inputAt (t .input)) .margin)
     (leads (onRoute route) image (t .input) a) (a, stays refl)
 
@@ -70,13 +61,11 @@ module _ (setup : List ℕ) where
   pub demand-three-on-a-route : (calls : List Event) (t : Given) (route : List ℕ) → Right t → formRefusal route ≡ Done
       → let image = imageAfter (start setup) calls in
       let g = guidedOn route image (t .input) in
-      let c = routeCall image (t .input) route (t .answer) in
-      (number (c .outcome) ≡ 0)
-      × Shows (Flies (enterOf setup) (exitOf setup) (marginsAlong (start setup) calls ++ g .margin ∷ [])) (t .input) g (tick-called tick.Done (c .image) (c .answer))
+      Shows (Flies (enterOf setup) (exitOf setup) (marginsAlong (start setup) calls ++ g .margin ∷ [])) (t .input) g (routeCall image (t .input) route (t .answer))
   unfolding guidedOn
   demand-three-on-a-route calls t route r f =
       let image = imageAfter (start setup) calls in
-      rw (route-done image t route r f (ran leftBy marginsOf lawful setup calls .0)) (refl, shows-then leftBy marginsOf lawful setup calls (onRoute route) (t .input))
+      rw (route-done image t route r f (ran leftBy marginsOf lawful setup calls .0)) (shows-then leftBy marginsOf lawful setup calls (onRoute route) (t .input))
 
   -- and a plain tick among them is as it was
   pub demand-three-among-routes : (calls : List Event) (t : Given) → Right t

@@ -1,5 +1,5 @@
 -- What a route tick that is not refused has. Assumes nothing.
-use mathlib.Core.Path.{_≡_, refl}
+use mathlib.Core.Path.{_≡_, refl, sym, _∙_}
 use mathlib.Core.Bool.{Bool, true, false, not, cond, _&&_, _||_}
 use mathlib.Core.List.{List}
 use Prim.Native.Nat.{ℕ, _+_, _*_, _≤_, _<_}
@@ -16,16 +16,14 @@ use Rattle.joint.specs.Tick.{prepare, toward, steered, steeredState}
 use Rattle.joint.proofs.Once.{steered-tick}
 use Rattle.image.specs.Image.{stateAt, imageOf}
 use Rattle.image.specs.Calls.{inputAt, answerOf}
-use Rattle.flight.specs.declared.entry.Outcome.the-variants as tick
-use Rattle.flight.specs.declared.entry.Outcome as of-tick
 use Rattle.image.specs.Layout.{IMAGE-BYTES, INPUT-BYTES, ANSWER-BYTES}
+use Rattle.outcome.specs.declared.Outcome.{Outcome}
+use Rattle.outcome.specs.declared.Outcome.the-variants.{Done, ImageLength, InputLength, AnswerLength, BrokenImage, LegCount, RouteLength, LegsApart}
+use Rattle.outcome.specs.Outcomes.{isDone, called}
 use Rattle.flight.specs.Entry.{intact, tickRefusal}
-use Rattle.route.specs.declared.outcome.Outcome.{Outcome}
-use Rattle.route.specs.declared.outcome.Outcome.the-variants.{Done, LegCount, RouteLength, LegsApart}
-use Rattle.route.specs.Outcomes.{isDone, after}
 use Rattle.route.specs.Form.{LEG-BYTES, TRAILER-BYTES, MOST-LEGS, countOf, backOf, allMeet, formRefusal}
 use Rattle.route.specs.Legs.{referenceOn}
-use Rattle.route.specs.Entry.{routeRefusal, onRoute, called, routeCall}
+use Rattle.route.specs.Entry.{routeRefusal, onRoute, routeCall}
 
 pub record Taken (image : List ℕ) (inputLen answerLen : ℕ) (route : List ℕ) : Type 0 where
   pub image-length : length image ≡ IMAGE-BYTES
@@ -35,22 +33,19 @@ pub record Taken (image : List ℕ) (inputLen answerLen : ℕ) (route : List ℕ
   pub some : 0 < countOf route
   pub whole : LEG-BYTES * countOf route ≤ length route
 
-both-done : (o : of-tick.Outcome) (r : Outcome) → isDone (after o r) ≡ true → (o ≡ tick.Done) × (isDone r ≡ true)
-both-done tick.Done r e = (refl, e)
-both-done tick.ImageLength r e = no e
-both-done tick.InputLength r e = no e
-both-done tick.AnswerLength r e = no e
-both-done tick.BrokenImage r e = no e
+both-done : (o r : Outcome) → isDone (cond (isDone o) r o) ≡ true → (isDone o ≡ true) × (isDone r ≡ true)
+both-done o r e = go (isDone o) refl e
+  where
+    go : (t : Bool) → isDone o ≡ t → isDone (cond t r o) ≡ true → (isDone o ≡ true) × (isDone r ≡ true)
+    go true d e = (d, e)
+    go false d e = no (sym d ∙ e)
 
-accepted : {o : of-tick.Outcome} → o ≡ tick.Done → isDone (after o Done) ≡ true
-accepted e = rw e
-
-lengths : (x y z w : Bool) → cond x (cond y (cond z (cond w tick.Done tick.BrokenImage) tick.AnswerLength) tick.InputLength) tick.ImageLength ≡ tick.Done
+lengths : (x y z w : Bool) → isDone (cond x (cond y (cond z (cond w Done BrokenImage) AnswerLength) InputLength) ImageLength) ≡ true
     → (x ≡ true) × (y ≡ true) × (z ≡ true)
 lengths true true true w e = (refl, refl, refl)
-lengths true true false w e = no (accepted e)
-lengths true false z w e = no (accepted e)
-lengths false y z w e = no (accepted e)
+lengths true true false w e = no e
+lengths true false z w e = no e
+lengths false y z w e = no e
 
 tests : (x y u v z w : Bool) → isDone (cond x RouteLength (cond (y || u) LegCount (cond (z && v) (cond w Done LegsApart) RouteLength))) ≡ true
     → (x ≡ false) × (y ≡ false) × (v ≡ true)

@@ -8,39 +8,26 @@ use Rattle.joint.specs.declared.stages.Reference.{Reference}
 use Rattle.joint.specs.Tick.{ticked}
 use Rattle.image.specs.Image.{stateAt, imageOf}
 use Rattle.image.specs.Calls.{inputAt, answerOf}
+use Rattle.outcome.specs.declared.Outcome.{Outcome}
+use Rattle.outcome.specs.declared.Outcome.the-variants.{Done}
+use Rattle.outcome.specs.Outcomes.{isDone, Called, called, calledUnless}
 use Rattle.flight.specs.Entry.{tickRefusal}
-use Rattle.route.specs.declared.outcome.Outcome.{Outcome}
-use Rattle.route.specs.declared.outcome.Outcome.the-variants.{Done}
-use Rattle.route.specs.Outcomes.{isDone, after}
 use Rattle.route.specs.Form.{countOf, formRefusal}
 use Rattle.route.specs.Legs.{referenceOn}
 
 -- 1, 2, 3, 4 as at a tick, and then the route's own
 unfoldable pub routeRefusal : List ℕ → ℕ → ℕ → List ℕ → Outcome
 unfolding formRefusal
-routeRefusal image inputLen answerLen route = after (tickRefusal image inputLen answerLen) (formRefusal route)
+routeRefusal image inputLen answerLen route = let t = tickRefusal image inputLen answerLen in cond (isDone t) (formRefusal route) t
 
 -- where a route tick's references come from: the leg flown at each time
 unfoldable pub onRoute : List ℕ → Float → Reference
 unfolding countOf referenceOn
 onRoute route time = referenceOn route (countOf route) time
 
--- the outcome, and what the image and the answer hold afterwards
-pub record Called : Type 0 where
-  pub outcome : Outcome
-  pub image : List ℕ
-  pub answer : List ℕ
-
-abbrev pub called : Outcome → List ℕ → List ℕ → Called
-called o image answer = record { outcome = o; image = image; answer = answer }
-
--- the accepted call's, unless it is refused: then every byte stays
-abbrev pub unless : Outcome → Called → List ℕ → List ℕ → Called
-unless o accepted image answer = cond (isDone o) accepted (called o image answer)
-
 -- the tick of document 01 with the route's sample in place of the segment's
 unfoldable pub routeCall : List ℕ → List ℕ → List ℕ → List ℕ → Called
 unfolding routeRefusal onRoute
 routeCall image input route answer =
     let t = ticked (onRoute route) (stateAt image) (inputAt input) in
-    unless (routeRefusal image (length input) (length answer) route) (called Done (imageOf (t .state)) (answerOf (t .answer))) image answer
+    calledUnless (routeRefusal image (length input) (length answer) route) (called Done (imageOf (t .state)) (answerOf (t .answer))) image answer

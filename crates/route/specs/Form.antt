@@ -11,8 +11,8 @@ use Rattle.relay_math.specs.declared.Vec3.{Vec3}
 use Rattle.joint.specs.declared.state.Leg.{Leg}
 use Rattle.image.specs.Layout.{LEG-WORDS}
 use Rattle.image.specs.Parts.{legAt}
-use Rattle.route.specs.declared.outcome.Outcome.{Outcome}
-use Rattle.route.specs.declared.outcome.Outcome.the-variants.{Done, LegCount, RouteLength, LegsApart}
+use Rattle.outcome.specs.declared.Outcome.{Outcome}
+use Rattle.outcome.specs.declared.Outcome.the-variants.{Done, LegCount, RouteLength, LegsApart}
 
 -- the limit: everything but the check is over any count
 abbrev pub MOST-LEGS : ℕ

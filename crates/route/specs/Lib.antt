@@ -1,4 +1,3 @@
-pub mod Outcomes
 pub mod Form
 pub mod Legs
 pub mod Entry

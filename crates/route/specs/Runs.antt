@@ -9,9 +9,9 @@ use Rattle.joint.specs.Tick.{guidance}
 use Rattle.joint.specs.Runs as run
 use Rattle.image.specs.Image.{stateAt}
 use Rattle.image.specs.Calls.{inputAt}
+use Rattle.outcome.specs.Outcomes.{isDone}
 use Rattle.flight.specs.Runs.{Given}
 use Rattle.flight.specs.Runs as flight
-use Rattle.route.specs.Outcomes.{isDone}
 use Rattle.route.specs.Entry.{routeRefusal, onRoute, routeCall}
 
 -- a tick, or a tick on a route

@@ -2,23 +2,26 @@
 use super::form::form_refusal;
 use super::form::leg_count;
 use super::legs::reference_on;
-use super::outcome::Outcome;
-use super::outcome::after;
-use super::outcome::is_done;
 use image::input_at;
 use image::prepared_at;
 use image::put_answer;
 use image::put_steered;
 use joint::steer;
+use outcome::Outcome;
+use outcome::is_done;
 ghost use mathlib.Core.Path.{_≡_};
-ghost use Rattle.route.specs.Entry.{routeRefusal, called, routeCall};
+ghost use Rattle.outcome.specs.Outcomes.{called};
+ghost use Rattle.route.specs.Entry.{routeRefusal, routeCall};
 
 // What a route tick would be refused for.
 pub fn route_refusal(image: &[u8], input_len: usize, answer_len: usize, route: &[u8]) -> Outcome
     ensures { λ r. ⌜ r ≡ routeRefusal (now (image .entry)) «input_len» «answer_len» (now (route .entry)) ⌝ }
 {
     let tick = flight::tick_refusal(image, input_len, answer_len);
-    after(tick, form_refusal(route))
+    if !is_done(tick) {
+        return tick;
+    }
+    form_refusal(route)
 }
 
 // The base's stages, toward the sample of the leg flown. The image's segment is not looked at.

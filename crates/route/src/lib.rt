@@ -2,7 +2,6 @@
 mod entry; // entry.rt: the route tick on lent bytes, and what it refuses
 mod form; // form.rt: how a route stands in bytes, and which are refused
 mod legs; // legs.rt: the leg flown
-mod outcome; // outcome.rt: how a call ends
 
 pub use entry::route_refusal;
 pub use entry::route_tick;
@@ -18,7 +17,3 @@ pub use legs::Flown;
 pub use legs::duration_of;
 pub use legs::leg_flown;
 pub use legs::reference_on;
-pub use outcome::Outcome;
-pub use outcome::after;
-pub use outcome::is_done;
-pub use outcome::number;

@@ -1,7 +1,7 @@
 -- `fosavalo::fosavalo_tick_refusal`: the number of what a tick would be refused for. Assumes nothing.
 use borrow.Author.Needs.{needs}
 use mathlib.Core.Path.{ap}
-use Rattle.flight.specs.Entry.{number}
+use Rattle.outcome.specs.Outcomes.{number}
 use Rattle.fosavalo.proofs.fosavalo_tick_refusal.Statement.{statement}
 use Rattle.fosavalo.proofs.fosavalo_tick_refusal.Tie as tie
 

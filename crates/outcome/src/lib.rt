@@ -1,16 +1,21 @@
-// How a call on a log ends. The numbers above 12 are our own: document 02 gives none to "there is no such record", nor to a wrong buffer for one.
+// How a call ends. Document 01 numbers the first five, requests One and Two of document 02 the next five. The numbers above 12 are our own: no document
+// gives one to "there is no such record", nor to a wrong buffer for one.
 ghost use mathlib.Core.Path.{_≡_};
-ghost use Rattle.log.specs.Outcomes.{number, isDone};
+ghost use Rattle.outcome.specs.Outcomes.{number, isDone};
 
 pub enum Outcome {
     Done,
+    ImageLength,
     InputLength,
     AnswerLength,
+    BrokenImage,
+    LegCount,
+    RouteLength,
+    LegsApart,
     BrokenLog,
     NoRoom,
     NoRecord,
     RecordLength,
-    CountLength,
 }
 
 pub fn number(outcome: Outcome) -> u32
@@ -18,27 +23,23 @@ pub fn number(outcome: Outcome) -> u32
 {
     match outcome {
         Outcome::Done => 0,
+        Outcome::ImageLength => 1,
         Outcome::InputLength => 2,
         Outcome::AnswerLength => 3,
+        Outcome::BrokenImage => 4,
+        Outcome::LegCount => 5,
+        Outcome::RouteLength => 6,
+        Outcome::LegsApart => 7,
         Outcome::BrokenLog => 8,
         Outcome::NoRoom => 9,
         Outcome::NoRecord => 13,
         Outcome::RecordLength => 14,
-        Outcome::CountLength => 2,
     }
 }
 
+// The call was not refused.
 pub fn is_done(outcome: Outcome) -> bool
     ensures { λ r. ⌜ r ≡ isDone outcome ⌝ }
 {
-    match outcome {
-        Outcome::Done => true,
-        Outcome::InputLength => false,
-        Outcome::AnswerLength => false,
-        Outcome::BrokenLog => false,
-        Outcome::NoRoom => false,
-        Outcome::NoRecord => false,
-        Outcome::RecordLength => false,
-        Outcome::CountLength => false,
-    }
+    number(outcome) == 0
 }

@@ -18,6 +18,7 @@ use image::put_steered;
 use image::setup_at;
 use image::shield_at;
 use outcome::Outcome;
+use outcome::is_done;
 use words::float_at;
 use words::word_at;
 ghost use mathlib.Core.Path.{_≡_};
@@ -116,17 +117,9 @@ pub fn setup(image: &mut [u8], input: &[u8]) -> Outcome
 pub fn tick(image: &mut [u8], input: &[u8], answer: &mut [u8]) -> Outcome
     ensures { λ r. ⌜ called r (now (image .exit)) (now (answer .exit)) ≡ tickCall (now (image .entry)) (now (input .entry)) (now (answer .entry)) ⌝ }
 {
-    if image.len() != IMAGE_BYTES {
-        return Outcome::ImageLength;
-    }
-    if input.len() != INPUT_BYTES {
-        return Outcome::InputLength;
-    }
-    if answer.len() != ANSWER_BYTES {
-        return Outcome::AnswerLength;
-    }
-    if !intact(image) {
-        return Outcome::BrokenImage;
+    let refusal = tick_refusal(image, input.len(), answer.len());
+    if !is_done(refusal) {
+        return refusal;
     }
     let given = input_at(input);
     let prepared = prepared_at(image, given);

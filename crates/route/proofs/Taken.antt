@@ -18,9 +18,10 @@ use Rattle.image.specs.Image.{stateAt, imageOf}
 use Rattle.image.specs.Calls.{inputAt, answerOf}
 use Rattle.image.specs.Layout.{IMAGE-BYTES, INPUT-BYTES, ANSWER-BYTES}
 use Rattle.outcome.specs.declared.Outcome.{Outcome}
-use Rattle.outcome.specs.declared.Outcome.the-variants.{Done, ImageLength, InputLength, AnswerLength, BrokenImage, LegCount, RouteLength, LegsApart}
+use Rattle.outcome.specs.declared.Outcome.the-variants.{Done, LegCount, RouteLength, LegsApart}
 use Rattle.outcome.specs.Outcomes.{isDone, called}
-use Rattle.flight.specs.Entry.{intact, tickRefusal}
+use Rattle.flight.specs.Entry.{tickRefusal}
+use Rattle.flight.proofs.Flown.{sized}
 use Rattle.route.specs.Form.{LEG-BYTES, TRAILER-BYTES, MOST-LEGS, countOf, backOf, allMeet, formRefusal}
 use Rattle.route.specs.Legs.{referenceOn}
 use Rattle.route.specs.Entry.{routeRefusal, onRoute, routeCall}
@@ -40,13 +41,6 @@ both-done o r e = go (isDone o) refl e
     go true d e = (d, e)
     go false d e = no (sym d ∙ e)
 
-lengths : (x y z w : Bool) → isDone (cond x (cond y (cond z (cond w Done BrokenImage) AnswerLength) InputLength) ImageLength) ≡ true
-    → (x ≡ true) × (y ≡ true) × (z ≡ true)
-lengths true true true w e = (refl, refl, refl)
-lengths true true false w e = no e
-lengths true false z w e = no e
-lengths false y z w e = no e
-
 tests : (x y u v z w : Bool) → isDone (cond x RouteLength (cond (y || u) LegCount (cond (z && v) (cond w Done LegsApart) RouteLength))) ≡ true
     → (x ≡ false) × (y ≡ false) × (v ≡ true)
 tests true y u v z w e = no e
@@ -57,16 +51,16 @@ tests false false false false true w e = no e
 tests false false false v false w e = no e
 
 pub taken : (image : List ℕ) (inputLen answerLen : ℕ) (route : List ℕ) → isDone (routeRefusal image inputLen answerLen route) ≡ true → Taken image inputLen answerLen route
-unfolding routeRefusal tickRefusal formRefusal
+unfolding routeRefusal formRefusal
 taken image inputLen answerLen route e =
     let d = both-done (tickRefusal image inputLen answerLen) (formRefusal route) e in
-    let t = lengths (eqb (length image) IMAGE-BYTES) (eqb inputLen INPUT-BYTES) (eqb answerLen ANSWER-BYTES) (intact image) (d .0) in
+    let t = sized image inputLen answerLen (d .0) in
     let n = countOf route in
     let f = tests (ltb (length route) TRAILER-BYTES) (eqb n 0) (ltb MOST-LEGS n) (eqb (length route) (LEG-BYTES * n + TRAILER-BYTES)) (eqb (backOf route) (LEG-BYTES * n)) (allMeet route n) (d .1) in
     record {
-      image-length = eqb-true (length image) IMAGE-BYTES (t .0);
-      input-length = eqb-true inputLen INPUT-BYTES (t .1);
-      answer-length = eqb-true answerLen ANSWER-BYTES (t .2);
+      image-length = t .0;
+      input-length = t .1;
+      answer-length = t .2;
       trailer = ltb-false (length route) TRAILER-BYTES (f .0);
       some = pos n (eqb-false n 0 (f .1));
       whole = omega (arith, eqb-true (length route) (LEG-BYTES * n + TRAILER-BYTES) (f .2));

@@ -13,7 +13,7 @@ use std::process::ExitCode;
 const USAGE: &str = "log FILE [--enter NUMBER --exit NUMBER] [--out FOLDER]
 
 Prints the flight log in FILE (`make fly` keeps one) as CSV on standard output, a record on a line, and draws it as
-FOLDER/NAME.svg and FOLDER/NAME.png (target/log) where gnuplot is there. A log does not tell the shield's thresholds:
+FOLDER/NAME.svg and FOLDER/NAME.png (target/drawn) where gnuplot is there. A log does not tell the shield's thresholds:
 with --enter and --exit, mended as at set-up, the picture has them and the band between them.
 Bytes that are no log are refused with the number and its meaning.";
 
@@ -33,7 +33,7 @@ fn note(text: &str) {
 }
 
 fn run(mut words: impl Iterator<Item = OsString>) -> Result<(), String> {
-    let (mut file, mut folder, mut enter, mut exit) = (None, PathBuf::from("target/log"), None, None);
+    let (mut file, mut folder, mut enter, mut exit) = (None, PathBuf::from("target/drawn"), None, None);
     while let Some(word) = words.next() {
         let mut threshold = |option: &str| {
             let text = words.next().ok_or(format!("{option} wants a number"))?;

@@ -67,6 +67,23 @@ impl fmt::Display for Seen {
     }
 }
 
+/// A call that writes one buffer, by the model and by ours: the same number, the same bytes, and none beside them.
+fn alike(
+    seen: &mut [u64],
+    buffer: &Lent,
+    theirs: impl FnOnce(&mut [u8]) -> u32,
+    ours: impl FnOnce(&mut [u8]) -> u32,
+    call: impl FnOnce() -> String,
+) -> Result<(), String> {
+    let (mut left, mut expected) = (buffer.clone(), buffer.clone());
+    let (number, returned) = (theirs(expected.bytes_mut()), ours(left.bytes_mut()));
+    seen[number as usize] += 1;
+    if returned != number || left != expected {
+        return Err(format!("{} returns {returned}, expected {number}, or leaves other bytes", call()));
+    }
+    Ok(())
+}
+
 /// Both sides on the same bytes.
 struct Sides<'a> {
     face: &'a Face,
@@ -79,46 +96,25 @@ impl<'a> Sides<'a> {
     }
 
     fn append(&mut self, buffer: &Lent, log_len: u64, input: &Lent, answer: &Lent) -> Result<(), String> {
-        let (mut ours, mut expected, kept) = (buffer.clone(), buffer.clone(), (input.clone(), answer.clone()));
-        let number = model::append(expected.bytes_mut(), log_len, input.bytes(), answer.bytes());
-        let returned = (self.face.append)(ours.bytes_mut(), log_len, input.bytes(), answer.bytes());
-        self.seen.append[number as usize] += 1;
-        if returned != number || ours != expected || (input, answer) != (&kept.0, &kept.1) {
-            let (buffer, input, answer) = (buffer.len, input.len, answer.len);
-            return Err(format!(
-                "append to a log of {log_len} bytes in {buffer}, with {input} and {answer}, returns {returned}, expected {number}, or \
-                 changes what it should not"
-            ));
+        let kept = (input.clone(), answer.clone());
+        let call = || format!("append to a log of {log_len} bytes in {}, with {} and {},", buffer.len, input.len, answer.len);
+        let theirs = |buffer: &mut [u8]| model::append(buffer, log_len, input.bytes(), answer.bytes());
+        let ours = |buffer: &mut [u8]| (self.face.append)(buffer, log_len, input.bytes(), answer.bytes());
+        alike(&mut self.seen.append, buffer, theirs, ours, call)?;
+        if (input, answer) != (&kept.0, &kept.1) {
+            return Err(format!("{} changes them", call()));
         }
         Ok(())
     }
 
     fn count(&mut self, log: &Lent, to: &Lent) -> Result<(), String> {
-        let (mut ours, mut expected) = (to.clone(), to.clone());
-        let number = model::count(log.bytes(), expected.bytes_mut());
-        let returned = (self.face.count)(log.bytes(), ours.bytes_mut());
-        self.seen.count[number as usize] += 1;
-        if returned != number || ours != expected {
-            let (log, to) = (log.len, to.len);
-            return Err(format!(
-                "the count of {log} bytes into {to} returns {returned}, expected {number}, or is another, or changes more than that"
-            ));
-        }
-        Ok(())
+        let call = || format!("the count of {} bytes into {}", log.len, to.len);
+        alike(&mut self.seen.count, to, |to| model::count(log.bytes(), to), |to| (self.face.count)(log.bytes(), to), call)
     }
 
     fn record(&mut self, log: &Lent, place: u64, to: &Lent) -> Result<(), String> {
-        let (mut ours, mut expected) = (to.clone(), to.clone());
-        let number = model::record(log.bytes(), place, expected.bytes_mut());
-        let returned = (self.face.record)(log.bytes(), place, ours.bytes_mut());
-        self.seen.record[number as usize] += 1;
-        if returned != number || ours != expected {
-            let (log, to) = (log.len, to.len);
-            return Err(format!(
-                "record {place} of {log} bytes into {to} returns {returned}, expected {number}, or is another, or changes more than that"
-            ));
-        }
-        Ok(())
+        let call = || format!("record {place} of {} bytes into {}", log.len, to.len);
+        alike(&mut self.seen.record, to, |to| model::record(log.bytes(), place, to), |to| (self.face.record)(log.bytes(), place, to), call)
     }
 
     /// The count, and the records about both ends; the log stays.

@@ -1,6 +1,6 @@
 -- Of each public function here: no second answer fits its promise. Assumes nothing.
 use mathlib.Core.Path.{refl, ap}
-use Rattle.relay_math.proofs.Determined.{OneAnswer, no-second, both}
+use Rattle.laws.proofs.Determined.{OneAnswer, no-second, both}
 use Rattle.fosavalo.specs.Numbers.{Filled, Numbered}
 use Rattle.fosavalo.proofs.fosavalo_sinf
 use Rattle.fosavalo.proofs.fosavalo_cosf

@@ -2,7 +2,7 @@
 ghost use mathlib.Core.Path.{_≡_};
 ghost use Rattle.relay_math.specs.Steps.{sinf, cosf};
 ghost use Rattle.outcome.specs.Outcomes.{number};
-ghost use Rattle.flight.specs.Entry.{tickRefusal, setUpCall, tickCall};
+ghost use Rattle.calls.specs.Entry.{tickRefusal, setUpCall, tickCall};
 ghost use Rattle.route.specs.Entry.{routeCall};
 ghost use Rattle.log.specs.Entry.{appendCall, countCall, recordCall};
 ghost use Rattle.fosavalo.specs.Numbers.{filled, asFilled, numbered, asNumbered};
@@ -21,20 +21,20 @@ pub extern "C" fn fosavalo_cosf(x: f32) -> f32
     relay_math::cosf(x)
 }
 
-// Set-up: the number of its outcome, and the image as `flight::setup` leaves it.
+// Set-up: the number of its outcome, and the image as `calls::setup` leaves it.
 #[no_mangle]
 pub extern "C" fn fosavalo_setup(image: &mut [u8], input: &[u8]) -> u32
     ensures { λ r. ⌜ filled r (now (image .exit)) ≡ asFilled (setUpCall (now (image .entry)) (now (input .entry))) ⌝ }
 {
-    outcome::number(flight::setup(image, input))
+    outcome::number(calls::setup(image, input))
 }
 
-// A tick: the number of its outcome, and the image and the answer as `flight::tick` leaves them.
+// A tick: the number of its outcome, and the image and the answer as `calls::tick` leaves them.
 #[no_mangle]
 pub extern "C" fn fosavalo_tick(image: &mut [u8], input: &[u8], answer: &mut [u8]) -> u32
     ensures { λ r. ⌜ numbered r (now (image .exit)) (now (answer .exit)) ≡ asNumbered (tickCall (now (image .entry)) (now (input .entry)) (now (answer .entry))) ⌝ }
 {
-    outcome::number(flight::tick(image, input, answer))
+    outcome::number(calls::tick(image, input, answer))
 }
 
 // What a tick would be refused for, by the lengths and the image alone: a caller may ask before it changes anything of its own.
@@ -42,7 +42,7 @@ pub extern "C" fn fosavalo_tick(image: &mut [u8], input: &[u8], answer: &mut [u8
 pub extern "C" fn fosavalo_tick_refusal(image: &[u8], input_len: usize, answer_len: usize) -> u32
     ensures { λ r. ⌜ r ≡ number (tickRefusal (now (image .entry)) «input_len» «answer_len») ⌝ }
 {
-    outcome::number(flight::tick_refusal(image, input_len, answer_len))
+    outcome::number(calls::tick_refusal(image, input_len, answer_len))
 }
 
 // A tick on a route: the number of its outcome, and the image and the answer as `route::route_tick` leaves them.

@@ -19,11 +19,11 @@ use Rattle.relay_geo.specs.Vectors.{sanitise3}
 use Rattle.relay_geo.specs.Attitude.{quatToRotmat, thrustAttitude, flatnessOmegaFf}
 use Rattle.relay_geo.specs.Set.{margin}
 use Rattle.relay_geo.specs.Controller.{rateToward, desiredRate}
-use Rattle.joint.specs.declared.state.State.{State}
-use Rattle.joint.specs.declared.state.TickInput.{TickInput}
-use Rattle.joint.specs.declared.stages.Reference.{Reference}
-use Rattle.joint.specs.Tick.{prepare, cleaned, desired, plus, rateSq, marginOf, guide, guidance, ticked}
-use Rattle.joint.proofs.Shielding.{tick-command}
+use Rattle.joint_tick.specs.declared.state.State.{State}
+use Rattle.joint_tick.specs.declared.state.TickInput.{TickInput}
+use Rattle.joint_tick.specs.declared.stages.Reference.{Reference}
+use Rattle.joint_tick.specs.Tick.{prepare, cleaned, desired, plus, rateSq, marginOf, guide, guidance, ticked}
+use Rattle.joint_tick.proofs.Shielding.{tick-command}
 use Rattle.image.specs.Calls.{inputAt}
 use Rattle.image.specs.Fits.{F32, FitsVec}
 use Rattle.image.proofs.Fitting.{fitting}

@@ -6,7 +6,7 @@ use lib.ListN.{length}
 use Rattle.words.specs.Words.{word, float, vec, bits, flag, Holds}
 use Rattle.words.proofs.Back.{word-back, bits-back, float-back, vec-back, flag-lt}
 use Rattle.words.proofs.Written.{length-bytesOf}
-use Rattle.joint.specs.declared.state.Answer.{Answer}
+use Rattle.joint_tick.specs.declared.state.Answer.{Answer}
 use Rattle.image.specs.Layout.{TORQUE, COMMAND, FLAG, TIME, PSI, MARGIN, ANSWER-BYTES}
 use Rattle.image.specs.Calls.{wordsOfAnswer, answerOf}
 use Rattle.image.specs.Fits.{F32, FitsVec}

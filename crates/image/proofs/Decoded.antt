@@ -16,7 +16,7 @@ use Rattle.relay_traj.specs.declared.governor.RefGovernor.{RefGovernor}
 use Rattle.relay_traj.specs.declared.quintic.Quintic.{Quintic}
 use Rattle.relay_adrc.specs.declared.axis.AdrcAxis.{AdrcAxis}
 use Rattle.relay_adrc.specs.declared.biquad.Biquad.{Biquad}
-use Rattle.joint.specs.declared.state.State.{State}
+use Rattle.joint_tick.specs.declared.state.State.{State}
 use Rattle.image.specs.Layout.{QUINTIC-WORDS, AXIS-WORDS, BIQUAD-WORDS, COUNT, GAINS, SET, ENTER, EXIT, ENGAGED, GOVERNOR, SEGMENT, RATE, LPF, IMAGE-WORDS, IMAGE-BYTES}
 use Rattle.image.specs.Parts.{gainsAt, setAt, governorAt, quinticAt, segmentAt, adrcGainsAt, axisAt, rateAt, biquadAt, lpfAt, floatsOfGains, floatsOfSet, floatsOfGovernor, floatsOfQuintic, floatsOfAxis, floatsOfBiquad}
 use Rattle.image.specs.Image.{shieldAt, stateAt, wordsOfState, imageOf, canonicalImage}

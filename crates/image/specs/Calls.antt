@@ -2,9 +2,9 @@
 use mathlib.Core.List.{List, [], _∷_, _++_}
 use Prim.Native.Nat.{ℕ, _+_}
 use Rattle.words.specs.Words.{float, vec, floatsOfVec, bits, flag, wordsOf, bytesOf}
-use Rattle.joint.specs.declared.state.SetUp.{SetUp}
-use Rattle.joint.specs.declared.state.TickInput.{TickInput}
-use Rattle.joint.specs.declared.state.Answer.{Answer}
+use Rattle.joint_tick.specs.declared.state.SetUp.{SetUp}
+use Rattle.joint_tick.specs.declared.state.TickInput.{TickInput}
+use Rattle.joint_tick.specs.declared.state.Answer.{Answer}
 use Rattle.image.specs.Layout.{SETUP-GAINS, SETUP-SET, SETUP-ENTER, SETUP-EXIT, SETUP-BAND, SETUP-LEG, SETUP-ADRC, SETUP-FC, SETUP-FS, ADRC-WORDS, GYRO, QUAT, TRACK-ERR, YAW, YAW-RATE, DT, AGILE, FRACTION}
 use Rattle.image.specs.Parts.{gainsAt, setAt, legAt, adrcGainsAt, quatAt}
 

@@ -14,7 +14,7 @@ use Rattle.relay_adrc.specs.declared.axis.AdrcAxis.{AdrcAxis}
 use Rattle.relay_adrc.specs.declared.rate.AdrcRate.{AdrcRate}
 use Rattle.relay_adrc.specs.declared.biquad.Biquad.{Biquad}
 use Rattle.relay_adrc.specs.declared.biquad.GyroLpf.{GyroLpf}
-use Rattle.joint.specs.declared.state.State.{State}
+use Rattle.joint_tick.specs.declared.state.State.{State}
 use Rattle.image.specs.Parts.{floatsOfGains, floatsOfSet, floatsOfGovernor, floatsOfQuintic, floatsOfAdrcGains, floatsOfAxis, floatsOfBiquad}
 
 abbrev pub F32 : Float → Type 0

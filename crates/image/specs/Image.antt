@@ -4,7 +4,7 @@ use Prim.Native.Nat.{ℕ, _-_}
 use lib.Dec.{eqb}
 use Rattle.words.specs.Words.{word, float, bits, flag, wordsOf, bytesOf, canons}
 use Rattle.relay_geo.specs.declared.shield.SimplexShield.{SimplexShield}
-use Rattle.joint.specs.declared.state.State.{State}
+use Rattle.joint_tick.specs.declared.state.State.{State}
 use Rattle.image.specs.Layout.{GAINS, SET, ENTER, EXIT, ENGAGED, GOVERNOR, SEGMENT, RATE, LPF, IMAGE-WORDS}
 use Rattle.image.specs.Parts.{gainsAt, setAt, governorAt, segmentAt, rateAt, lpfAt, floatsOfGains, floatsOfSet, floatsOfGovernor, floatsOfSegment, floatsOfRate, floatsOfLpf}
 

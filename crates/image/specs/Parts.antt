@@ -14,7 +14,7 @@ use Rattle.relay_adrc.specs.declared.axis.AdrcAxis.{AdrcAxis}
 use Rattle.relay_adrc.specs.declared.rate.AdrcRate.{AdrcRate}
 use Rattle.relay_adrc.specs.declared.biquad.Biquad.{Biquad}
 use Rattle.relay_adrc.specs.declared.biquad.GyroLpf.{GyroLpf}
-use Rattle.joint.specs.declared.state.Leg.{Leg}
+use Rattle.joint_tick.specs.declared.state.Leg.{Leg}
 use Rattle.image.specs.Layout.{VEC-WORDS, QUINTIC-WORDS, T-END, AXIS-WORDS, BIQUAD-WORDS}
 
 -- ---- read

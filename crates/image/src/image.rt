@@ -22,10 +22,10 @@ use super::parts::put_set;
 use super::parts::rate_at;
 use super::parts::segment_at;
 use super::parts::set_at;
-use joint::Prepared;
-use joint::State;
-use joint::Steered;
-use joint::TickInput;
+use joint_tick::Prepared;
+use joint_tick::State;
+use joint_tick::Steered;
+use joint_tick::TickInput;
 use relay_adrc::AdrcRate;
 use relay_adrc::GyroLpf;
 use relay_geo::GeoGains;
@@ -41,7 +41,7 @@ ghost use mathlib.Core.Path.{_≡_};
 ghost use mathlib.Core.List.{_∷_, _++_};
 ghost use lib.ListN.{length};
 ghost use Rattle.words.specs.Words.{wordsOf, Put};
-ghost use Rattle.joint.specs.Tick.{prepare, steeredState};
+ghost use Rattle.joint_tick.specs.Tick.{prepare, steeredState};
 ghost use Rattle.image.specs.Layout.{COUNT, SET, IMAGE-WORDS, IMAGE-BYTES};
 ghost use Rattle.image.specs.Parts.{floatsOfGains};
 ghost use Rattle.image.specs.Image.{shieldAt, stateAt, wordsOfShield, imageOf};
@@ -77,7 +77,7 @@ pub fn prepared_at(image: &[u8], input: TickInput) -> Prepared
     requires { ⌜ length (now image) ≡ IMAGE-BYTES ⌝ }
     ensures { λ r. ⌜ r ≡ prepare (stateAt (now (image .entry))) input ⌝ }
 {
-    joint::prepare(state_at(image), input)
+    joint_tick::prepare(state_at(image), input)
 }
 
 fn put_shield(image: &mut [u8], s: SimplexShield)

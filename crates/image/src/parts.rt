@@ -4,7 +4,7 @@ use super::layout::BIQUAD_WORDS;
 use super::layout::QUINTIC_WORDS;
 use super::layout::T_END;
 use super::layout::VEC_WORDS;
-use joint::Leg;
+use joint_tick::Leg;
 use relay_adrc::AdrcAxis;
 use relay_adrc::AdrcGains;
 use relay_adrc::AdrcRate;

@@ -10,7 +10,7 @@ use lib.Ieee.{Float, nan, inf, fin, lt, ofBits}
 use lib.ListN.{length, getD, take, drop, length-append, length-drop}
 use lib.Seq.{split-at, length-take-le, getD-append-add, getD-take, getD-drop}
 use Rattle.relay_math.specs.F32.{f32, isFinite}
-use Rattle.relay_math.proofs.Tests.{no}
+use Rattle.laws.proofs.Tests.{no}
 use Rattle.relay_math.proofs.Order.{lt-above}
 use Rattle.latch.specs.Latch.{releases, engages, latch, after, flagsFrom, engagedAfter, flags, Flies, FliesAt}
 

@@ -7,7 +7,7 @@ use contract.Lifetimes.{Lfts}
 use denote.Ref.{RefT, now}
 use denote.Triple.Entry.{Args, Res}
 use denote.Triple.Clauses.{Ended, Lasts, atExit}
-use Rattle.relay_math.proofs.Determined.{Promise, OneAnswer, no-second, both}
+use Rattle.laws.proofs.Determined.{Promise, OneAnswer, no-second, both}
 use Rattle.outcome.specs.Outcomes.{Left}
 use Rattle.log.specs.declared.reader.Reader.{Reader}
 use Rattle.log.specs.Records.{hasRecord, recordAt, placeAfter}

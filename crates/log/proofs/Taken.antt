@@ -10,7 +10,7 @@ use lib.ListN.{length, take, drop, length-append, length-drop}
 use lib.Seq.{sets, length-take-le}
 use Rattle.words.specs.Words.{Put}
 use Rattle.words.proofs.Written.{sets-append}
-use Rattle.relay_math.proofs.Tests.{no, both}
+use Rattle.laws.proofs.Tests.{no, both}
 use Rattle.image.specs.Layout.{INPUT-BYTES, ANSWER-BYTES}
 use Rattle.outcome.specs.declared.Outcome.{Outcome}
 use Rattle.outcome.specs.declared.Outcome.the-variants.{Done, InputLength, AnswerLength}

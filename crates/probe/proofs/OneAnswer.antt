@@ -1,6 +1,6 @@
 -- Of each public function here: no second answer fits its promise. Assumes nothing.
 use mathlib.Core.Path.{refl}
-use Rattle.relay_math.proofs.Determined.{OneAnswer, no-second, both}
+use Rattle.laws.proofs.Determined.{OneAnswer, no-second, both}
 use Rattle.probe.proofs.adrc
 use Rattle.probe.proofs.geo
 use Rattle.probe.proofs.numbers

@@ -7,7 +7,8 @@ use lib.Ieee.{Float, nan, inf, fin, binary32, lt, le, neg, add, sub, mul, div, r
 use lib.Ieee.Fits.{round-is}
 use Rattle.relay_math.specs.F32.{_⊗_, _⊘_, f32, 0·0, 0·5, 1·0, 2·0, isFinite}
 use Rattle.relay_math.specs.Steps.{sinf, cosf, sincos}
-use Rattle.relay_math.proofs.Tests.{no, not-nan}
+use Rattle.laws.proofs.Tests.{no}
+use Rattle.relay_math.proofs.Signs.{not-nan}
 use Rattle.relay_math.proofs.Order.{Number, le-is-not-above}
 use Rattle.relay_math.proofs.Finite.{or-zero-finite}
 use Rattle.relay_adrc.specs.declared.biquad.Biquad.{Biquad}

@@ -4,7 +4,7 @@ use mathlib.Core.Bool.{Bool, true, false, cond, _&&_}
 use lib.Dec.{T}
 use lib.Ieee.{Float, lt, le, ofBits}
 use Rattle.relay_math.specs.F32.{0·0, 1e-3, 0·1, 1·0, isFinite, clamp, Within, fabsf}
-use Rattle.relay_math.proofs.Tests.{held}
+use Rattle.laws.proofs.Tests.{held}
 use Rattle.relay_math.proofs.Order.{finite-number, within-finite, clamp-within}
 use Rattle.relay_adrc.specs.Axis.{1e-4, mendDt, mendB0, deliveredFraction}
 

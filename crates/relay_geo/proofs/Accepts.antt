@@ -5,7 +5,7 @@ use borrow.Author.Tests.{not-false}
 use lib.Ieee.{Float, nan, inf, fin, lt, isNan, ofBits}
 use Rattle.relay_math.specs.declared.Vec3.{Vec3}
 use Rattle.relay_math.specs.F32.{1e-3, isFinite, finiteAbove}
-use Rattle.relay_math.proofs.Tests.{both}
+use Rattle.laws.proofs.Tests.{both}
 use Rattle.relay_math.proofs.Order.{le-is-not-above, lt-trans}
 use Rattle.relay_geo.specs.declared.vectors.Unit.the-variants.{Axis}
 use Rattle.relay_geo.specs.declared.attitude.Attitude.{Attitude}

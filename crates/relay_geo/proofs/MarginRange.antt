@@ -6,7 +6,7 @@ use mathlib.Core.Bool.{Bool, true, false, not, _&&_, _||_, cond}
 use native.Mathlib.Omega.{arith}
 use lib.Ieee.{Float, nan, inf, fin, sub, mul, div, lt, le, isNan, ofBits}
 use Rattle.relay_math.specs.F32.{_⊖_, f32, 0·0, 1·0, 0·5, isFinite, finiteOr, finiteAbove}
-use Rattle.relay_math.proofs.Tests.{no, held, both}
+use Rattle.laws.proofs.Tests.{no, held, both}
 use Rattle.relay_math.proofs.Order.{finite-number, le-is-not-above}
 use Rattle.relay_geo.specs.declared.set.RecoverableSet.{RecoverableSet}
 use Rattle.relay_geo.specs.Set.{newSet, minusInfinity, unknown, psiMargin, rateMargin, smaller, margin}

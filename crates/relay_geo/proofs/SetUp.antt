@@ -14,7 +14,7 @@ use lib.Ieee.Fits.{up-pos, down-pos, cond-fits}
 use lib.Ieee.Exact.{HasValue, round-exact}
 use lib.Ieee.Order.{round-mono}
 use Rattle.relay_math.specs.F32.{_⊗_, f32, 0·0, 0·1, 2·0, isFinite, finiteAbove}
-use Rattle.relay_math.proofs.Tests.{no, both, le-or-lt}
+use Rattle.laws.proofs.Tests.{no, both, le-or-lt}
 use Rattle.relay_math.proofs.Grains.{Placed, placed}
 use Rattle.relay_geo.specs.declared.set.RecoverableSet.{RecoverableSet}
 use Rattle.relay_geo.specs.Shield.{mendEnter, mend, newShield}

@@ -14,7 +14,8 @@ use Rattle.relay_math.specs.declared.angles.SineCosine.{SineCosine}
 use Rattle.relay_math.specs.Exact.{P, limitPower, limit, Near, sinAt, cosAt, Rule, inRange, isMinus, exactSine, exactCosine}
 use Rattle.relay_math.specs.F32.{grains}
 use Rattle.relay_math.specs.Steps.{square, sinPoly, cosPoly, toFloat, signed, fixed, reduceOf, quadrant, large, sincos, Zero, One}
-use Rattle.relay_math.proofs.Tests.{ordered, zero-is, is-below}
+use Rattle.laws.proofs.Tests.{ordered}
+use Rattle.relay_math.proofs.Signs.{zero-is, is-below}
 use Rattle.relay_math.proofs.Grains.{grains-exact}
 use Rattle.relay_math.proofs.Horner.{sinExact, cosExact}
 use Rattle.relay_math.proofs.Fixed.{tiny-sin, tiny-cos}

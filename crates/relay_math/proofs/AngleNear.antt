@@ -10,7 +10,7 @@ use lib.Ieee.{Float, nan, inf, fin, up, down, neg, unlike}
 use lib.Ieee.Exact.{HasValue}
 use Rattle.relay_math.specs.Exact.{gap, Value, negated, Near, sinAt, cosAt, sineBy, cosineBy}
 use Rattle.relay_math.specs.Steps.{square, sinPoly, cosPoly, toFloat, signed, quadrant}
-use Rattle.relay_math.proofs.Tests.{of-value}
+use Rattle.relay_math.proofs.Signs.{of-value}
 use Rattle.relay_math.proofs.Horner.{Nest, Close, carry}
 use Rattle.relay_math.proofs.Round.{rounded}
 use Rattle.relay_math.proofs.Fixed.{One, Err, sin-most, cos-most, sin-fixed, cos-fixed}

@@ -17,7 +17,7 @@ use Rattle.relay_math.specs.declared.angles.Reduced.{Reduced}
 use Rattle.relay_math.specs.Exact.{gap, P, turns, rest, back, quarter}
 use Rattle.relay_math.specs.F32.{grains}
 use Rattle.relay_math.specs.Steps.{Tiny, Most, fixed, P48, reduceOf}
-use Rattle.relay_math.proofs.Tests.{of-positive}
+use Rattle.relay_math.proofs.Signs.{of-positive}
 use Rattle.relay_math.proofs.Grains.{shift, grains-exact, reads}
 
 -- ---- a float from 2 ^ -12 to 2 ^ 13

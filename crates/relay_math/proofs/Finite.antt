@@ -7,7 +7,7 @@ use lib.Ieee.Bits.{is-true}
 use Rattle.relay_math.specs.Exact.{Value, Near, inRange}
 use Rattle.relay_math.specs.F32.{0·0, isFinite, finiteOr}
 use Rattle.relay_math.specs.Steps.{sincos, sinf, cosf}
-use Rattle.relay_math.proofs.Tests.{held}
+use Rattle.laws.proofs.Tests.{held}
 use Rattle.relay_math.proofs.AngleBound.{far-case, sincos-near}
 
 pub finite-or-keeps : (x d : Float) → T (isFinite x) → finiteOr x d ≡ x

@@ -15,7 +15,7 @@ use lib.Ieee.Bits.{ofBits-toBits}
 use lib.Ieee.Exact.{HasValue}
 use Rattle.relay_math.specs.F32.{grains}
 use Rattle.relay_math.specs.Sqrt.{natural}
-use Rattle.relay_math.proofs.Tests.{of-natural, of-value}
+use Rattle.relay_math.proofs.Signs.{of-natural, of-value}
 
 -- a value of G / 2 ^ 149 is G grains
 pub grains-of : (x : Float) (s : Bool) (G : ℕ) → HasValue x s G (2 ^ 149) → grains x ≡ G

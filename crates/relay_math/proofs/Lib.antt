@@ -1,5 +1,5 @@
--- The proofs: tests, order and grains of floats, the root, sine and cosine, laws for callers, steps of a walk over a lent struct. What a function owes stands in the folder of its name.
-pub mod Tests
+-- The proofs: signs, order and grains of floats, the root, sine and cosine, laws for callers. What a function owes stands in the folder of its name.
+pub mod Signs
 pub mod Order
 pub mod Grains
 pub mod Sums
@@ -13,6 +13,4 @@ pub mod AngleReduction
 pub mod AngleBound
 pub mod Finite
 pub mod Squares
-pub mod Determined
 pub mod OneAnswer
-pub mod Lent

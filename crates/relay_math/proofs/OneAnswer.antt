@@ -1,6 +1,6 @@
 -- Of each public function here: no second answer fits its promise. Assumes nothing.
 use mathlib.Core.Path.{refl}
-use Rattle.relay_math.proofs.Determined.{OneAnswer, no-second}
+use Rattle.laws.proofs.Determined.{OneAnswer, no-second}
 use Rattle.relay_math.proofs.angles
 use Rattle.relay_math.proofs.fabsf
 use Rattle.relay_math.proofs.is_finite

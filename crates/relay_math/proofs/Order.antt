@@ -12,7 +12,7 @@ use lib.Ieee.{Float, nan, inf, fin, up, down, below, level, lt, eq, le, ne, isNa
 use lib.Ieee.Bits.{is-true}
 use lib.Ieee.Fits.{down-pos}
 use Rattle.relay_math.specs.F32.{isFinite, finiteAbove, clamp, Within}
-use Rattle.relay_math.proofs.Tests.{held, le-or-lt, one-sign}
+use Rattle.laws.proofs.Tests.{held, le-or-lt, one-sign}
 
 -- ---- sizes with signs, over one denominator: ±b ≤ ±a says that ±a is not below ±b
 

@@ -18,7 +18,8 @@ use lib.Ieee.Positive.{positive, first-pos}
 use Rattle.relay_math.specs.F32.{grains}
 use Rattle.relay_math.specs.Steps.{Zero}
 use Rattle.relay_math.specs.Sqrt.{natural, square, Nearest, IsRoot, nearestRoot, rootGrains, sqrtf}
-use Rattle.relay_math.proofs.Tests.{no, le-or-lt, of-value, zero-is, size-pos, is-above, not-zero}
+use Rattle.laws.proofs.Tests.{no, le-or-lt}
+use Rattle.relay_math.proofs.Signs.{of-value, zero-is, size-pos, is-above, not-zero}
 use Rattle.relay_math.proofs.Grains.{same-grains, shift, grains-of, grains-exact, size-of, writes, reads, Digits}
 use Rattle.relay_math.proofs.RootNear.{Closest, closest, closest-unique, digits, near}
 

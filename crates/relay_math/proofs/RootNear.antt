@@ -10,7 +10,8 @@ use lib.Pow.{pow-add, pow-pos, pow-mono, shl-lt}
 use lib.Ieee.{Float, binary32, fits}
 use Rattle.relay_math.specs.F32.{grains}
 use Rattle.relay_math.specs.Sqrt.{natural, square, isqrt, nearestRoot, Nearest}
-use Rattle.relay_math.proofs.Tests.{le-or-lt, of-natural}
+use Rattle.laws.proofs.Tests.{le-or-lt}
+use Rattle.relay_math.proofs.Signs.{of-natural}
 use Rattle.relay_math.proofs.Grains.{shift, reads}
 
 -- ---- the whole root

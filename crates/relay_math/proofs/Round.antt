@@ -17,7 +17,7 @@ use lib.Ieee.Nearest.{closest, nearest-ge}
 use lib.Ieee.Digits.{size-le}
 use lib.Ieee.Order.{drop}
 use Rattle.relay_math.specs.Steps.{toFloat}
-use Rattle.relay_math.proofs.Tests.{of-value}
+use Rattle.relay_math.proofs.Signs.{of-value}
 
 -- ---- n / 1 times 2 ^ -(k + 1), and a sum
 mul-down : (k n : ℕ) (x : Float) → HasValue x false n 1 → mul binary32 x (fin false 1 (negsuc k)) ≡ round binary32 false n (2 ^ suc k)

@@ -13,7 +13,8 @@ use lib.Ieee.Fits.{down-pos, round-fits}
 use lib.Ieee.Exact.{HasValue, round-exact}
 use lib.Ieee.Order.{round-mono}
 use Rattle.relay_math.specs.F32.{_⊕_, _⊗_, 0·0, isFinite, unsigned, grains}
-use Rattle.relay_math.proofs.Tests.{no, is-below, of-value}
+use Rattle.laws.proofs.Tests.{no}
+use Rattle.relay_math.proofs.Signs.{is-below, of-value}
 use Rattle.relay_math.proofs.Order.{le-trans, le-of-not-lt, not-lt-of-le, le-right, eq-of-le, eq-refl-of}
 use Rattle.relay_math.proofs.Grains.{grains-of, grains-exact, grains-under, placed, same-grains}
 

@@ -1,6 +1,6 @@
 -- Of each public function here: no second answer fits its promise. Assumes nothing.
 use mathlib.Core.Path.{refl}
-use Rattle.relay_math.proofs.Determined.{OneAnswer, no-second}
+use Rattle.laws.proofs.Determined.{OneAnswer, no-second}
 use Rattle.relay_pos.proofs.euler_to_quaternion
 
 pub euler-to-quaternion-once : OneAnswer euler_to_quaternion.ended euler_to_quaternion.Reads.Post

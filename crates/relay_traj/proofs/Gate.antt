@@ -5,7 +5,7 @@ use lib.Dec.{T}
 use lib.Ieee.{Float, lt, le, isNan, ofBits}
 use lib.Ieee.Bits.{is-true}
 use Rattle.relay_math.specs.F32.{0·0, 1·0, isFinite, Within}
-use Rattle.relay_math.proofs.Tests.{held}
+use Rattle.laws.proofs.Tests.{held}
 use Rattle.relay_math.proofs.Order.{le-trans, le-left, finite-number, low-within, high-within, between}
 use Rattle.relay_traj.specs.declared.governor.RefGovernor.{RefGovernor}
 use Rattle.relay_traj.specs.Governor.{lowEnd, clampTo, ramp, noBand, gateFactor, gate, putIn}

@@ -5,7 +5,7 @@ use lib.Dec.{T}
 use lib.Ieee.{Float, lt, le, isNan, ofBits}
 use Rattle.relay_math.specs.F32.{0·0, 1e-3, ∞, isFinite, clamp}
 use Rattle.relay_math.specs.declared.Vec3.{Vec3}
-use Rattle.relay_math.proofs.Tests.{held}
+use Rattle.laws.proofs.Tests.{held}
 use Rattle.relay_math.proofs.Order.{finite-number, le-trans, not-lt-of-le, finite-from}
 use Rattle.relay_traj.specs.declared.quintic.Quintic.{Quintic}
 use Rattle.relay_traj.specs.Quintic.{mendedDuration, Lasts, mend, ofMended, quintic, timeOn, sampleAt, eval, peakAbsJerk}

@@ -1,7 +1,7 @@
 -- Of each public function here: no second answer fits its promise. Assumes nothing.
 use mathlib.Core.Path.{_≡_, refl}
 use lib.Ieee.{Float}
-use Rattle.relay_math.proofs.Determined.{OneAnswer, no-second}
+use Rattle.laws.proofs.Determined.{OneAnswer, no-second}
 use Rattle.relay_traj.specs.declared.governor.RefGovernor.{RefGovernor}
 use Rattle.relay_traj.specs.Governor.{advance}
 use Rattle.relay_traj.proofs.governor

@@ -1,7 +1,7 @@
 // Runs the oracle's stored answers again, from standard input. docs/ORACLE.md has the form of the list and says how it was made.
 // For each section of the list a line: its name, how many answers were compared, how many differ. Before it, a line for each row that differs.
 mod adrc; // adrc.rt: 002
-mod calls; // calls.rt: set-up and the joint tick
+mod lent; // lent.rt: set-up and the joint tick on lent bytes
 mod geo; // geo.rt: 000
 mod numbers; // numbers.rt: 003 and 004
 mod parts; // parts.rt: rows of words, and structs out of them
@@ -156,10 +156,10 @@ struct Head {
 
 fn one(h: Head) -> Verdict {
     if h.number == 500 {
-        return calls::setup();
+        return lent::setup();
     }
     if h.number == 501 {
-        return calls::tick();
+        return lent::tick();
     }
     routine(h.number, h.given, h.answered)
 }

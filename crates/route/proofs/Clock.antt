@@ -8,20 +8,20 @@ use lib.Ieee.{Float, le, isNan}
 use Rattle.words.specs.Words.{float}
 use Rattle.relay_math.proofs.Order.{le-trans, le-refl-of}
 use Rattle.relay_traj.proofs.Clock.{never-nan}
-use Rattle.joint.specs.Tick.{ticked, guidance}
-use Rattle.joint.specs.Runs as run
-use Rattle.joint.proofs.Kept.{good-runs}
-use Rattle.joint.proofs.Clock.{time-never-back}
+use Rattle.joint_tick.specs.Tick.{ticked, guidance}
+use Rattle.joint_tick.specs.Runs as run
+use Rattle.joint_tick.proofs.Kept.{good-runs}
+use Rattle.joint_tick.proofs.Clock.{time-never-back}
 use Rattle.image.specs.Layout.{GOVERNOR}
 use Rattle.image.specs.Parts.{governorAt}
 use Rattle.image.specs.Image.{stateAt}
 use Rattle.image.specs.Calls.{inputAt}
-use Rattle.flight.specs.Runs.{Accepted}
+use Rattle.calls.specs.Runs.{Accepted}
 use Rattle.image.proofs.Decoded.{time-written, state-fits}
-use Rattle.flight.proofs.Going.{ticked-fits, good-image}
-use Rattle.flight.proofs.Shown.{leaves, answers, unless-refused}
-use Rattle.flight.proofs.Kept.{image-runs}
-use Rattle.flight.proofs.Kept.{clock-over-any-run as clock-over-ticks}
+use Rattle.calls.proofs.Going.{ticked-fits, good-image}
+use Rattle.calls.proofs.Shown.{leaves, answers, unless-refused}
+use Rattle.calls.proofs.Kept.{image-runs}
+use Rattle.calls.proofs.Kept.{clock-over-any-run as clock-over-ticks}
 use Rattle.route.specs.Entry.{routeRefusal, onRoute, routeCall}
 use Rattle.route.specs.Runs.{Event, Tick, RouteTick, leftBy, imageAfter}
 use Rattle.route.proofs.Runs.{lawful}

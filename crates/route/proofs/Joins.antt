@@ -10,7 +10,7 @@ use lib.IntN.{pos}
 use lib.Ieee.{Float, nan, inf, fin, eq}
 use lib.ListN.{length, replicate}
 use Rattle.words.specs.Words.{bytesOf}
-use Rattle.relay_math.proofs.Tests.{no, both}
+use Rattle.laws.proofs.Tests.{no, both}
 use Rattle.outcome.specs.declared.Outcome.the-variants.{LegCount, RouteLength}
 use Rattle.route.specs.Form.{legOf, legsMeet, meetFrom, allMeet, countOf, backOf, formRefusal}
 

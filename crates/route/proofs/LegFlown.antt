@@ -13,7 +13,7 @@ use lib.Ieee.Fits.{cond-fits}
 use Rattle.words.proofs.Back.{float-fits}
 use Rattle.relay_math.specs.F32.{_⊕_, _⊖_, 0·0, 1e-3, isFinite, finiteAbove, unsigned, clamp, Within}
 use lib.Ieee.Bits.{is-true}
-use Rattle.relay_math.proofs.Tests.{no}
+use Rattle.laws.proofs.Tests.{no}
 use Rattle.relay_math.proofs.Order.{Number, finite-number, le-trans, le-of-not-lt, le-refl-of, not-lt-of-le, within-finite}
 use Rattle.relay_math.proofs.Sums.{round-own}
 use Rattle.relay_traj.specs.Governor.{Running}
@@ -21,9 +21,9 @@ use Rattle.relay_traj.specs.Quintic.{mendedDuration, Lasts, mend, ofMended, qui
 use Rattle.relay_traj.specs.Segment.{segment}
 use Rattle.relay_traj.proofs.Clock.{never-nan}
 use Rattle.relay_traj.proofs.Leg.{mended-lasts}
-use Rattle.joint.specs.SetUp.{segmentOf}
-use Rattle.joint.specs.Tick.{sampleTime}
-use Rattle.joint.proofs.Calls.{finite-time-as-it-is}
+use Rattle.joint_tick.specs.SetUp.{segmentOf}
+use Rattle.joint_tick.specs.Tick.{sampleTime}
+use Rattle.joint_tick.proofs.Calls.{finite-time-as-it-is}
 use Rattle.image.specs.Layout.{LEG-WORDS}
 use Rattle.image.specs.Parts.{legAt}
 use Rattle.route.specs.declared.legs.Flown.{Flown}

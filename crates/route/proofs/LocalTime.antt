@@ -13,7 +13,8 @@ use lib.Ieee.Fits.{down-pos}
 use lib.Ieee.Order.{round-mono}
 use lib.Ieee.Positive.{above-of-le}
 use Rattle.relay_math.specs.F32.{_⊕_, _⊖_, 0·0, 1e-3, isFinite, unsigned, Within}
-use Rattle.relay_math.proofs.Tests.{no, is-below, le-or-lt}
+use Rattle.laws.proofs.Tests.{no, le-or-lt}
+use Rattle.relay_math.proofs.Signs.{is-below}
 use Rattle.relay_math.proofs.Order.{le-trans, not-lt-of-le}
 use Rattle.relay_math.proofs.Sums.{round-zero, round-own, round-above}
 use Rattle.relay_traj.specs.Quintic.{Lasts}

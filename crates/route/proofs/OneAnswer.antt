@@ -1,6 +1,6 @@
 -- Of each public function here: no second answer fits its promise. Assumes nothing.
 use mathlib.Core.Path.{refl, ap}
-use Rattle.relay_math.proofs.Determined.{OneAnswer, no-second, both}
+use Rattle.laws.proofs.Determined.{OneAnswer, no-second, both}
 use Rattle.outcome.specs.Outcomes.{Called}
 use Rattle.route.proofs.form
 use Rattle.route.proofs.legs

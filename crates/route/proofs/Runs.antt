@@ -9,24 +9,24 @@ use Rattle.words.specs.Words.{float}
 use Rattle.latch.specs.Latch.{Flies}
 use Rattle.relay_geo.specs.Shield.{step}
 use Rattle.relay_traj.specs.Governor.{advance}
-use Rattle.joint.specs.declared.state.State.{State}
-use Rattle.joint.specs.declared.state.TickInput.{TickInput}
-use Rattle.joint.specs.Tick.{referenceAt, prepare, finish, guidance, ticked}
-use Rattle.joint.specs.Runs.{Leads}
-use Rattle.joint.specs.Runs as run
-use Rattle.joint.proofs.Runs.{Lawful, stays}
+use Rattle.joint_tick.specs.declared.state.State.{State}
+use Rattle.joint_tick.specs.declared.state.TickInput.{TickInput}
+use Rattle.joint_tick.specs.Tick.{referenceAt, prepare, finish, guidance, ticked}
+use Rattle.joint_tick.specs.Runs.{Leads}
+use Rattle.joint_tick.specs.Runs as run
+use Rattle.joint_tick.proofs.Runs.{Lawful, stays}
 use Rattle.image.specs.Layout.{ENTER, EXIT}
 use Rattle.image.specs.Image.{stateAt, wordsOfState}
 use Rattle.image.specs.Calls.{inputAt}
 use Rattle.outcome.specs.declared.Outcome.the-variants.{Done}
 use Rattle.outcome.specs.Outcomes.{isDone, called}
-use Rattle.flight.specs.Entry.{tickCall}
-use Rattle.flight.specs.Runs.{Accepted, start, Given, Right, guided}
-use Rattle.flight.specs.Runs.{Tick as PlainTick, leftBy as leftByTick, marginsOf as marginsOfTick}
-use Rattle.flight.specs.DemandThree.{enterOf, exitOf, Shows}
-use Rattle.flight.proofs.Shown.{shieldOf, leaves, answers, leads, unless-refused, done}
-use Rattle.flight.proofs.Shown.{lawful as lawful-tick}
-use Rattle.flight.proofs.DemandThree.{ran, keeps-thresholds, shows-then}
+use Rattle.calls.specs.Entry.{tickCall}
+use Rattle.calls.specs.Runs.{Accepted, start, Given, Right, guided}
+use Rattle.calls.specs.Runs.{Tick as PlainTick, leftBy as leftByTick, marginsOf as marginsOfTick}
+use Rattle.calls.specs.DemandThree.{enterOf, exitOf, Shows}
+use Rattle.calls.proofs.Shown.{shieldOf, leaves, answers, leads, unless-refused, done}
+use Rattle.calls.proofs.Shown.{lawful as lawful-tick}
+use Rattle.calls.proofs.DemandThree.{ran, keeps-thresholds, shows-then}
 use Rattle.route.specs.Form.{formRefusal}
 use Rattle.route.specs.Entry.{routeRefusal, onRoute, routeCall}
 use Rattle.route.specs.Runs.{Event, Tick, RouteTick, leftBy, guidedOn, marginsOf, imageAfter, marginsAlong}

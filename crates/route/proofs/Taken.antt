@@ -7,21 +7,21 @@ use native.Mathlib.Omega.{arith}
 use borrow.Author.Tests.{ltb-false, eqb-true, eqb-false, not-true, not-false}
 use lib.Dec.{eqb, ltb}
 use lib.ListN.{length}
-use Rattle.relay_math.proofs.Tests.{no}
-use Rattle.joint.specs.declared.state.TickInput.{TickInput}
-use Rattle.joint.specs.declared.stages.Prepared.{Prepared}
-use Rattle.joint.specs.declared.stages.Reference.{Reference}
-use Rattle.joint.specs.declared.stages.Steered.{Steered}
-use Rattle.joint.specs.Tick.{prepare, toward, steered, steeredState}
-use Rattle.joint.proofs.Once.{steered-tick}
+use Rattle.laws.proofs.Tests.{no}
+use Rattle.joint_tick.specs.declared.state.TickInput.{TickInput}
+use Rattle.joint_tick.specs.declared.stages.Prepared.{Prepared}
+use Rattle.joint_tick.specs.declared.stages.Reference.{Reference}
+use Rattle.joint_tick.specs.declared.stages.Steered.{Steered}
+use Rattle.joint_tick.specs.Tick.{prepare, toward, steered, steeredState}
+use Rattle.joint_tick.proofs.Once.{steered-tick}
 use Rattle.image.specs.Image.{stateAt, imageOf}
 use Rattle.image.specs.Calls.{inputAt, answerOf}
 use Rattle.image.specs.Layout.{IMAGE-BYTES, INPUT-BYTES, ANSWER-BYTES}
 use Rattle.outcome.specs.declared.Outcome.{Outcome}
 use Rattle.outcome.specs.declared.Outcome.the-variants.{Done, LegCount, RouteLength, LegsApart}
 use Rattle.outcome.specs.Outcomes.{isDone, called}
-use Rattle.flight.specs.Entry.{tickRefusal}
-use Rattle.flight.proofs.Flown.{sized}
+use Rattle.calls.specs.Entry.{tickRefusal}
+use Rattle.calls.proofs.Flown.{sized}
 use Rattle.route.specs.Form.{LEG-BYTES, TRAILER-BYTES, MOST-LEGS, countOf, backOf, allMeet, formRefusal}
 use Rattle.route.specs.Legs.{referenceOn}
 use Rattle.route.specs.Entry.{routeRefusal, onRoute, routeCall}

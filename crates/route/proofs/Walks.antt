@@ -7,7 +7,7 @@ use native.Mathlib.Numerals.{add-one}
 use native.Mathlib.Omega.{arith}
 use lib.Ieee.{Float, lt}
 use Rattle.relay_math.specs.F32.{_⊕_, _⊖_}
-use Rattle.joint.specs.declared.state.Leg.{Leg}
+use Rattle.joint_tick.specs.declared.state.Leg.{Leg}
 use Rattle.route.specs.declared.legs.Flown.{Flown}
 use Rattle.route.specs.Form.{legOf, legsMeet, meetFrom}
 use Rattle.route.specs.Legs.{durationOf, flownFrom}

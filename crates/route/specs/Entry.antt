@@ -4,14 +4,14 @@ use mathlib.Core.Bool.{cond}
 use mathlib.Core.List.{List}
 use lib.Ieee.{Float}
 use lib.ListN.{length}
-use Rattle.joint.specs.declared.stages.Reference.{Reference}
-use Rattle.joint.specs.Tick.{ticked}
+use Rattle.joint_tick.specs.declared.stages.Reference.{Reference}
+use Rattle.joint_tick.specs.Tick.{ticked}
 use Rattle.image.specs.Image.{stateAt, imageOf}
 use Rattle.image.specs.Calls.{inputAt, answerOf}
 use Rattle.outcome.specs.declared.Outcome.{Outcome}
 use Rattle.outcome.specs.declared.Outcome.the-variants.{Done}
 use Rattle.outcome.specs.Outcomes.{isDone, Called, called, calledUnless}
-use Rattle.flight.specs.Entry.{tickRefusal}
+use Rattle.calls.specs.Entry.{tickRefusal}
 use Rattle.route.specs.Form.{countOf, formRefusal}
 use Rattle.route.specs.Legs.{referenceOn}
 

@@ -8,7 +8,7 @@ use lib.Ieee.{eq}
 use lib.ListN.{length}
 use Rattle.words.specs.Words.{fourBytes}
 use Rattle.relay_math.specs.declared.Vec3.{Vec3}
-use Rattle.joint.specs.declared.state.Leg.{Leg}
+use Rattle.joint_tick.specs.declared.state.Leg.{Leg}
 use Rattle.image.specs.Layout.{LEG-WORDS}
 use Rattle.image.specs.Parts.{legAt}
 use Rattle.outcome.specs.declared.Outcome.{Outcome}

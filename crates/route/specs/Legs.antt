@@ -6,9 +6,9 @@ use mathlib.Core.List.{List}
 use lib.Ieee.{Float, lt}
 use Rattle.relay_math.specs.F32.{_⊕_, _⊖_, 0·0}
 use Rattle.relay_traj.specs.Quintic.{mendedDuration}
-use Rattle.joint.specs.declared.stages.Reference.{Reference}
-use Rattle.joint.specs.SetUp.{segmentOf}
-use Rattle.joint.specs.Tick.{referenceAt}
+use Rattle.joint_tick.specs.declared.stages.Reference.{Reference}
+use Rattle.joint_tick.specs.SetUp.{segmentOf}
+use Rattle.joint_tick.specs.Tick.{referenceAt}
 use Rattle.route.specs.declared.legs.Flown.{Flown}
 use Rattle.route.specs.Form.{legOf}
 

@@ -6,7 +6,7 @@ use image::input_at;
 use image::prepared_at;
 use image::put_answer;
 use image::put_steered;
-use joint::steer;
+use joint_tick::steer;
 use outcome::Outcome;
 use outcome::is_done;
 ghost use mathlib.Core.Path.{_≡_};
@@ -17,7 +17,7 @@ ghost use Rattle.route.specs.Entry.{routeRefusal, routeCall};
 pub fn route_refusal(image: &[u8], input_len: usize, answer_len: usize, route: &[u8]) -> Outcome
     ensures { λ r. ⌜ r ≡ routeRefusal (now (image .entry)) «input_len» «answer_len» (now (route .entry)) ⌝ }
 {
-    let tick = flight::tick_refusal(image, input_len, answer_len);
+    let tick = calls::tick_refusal(image, input_len, answer_len);
     if !is_done(tick) {
         return tick;
     }

@@ -1,7 +1,7 @@
 // How a route stands in bytes: legs of 19 words each, then a trailer of two words, the count and how many bytes back the first leg starts.
 use image::LEG_WORDS;
 use image::leg_at;
-use joint::Leg;
+use joint_tick::Leg;
 use outcome::Outcome;
 use relay_math::Vec3;
 use words::four_bytes;

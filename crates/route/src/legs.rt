@@ -1,9 +1,9 @@
 // The leg flown, over any count.
 use image::LEG_WORDS;
 use image::leg_at;
-use joint::Reference;
-use joint::reference_at;
-use joint::segment_of;
+use joint_tick::Reference;
+use joint_tick::reference_at;
+use joint_tick::segment_of;
 use relay_traj::mended_duration;
 ghost use mathlib.Core.Path.{_≡_};
 ghost use Prim.Native.Nat.{_+_, _*_, _<_, _≤_};

@@ -26,7 +26,7 @@ fn refusal() {
     let mut image = [0u8; 380];
     let input = [0u8; 68];
     let mut answer = [0u8; 40];
-    let ended = flight::tick(&mut image, &input, &mut answer);
+    let ended = calls::tick(&mut image, &input, &mut answer);
     io::print_decimal(STDOUT_FILENO, outcome::number(ended) as u64);
     io::write_all(STDOUT_FILENO, b"\n");
 }

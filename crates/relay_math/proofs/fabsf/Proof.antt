@@ -5,7 +5,8 @@ use Prim.Native.Nat.{zero, suc}
 use lib.Dec.{T}
 use lib.Ieee.{Float, nan, inf, fin, binary32, fits, lt, eq, neg, ofBits}
 use Rattle.relay_math.specs.F32.{0·0, fabsf}
-use Rattle.relay_math.proofs.Tests.{held, zero-is, is-below, not-zero}
+use Rattle.laws.proofs.Tests.{held}
+use Rattle.relay_math.proofs.Signs.{zero-is, is-below, not-zero}
 use Rattle.relay_math.proofs.fabsf.Statement.{statement}
 use Rattle.relay_math.proofs.fabsf.Tie as tie
 

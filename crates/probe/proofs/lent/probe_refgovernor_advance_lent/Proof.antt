@@ -30,7 +30,7 @@ use denote.Triple.Statement.{Contract, Triple}
 use denote.Triple.Call.{calls-at}
 use denote.Triple.Clauses.{ensured}
 use denote.Triple.Table.{entered, cited}
-use Rattle.relay_math.proofs.Lent.{passed-on}
+use Rattle.laws.proofs.Lent.{passed-on}
 use Rattle.relay_traj.specs.declared.governor.RefGovernor.{RefGovernor}
 use Rattle.relay_traj.proofs.governor.RefGovernor as T
 use Rattle.relay_traj.proofs.governor.RefGovernor.advance_lent as lent

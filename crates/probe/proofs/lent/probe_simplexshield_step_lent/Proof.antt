@@ -31,7 +31,7 @@ use denote.Triple.Statement.{Contract, Triple}
 use denote.Triple.Call.{calls-at}
 use denote.Triple.Clauses.{ensured}
 use denote.Triple.Table.{entered, cited}
-use Rattle.relay_math.proofs.Lent.{passed-on}
+use Rattle.laws.proofs.Lent.{passed-on}
 use Rattle.relay_math.proofs.BodyRate as B
 use Rattle.relay_math.proofs.BodyRate.Laws as B′
 use Rattle.relay_geo.specs.declared.shield.SimplexShield.{SimplexShield}

@@ -6,7 +6,7 @@ use native.Mathlib.Omega.{arith}
 use lib.Pow.{shl-exact, shl-lt, pow-mono}
 use lib.Ieee.{binary32, toBits}
 use Rattle.relay_math.specs.Steps.{fixed}
-use Rattle.relay_math.proofs.Tests.{held}
+use Rattle.laws.proofs.Tests.{held}
 use Rattle.relay_math.proofs.AngleReduction.{Parts, known}
 use Rattle.relay_math.proofs.angles.fixed_of.Statement.{statement}
 use Rattle.relay_math.proofs.angles.fixed_of.Tie as tie

@@ -5,7 +5,7 @@ use lib.Dec.{T}
 use lib.Ieee.{Float, ofBits, le, lt}
 use lib.Ieee.Positive.{between, le-trans-positive}
 use Rattle.relay_math.specs.Steps.{sincos, Tiny, Limit, Most}
-use Rattle.relay_math.proofs.Tests.{held}
+use Rattle.laws.proofs.Tests.{held}
 use Rattle.relay_math.proofs.angles.sincos.Statement.{statement}
 use Rattle.relay_math.proofs.angles.sincos.Tie as tie
 

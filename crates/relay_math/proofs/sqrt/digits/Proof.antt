@@ -7,7 +7,7 @@ use native.Mathlib.Omega.{arith}
 use lib.Count.{leadingZeros}
 use lib.Ieee.{Float, fin, binary32, ofBits, toBits}
 use Rattle.relay_math.specs.F32.{grains}
-use Rattle.relay_math.proofs.Tests.{of-positive}
+use Rattle.relay_math.proofs.Signs.{of-positive}
 use Rattle.relay_math.proofs.Grains.{reads}
 use Rattle.relay_math.proofs.Root.{Scaled, M, E, joined, zeros, small-is, scaled-small, scaled-normal}
 use Rattle.relay_math.proofs.sqrt.digits.Statement.{statement}

@@ -8,7 +8,7 @@ use lib.Dec.{lt→ltb}
 use lib.Ieee.{Float, fin, binary32, ofBits, toBits}
 use Rattle.relay_math.specs.F32.{grains}
 use Rattle.relay_math.specs.Sqrt.{sqrtf}
-use Rattle.relay_math.proofs.Tests.{of-positive}
+use Rattle.relay_math.proofs.Signs.{of-positive}
 use Rattle.relay_math.proofs.sqrt.positive_root.Statement.{statement}
 use Rattle.relay_math.proofs.sqrt.positive_root.Tie as tie
 

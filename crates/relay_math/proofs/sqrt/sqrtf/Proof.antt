@@ -7,7 +7,8 @@ use lib.Dec.{T}
 use lib.Ieee.{Float, binary32, fits, ofBits, div}
 use lib.Ieee.Bits.{nanBits-above}
 use Rattle.relay_math.specs.Sqrt.{IsRoot, sqrtf}
-use Rattle.relay_math.proofs.Tests.{held, not-nan}
+use Rattle.laws.proofs.Tests.{held}
+use Rattle.relay_math.proofs.Signs.{not-nan}
 use Rattle.relay_math.proofs.Root.{is-root, by-tests, above}
 use Rattle.relay_math.proofs.sqrt.sqrtf.Statement.{statement}
 use Rattle.relay_math.proofs.sqrt.sqrtf.Tie as tie

@@ -10,7 +10,8 @@ use lib.Ieee.{Float, fin, binary32, fits, ofBits, toBits, lt}
 use lib.Ieee.Bits.{nanBits-above, toBits-lt}
 use Rattle.relay_math.specs.Steps.{Zero}
 use Rattle.relay_math.specs.Sqrt.{sqrtf}
-use Rattle.relay_math.proofs.Tests.{held, not-nan, of-positive}
+use Rattle.laws.proofs.Tests.{held}
+use Rattle.relay_math.proofs.Signs.{not-nan, of-positive}
 use Rattle.relay_math.proofs.Grains.{reads}
 use Rattle.relay_math.proofs.Root.{above, near-one}
 use Rattle.relay_math.proofs.sqrt.sqrtf_near_one.Statement.{statement}

@@ -29,7 +29,7 @@ use denote.Ref.{RefT, MutRef, ptr-vals, mut-tells}
 use denote.Signature.{plain}
 use denote.Steps.{owned, nothing}
 use denote.Struct.Laws as LL
-use Rattle.relay_math.proofs.Lent.{opened, answered, closed}
+use Rattle.laws.proofs.Lent.{opened, answered, closed}
 use denote.Triple.Entry.{onEntry}
 use denote.Triple.Spec.{Meets, tripleOf}
 use denote.Triple.Statement.{Contract, Triple}

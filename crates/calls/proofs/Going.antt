@@ -1,0 +1,135 @@
+-- Runs exist and go on for ever: the image that set-up writes is never refused, nor the one that an accepted tick writes. Assumes nothing.
+use mathlib.Core.Path.{_≡_, refl, sym, subst}
+use mathlib.Core.Bool.{Bool, true, false, _||_, _&&_, cond}
+use mathlib.Core.List.{List}
+use Prim.Native.Nat.{ℕ}
+use lib.Dec.{T, eqb}
+use borrow.Author.Tests.{eqb-true}
+use lib.Ieee.{Float, binary32, fits, lt}
+use lib.ListN.{length}
+use Rattle.words.specs.Words.{word, vec, flag}
+use Rattle.words.proofs.Back.{float-fits}
+use Rattle.relay_math.specs.F32.{0·0, isFinite}
+use Rattle.laws.proofs.Tests.{no}
+use Rattle.joint_tick.specs.declared.state.State.{State}
+use Rattle.joint_tick.specs.declared.stages.Reference.{Reference}
+use Rattle.joint_tick.specs.SetUp.{setUp, segmentOf}
+use Rattle.joint_tick.specs.Tick.{tick, ticked, prepare, finish, follow, referenceAt}
+use Rattle.joint_tick.specs.Good.{shieldOk, good}
+use Rattle.joint_tick.proofs.Kept.{Good, good-parts, set-up-good, tick-good}
+use Rattle.outcome.specs.declared.Outcome.the-variants.{Done, ImageLength, BrokenImage}
+use Rattle.image.specs.Layout.{COUNT, ENGAGED, IMAGE-WORDS, IMAGE-BYTES, INPUT-BYTES, ANSWER-BYTES, SETUP-ENTER}
+use Rattle.image.specs.Parts.{gainsAt, setAt, legAt, adrcGainsAt, quatAt}
+use Rattle.image.specs.Image.{shieldAt, stateAt, imageOf}
+use Rattle.image.specs.Calls.{setupAt, inputAt}
+use Rattle.calls.specs.Entry.{intactWith, intact, tickRefusal}
+use Rattle.image.specs.Fits.{Fits}
+use Rattle.image.proofs.Decoded.{image-length, count-written, engaged-written, decode-encode, state-fits}
+use Rattle.image.proofs.Fitting.{new-shield-fits, step-fits, governor-fits, advance-fits, segment-fits, rate-new-fits, axis-fraction-fits, axis-tick-fits, gyro-new-fits, gyro-filter-fits}
+
+-- ---- every state that set-up and ticks make is one of f32 values
+
+pub set-up-fits : (b : List ℕ) → Fits (setUp (setupAt b))
+unfolding setUp setupAt segmentOf gainsAt vec setAt legAt adrcGainsAt
+set-up-fits b =
+    record {
+      gains = search float-fits;
+      shield = new-shield-fits _ _ _ (search float-fits) (search float-fits) (search float-fits);
+      governor = governor-fits _ _ _ (search float-fits) (search float-fits) (search float-fits);
+      segment = segment-fits _ _ _ _ _ _ _ (search float-fits) (search float-fits) (search float-fits) (search float-fits);
+      rate = rate-new-fits _ _ _ (search float-fits) (search float-fits) (search float-fits);
+      lpf = gyro-new-fits _ _;
+    }
+
+-- from any source of references
+pub ticked-fits : (source : Float → Reference) (s : State) (b : List ℕ) → Fits s → Fits (ticked source s (inputAt b) .state)
+unfolding ticked prepare finish follow inputAt vec
+ticked-fits source s b f =
+    record {
+      gains = f .gains;
+      shield = step-fits _ _ _ _ (f .shield);
+      governor = advance-fits _ _ _ (f .governor);
+      segment = f .segment;
+      rate = (
+        axis-tick-fits _ _ _ _ (axis-fraction-fits _ _ (f .rate .0) (search float-fits)),
+        axis-tick-fits _ _ _ _ (axis-fraction-fits _ _ (f .rate .1) (search float-fits)),
+        axis-tick-fits _ _ _ _ (axis-fraction-fits _ _ (f .rate .2) (search float-fits)),
+      );
+      lpf = gyro-filter-fits _ _ (f .lpf) (search float-fits);
+    }
+
+pub tick-fits : (s : State) (b : List ℕ) → Fits s → Fits (tick s (inputAt b) .state)
+unfolding tick
+tick-fits s b f = ticked-fits (referenceAt (s .segment)) s b f
+
+-- ---- what is written is taken
+
+flag-ok : (b : Bool) → (eqb (flag b) 0 || eqb (flag b) 1) ≡ true
+flag-ok true = refl
+flag-ok false = refl
+
+taken : (s : State) → Fits s → good s ≡ true → tickRefusal (imageOf s) INPUT-BYTES ANSWER-BYTES ≡ Done
+unfolding tickRefusal intact intactWith
+taken s f g = simp (image-length s, count-written s, engaged-written s, flag-ok (s .shield .engaged), decode-encode s f, g)
+
+enter-fits : (b : List ℕ) → T (fits binary32 (setupAt b .enter))
+unfolding setupAt
+enter-fits b = float-fits b SETUP-ENTER
+
+-- "the image that set-up writes is never refused": from any input at all
+pub set-up-never-refused : (b : List ℕ) → tickRefusal (imageOf (setUp (setupAt b))) INPUT-BYTES ANSWER-BYTES ≡ Done
+set-up-never-refused b = taken (setUp (setupAt b)) (set-up-fits b) (set-up-good (setupAt b) (enter-fits b) .ok)
+
+-- ---- what an accepted image has
+
+accepted : (a b : Bool) → cond a (cond b Done BrokenImage) ImageLength ≡ Done → b ≡ true
+accepted true true e = refl
+accepted true false e = cc
+accepted false b e = cc
+
+last : (x y z : Bool) → (x && y && z) ≡ true → z ≡ true
+last true true true e = refl
+last true true false e = no e
+last true false z e = no e
+last false y z e = no e
+
+pub good-image : (image : List ℕ) → tickRefusal image INPUT-BYTES ANSWER-BYTES ≡ Done → Good (stateAt image)
+unfolding tickRefusal intact intactWith
+good-image image e = record { holds = state-fits image .governor .0; ok = last (eqb (word image COUNT) IMAGE-WORDS) (eqb (word image ENGAGED) 0 || eqb (word image ENGAGED) 1) (good (stateAt image)) (accepted (eqb (length image) IMAGE-BYTES) (intact image) e) }
+
+-- its flag is in its word
+pub flag-of-image : (image : List ℕ) → tickRefusal image INPUT-BYTES ANSWER-BYTES ≡ Done → word image ENGAGED ≡ flag (stateAt image .shield .engaged)
+unfolding tickRefusal intact intactWith stateAt shieldAt
+flag-of-image image e = bit (word image ENGAGED) (middle (eqb (word image COUNT) IMAGE-WORDS) (eqb (word image ENGAGED) 0 || eqb (word image ENGAGED) 1) (good (stateAt image)) (accepted (eqb (length image) IMAGE-BYTES) (intact image) e))
+  where
+    middle : (x y z : Bool) → (x && y && z) ≡ true → y ≡ true
+    middle true true z e = refl
+    middle true false z e = no e
+    middle false y z e = no e
+
+    bit : (w : ℕ) → (eqb w 0 || eqb w 1) ≡ true → w ≡ flag (eqb w 1)
+    bit w e = go (eqb w 0) (eqb w 1) e refl refl
+      where
+        go : (a b : Bool) → (a || b) ≡ true → eqb w 0 ≡ a → eqb w 1 ≡ b → w ≡ flag b
+        go a true e p q = eqb-true w 1 q
+        go true false e p q = eqb-true w 0 p
+        go false false e p q = no e
+
+-- its thresholds are in order
+pub in-order : (image : List ℕ) → tickRefusal image INPUT-BYTES ANSWER-BYTES ≡ Done → lt (stateAt image .shield .enter) (stateAt image .shield .exit) ≡ true
+unfolding shieldOk
+in-order image e =
+    let h = stateAt image .shield in
+    last (isFinite (h .enter)) (lt 0·0 (h .enter)) (lt (h .enter) (h .exit)) (good-parts (stateAt image) (good-image image e .ok) .0)
+
+-- "nor the one that an accepted tick writes": whatever the input, and from any source of references
+pub ticked-never-refused : (source : Float → Reference) (image input : List ℕ) → tickRefusal image INPUT-BYTES ANSWER-BYTES ≡ Done
+    → tickRefusal (imageOf (ticked source (stateAt image) (inputAt input) .state)) INPUT-BYTES ANSWER-BYTES ≡ Done
+ticked-never-refused source image input e =
+    let s = stateAt image in
+    taken (ticked source s (inputAt input) .state) (ticked-fits source s input (state-fits image)) (tick-good source s (inputAt input) (good-image image e) .ok)
+
+pub tick-never-refused : (image input : List ℕ) → tickRefusal image INPUT-BYTES ANSWER-BYTES ≡ Done
+    → tickRefusal (imageOf (tick (stateAt image) (inputAt input) .state)) INPUT-BYTES ANSWER-BYTES ≡ Done
+unfolding tick
+tick-never-refused image input e = ticked-never-refused (referenceAt (stateAt image .segment)) image input e

@@ -1,0 +1,37 @@
+-- `calls::entry::tick_refusal` meets its contract: what its calls ensure, put together. Assumes nothing.
+use borrow.Author.Needs.{needs}
+use borrow.Author.Tests.{eq-eqb, ne-eqb}
+use Rattle.calls.specs.Entry.{tickRefusal}
+use Rattle.calls.proofs.entry.tick_refusal.Statement.{statement}
+use Rattle.calls.proofs.entry.tick_refusal.Tie as tie
+
+pub tick-refusal-spec : {M : Type 1} → statement M
+unfolding tickRefusal
+tick-refusal-spec =
+    tie.close (tie.spec
+    (λ c. simp (
+    ne-eqb _ _ (c .if1 .taken)))
+    (λ c. simp (
+      ne-eqb _ _ (c .if2 .taken),
+      eq-eqb _ _ (c .before .if1 .left),
+    ))
+    (λ c. simp (
+      ne-eqb _ _ (c .if3 .taken),
+      eq-eqb _ _ (c .before .if2 .left),
+      eq-eqb _ _ (c .before .before .if1 .left),
+    ))
+    (λ c κs. search needs)
+    (λ c. simp (
+      ← c .before .intact .ensures,
+      c .if4 .taken,
+      eq-eqb _ _ (c .before .before .if3 .left),
+      eq-eqb _ _ (c .before .before .before .if2 .left),
+      eq-eqb _ _ (c .before .before .before .before .if1 .left),
+    ))
+    (λ c. simp (
+      ← c .before .intact .ensures,
+      c .if4 .left,
+      eq-eqb _ _ (c .before .before .if3 .left),
+      eq-eqb _ _ (c .before .before .before .if2 .left),
+      eq-eqb _ _ (c .before .before .before .before .if1 .left),
+    )))

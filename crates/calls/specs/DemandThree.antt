@@ -1,0 +1,52 @@
+-- The user's third demand, on bytes: what is said of one tick. Definitions only.
+use mathlib.Core.Path.{_≡_}
+use mathlib.Core.Logic.{_⊎_, _↔_}
+use mathlib.Core.Bool.{true, false}
+use mathlib.Core.List.{List, [], _∷_}
+use Prim.Native.Nat.{ℕ, _+_}
+use lib.Ieee.{Float, lt}
+use Rattle.words.specs.Words.{word, float, floatOf, bits, floatsOfVec, wordsOf}
+use Rattle.relay_math.specs.F32.{0·0, isFinite, finiteOr}
+use Rattle.relay_geo.specs.Vectors.{sanitise3}
+use Rattle.joint_tick.specs.declared.stages.Guided.{Guided}
+use Rattle.image.specs.Layout.{ENTER, EXIT, AGILE, COMMAND, FLAG, MARGIN}
+use Rattle.outcome.specs.Outcomes.{number, Called}
+use Rattle.calls.specs.Runs.{start}
+
+-- the thresholds, as set-up mended them
+abbrev pub enterOf : List ℕ → Float
+enterOf setup = float (start setup) ENTER
+
+abbrev pub exitOf : List ℕ → Float
+exitOf setup = float (start setup) EXIT
+
+-- a word whose number is made zero if it isn't finite
+abbrev pub cleanWord : ℕ → ℕ
+cleanWord w = bits (finiteOr (floatOf w) 0·0)
+
+-- the planner's three words of a tick input so treated, the fallback's, and those that the answer passes on
+abbrev pub plannerWords : List ℕ → List ℕ
+plannerWords input = cleanWord (word input AGILE) ∷ cleanWord (word input (AGILE + 1)) ∷ cleanWord (word input (AGILE + 2)) ∷ []
+
+abbrev pub fallbackWords : Guided → List ℕ
+fallbackWords g = wordsOf (floatsOfVec (sanitise3 (g .fallback .0)))
+
+abbrev pub commandWords : List ℕ → List ℕ
+commandWords answer = word answer COMMAND ∷ word answer (COMMAND + 1) ∷ word answer (COMMAND + 2) ∷ []
+
+-- A tick of that input, guided so, left c: it was accepted; the flag is 0 or 1, and 0 exactly if the planner is to fly; it names whose command is
+-- passed on; and the margin is shown, so that it can be read off.
+pub record Shows (Flying : Type 0) (input : List ℕ) (g : Guided) (c : Called) : Type 0 where
+  pub accepted : number (c .outcome) ≡ 0
+  pub flag : (word (c .answer) FLAG ≡ 0) ⊎ (word (c .answer) FLAG ≡ 1)
+  pub flies : (word (c .answer) FLAG ≡ 0) ↔ Flying
+  pub planner : word (c .answer) FLAG ≡ 0 → commandWords (c .answer) ≡ plannerWords input
+  pub fallback : word (c .answer) FLAG ≡ 1 → commandWords (c .answer) ≡ fallbackWords g
+  pub margin : word (c .answer) MARGIN ≡ bits (g .margin)
+  pub margin-read : float (c .answer) MARGIN ≡ g .margin
+
+-- the user's middle: finite, not above exit and not below enter, each of them included
+pub record InBand (enter exit m : Float) : Type 0 where
+  pub finite : isFinite m ≡ true
+  pub not-above : lt exit m ≡ false
+  pub not-below : lt m enter ≡ false

@@ -1,0 +1,131 @@
+// Set-up and tick on lent bytes. Nothing is asked of the caller; a refused call changes no byte of any buffer.
+use image::ANSWER_BYTES;
+use image::COUNT;
+use image::ENGAGED;
+use image::GOVERNOR;
+use image::IMAGE_BYTES;
+use image::IMAGE_WORDS;
+use image::INPUT_BYTES;
+use image::QUINTIC_WORDS;
+use image::SEGMENT;
+use image::SETUP_BYTES;
+use image::T_END;
+use image::input_at;
+use image::prepared_at;
+use image::put_answer;
+use image::put_state;
+use image::put_steered;
+use image::setup_at;
+use image::shield_at;
+use outcome::Outcome;
+use outcome::is_done;
+use words::float_at;
+use words::word_at;
+ghost use mathlib.Core.Path.{_≡_};
+ghost use lib.ListN.{length};
+ghost use Rattle.joint_tick.specs.Good.{segmentOk, good};
+ghost use Rattle.image.specs.Layout.{SEGMENT, IMAGE-BYTES};
+ghost use Rattle.image.specs.Parts.{segmentAt};
+ghost use Rattle.image.specs.Image.{stateAt};
+ghost use Rattle.outcome.specs.Outcomes.{left, called};
+ghost use Rattle.calls.specs.Entry.{intact, tickRefusal, setUpCall, tickCall};
+
+// By the t_end of each axis of the segment.
+fn segment_lasts(image: &[u8]) -> bool
+    requires { ⌜ length (now image) ≡ IMAGE-BYTES ⌝ }
+    ensures { λ r. ⌜ r ≡ segmentOk (segmentAt (now (image .entry)) SEGMENT) ⌝ }
+{
+    if joint_tick::lasts(float_at(image, SEGMENT + T_END)) {
+        if joint_tick::lasts(float_at(image, SEGMENT + QUINTIC_WORDS + T_END)) {
+            joint_tick::lasts(float_at(image, SEGMENT + QUINTIC_WORDS + QUINTIC_WORDS + T_END))
+        } else {
+            false
+        }
+    } else {
+        false
+    }
+}
+
+// `joint_tick::good` of the image's state, looking at the words that it speaks of and no others.
+fn good_at(image: &[u8]) -> bool
+    requires { ⌜ length (now image) ≡ IMAGE-BYTES ⌝ }
+    ensures { λ r. ⌜ r ≡ good (stateAt (now (image .entry))) ⌝ }
+{
+    if joint_tick::shield_ok(shield_at(image)) {
+        if joint_tick::time_ok(float_at(image, GOVERNOR)) {
+            segment_lasts(image)
+        } else {
+            false
+        }
+    } else {
+        false
+    }
+}
+
+// Row 4.
+fn intact(image: &[u8]) -> bool
+    requires { ⌜ length (now image) ≡ IMAGE-BYTES ⌝ }
+    ensures { λ r. ⌜ r ≡ intact (now (image .entry)) ⌝ }
+{
+    let count = word_at(image, COUNT);
+    let engaged = word_at(image, ENGAGED);
+    if count != IMAGE_WORDS as u32 {
+        return false;
+    }
+    if engaged == 0 {
+        return good_at(image);
+    }
+    if engaged == 1 {
+        return good_at(image);
+    }
+    false
+}
+
+// What a tick would be refused for: by the lengths and the image alone.
+pub fn tick_refusal(image: &[u8], input_len: usize, answer_len: usize) -> Outcome
+    ensures { λ r. ⌜ r ≡ tickRefusal (now (image .entry)) «input_len» «answer_len» ⌝ }
+{
+    if image.len() != IMAGE_BYTES {
+        return Outcome::ImageLength;
+    }
+    if input_len != INPUT_BYTES {
+        return Outcome::InputLength;
+    }
+    if answer_len != ANSWER_BYTES {
+        return Outcome::AnswerLength;
+    }
+    if intact(image) {
+        return Outcome::Done;
+    }
+    Outcome::BrokenImage
+}
+
+// A fresh image from 50 words. What the image held before is not read.
+pub fn setup(image: &mut [u8], input: &[u8]) -> Outcome
+    ensures { λ r. ⌜ left r (now (image .exit)) ≡ setUpCall (now (image .entry)) (now (input .entry)) ⌝ }
+{
+    if image.len() != IMAGE_BYTES {
+        return Outcome::ImageLength;
+    }
+    if input.len() != SETUP_BYTES {
+        return Outcome::InputLength;
+    }
+    put_state(image, joint_tick::set_up(setup_at(input)));
+    Outcome::Done
+}
+
+pub fn tick(image: &mut [u8], input: &[u8], answer: &mut [u8]) -> Outcome
+    ensures { λ r. ⌜ called r (now (image .exit)) (now (answer .exit)) ≡ tickCall (now (image .entry)) (now (input .entry)) (now (answer .entry)) ⌝ }
+{
+    let refusal = tick_refusal(image, input.len(), answer.len());
+    if !is_done(refusal) {
+        return refusal;
+    }
+    let given = input_at(input);
+    let prepared = prepared_at(image, given);
+    let wanted = joint_tick::reference_at(prepared.state.segment, prepared.time);
+    let done = joint_tick::steer(prepared, wanted, given);
+    put_steered(image, prepared, done);
+    put_answer(answer, done.answer);
+    Outcome::Done
+}

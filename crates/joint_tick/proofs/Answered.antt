@@ -1,0 +1,83 @@
+-- What the answer can hold: of its numbers only psi can be a NaN. Assumes nothing.
+use mathlib.Core.Path.{sym, subst}
+use mathlib.Core.Logic.{inl, inr}
+use mathlib.Core.Bool.{Bool, true, false, not, cond}
+use lib.Dec.{T}
+use lib.Ieee.{Float, isNan}
+use Rattle.relay_math.specs.declared.Vec3.{Vec3}
+use Rattle.relay_math.specs.declared.BodyRate.{BodyRate}
+use Rattle.laws.proofs.Tests.{held}
+use Rattle.relay_math.proofs.Order.{finite-number}
+use Rattle.relay_adrc.specs.declared.rate.AdrcRate.{AdrcRate}
+use Rattle.relay_adrc.proofs.Tick.{tick-finite}
+use Rattle.relay_geo.specs.declared.controller.GeoGains.{GeoGains}
+use Rattle.relay_geo.specs.declared.set.RecoverableSet.{RecoverableSet}
+use Rattle.relay_geo.specs.Vectors.{sanitise3, Finite3}
+use Rattle.relay_geo.specs.Attitude.{quatToRotmat}
+use Rattle.relay_geo.specs.Set.{minusInfinity}
+use Rattle.relay_geo.proofs.Finite.{sanitise3-finite}
+use Rattle.relay_geo.proofs.MarginRange.{Ranges, margin-finite-or-minus-infinity}
+use Rattle.relay_traj.specs.Governor.{Running}
+use Rattle.relay_traj.proofs.Clock.{never-nan}
+use Rattle.joint_tick.specs.declared.state.State.{State}
+use Rattle.joint_tick.specs.declared.state.TickInput.{TickInput}
+use Rattle.joint_tick.specs.declared.state.Answer.{Answer}
+use Rattle.joint_tick.specs.declared.stages.Reference.{Reference}
+use Rattle.joint_tick.specs.Tick.{prepare, desired, rateSq, psiOf, guide, guidance, follow, finish, ticked}
+use Rattle.joint_tick.proofs.Once.{one-margin}
+use Rattle.joint_tick.proofs.Shielding.{tick-command, tick-torque}
+use Rattle.joint_tick.proofs.Clock.{tick-time, time-never-back}
+
+-- ---- the margin is finite or minus infinity, with R_d and without
+
+pub guide-margin-ranges : (gains : GeoGains) (set : RecoverableSet) (w : BodyRate) (wanted : Reference) (i : TickInput) → Ranges (guide gains set w wanted i .margin)
+unfolding guide
+guide-margin-ranges gains set w wanted i =
+    let r = quatToRotmat (i .quat) in
+    let rd = desired wanted i in
+    subst Ranges (one-margin set r rd (rateSq w)) (margin-finite-or-minus-infinity set (psiOf r rd) (rateSq w))
+
+minus-infinity-number : T (not (isNan minusInfinity))
+unfolding isNan
+minus-infinity-number = tt
+
+ranges-number : (m : Float) → Ranges m → T (not (isNan m))
+ranges-number m (inl f) = finite-number m (held f)
+ranges-number m (inr e) = subst (λ (x : Float). T (not (isNan x))) (sym e) minus-infinity-number
+
+-- ---- torque and command are finite
+
+follow-finite : (r : AdrcRate) (m w : BodyRate) (dt : Float) → Finite3 (follow r m w dt .torque .0)
+unfolding follow
+follow-finite r m w dt = record { x = tick-finite (r .roll) _ _ dt .u; y = tick-finite (r .pitch) _ _ dt .u; z = tick-finite (r .yaw) _ _ dt .u }
+
+-- three finite numbers each, a time and a margin that are numbers
+pub record Numbers (a : Answer) : Type 0 where
+  pub torque : Finite3 (a .torque .0)
+  pub command : Finite3 (a .command .0)
+  pub time : T (not (isNan (a .time)))
+  pub margin : T (not (isNan (a .margin)))
+
+module _ (source : Float → Reference) (s : State) (i : TickInput) where
+  pub command-finite : Finite3 (ticked source s i .answer .command .0)
+  command-finite = rw tick-command (either (ticked source s i .answer .fallback) (guidance source s i .fallback .0) (i .agile .0))
+    where
+      either : (b : Bool) (v w : Vec3) → Finite3 (cond {A = BodyRate} b record { 0 = sanitise3 v } record { 0 = sanitise3 w } .0)
+      either true v w = sanitise3-finite v
+      either false v w = sanitise3-finite w
+
+  pub torque-finite : Finite3 (ticked source s i .answer .torque .0)
+  torque-finite = rw tick-torque (follow-finite _ _ _ _)
+
+  pub margin-ranges : Ranges (ticked source s i .answer .margin)
+  unfolding ticked finish guidance
+  margin-ranges = guide-margin-ranges (s .gains) (s .shield .set) (prepare s i .rate) (source (prepare s i .time)) i
+
+  pub answer-finite : Running (s .governor .s) → Numbers (ticked source s i .answer)
+  answer-finite r =
+      record {
+        torque = torque-finite;
+        command = command-finite;
+        time = rw tick-time (never-nan (time-never-back source s i r .1));
+        margin = ranges-number (ticked source s i .answer .margin) margin-ranges;
+      }

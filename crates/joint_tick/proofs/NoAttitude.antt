@@ -1,0 +1,88 @@
+-- A tick with no desired attitude: in free fall, and at a heading that is no number, infinite or beyond the limit. Assumes nothing.
+use mathlib.Core.Path.{_≡_, refl, _∙_, ap}
+use mathlib.Core.Bool.{Bool, true, false, not, cond}
+use lib.Dec.{T}
+use lib.Ieee.{Float, nan, binary32, fits, ofBits}
+use Rattle.relay_math.specs.F32.{0·0, isFinite}
+use Rattle.relay_math.specs.Exact.{inRange}
+use Rattle.relay_math.specs.declared.Vec3.{Vec3}
+use Rattle.relay_math.specs.declared.BodyRate.{BodyRate}
+use Rattle.relay_geo.specs.declared.attitude.Attitude.the-variants.{Refused}
+use Rattle.relay_geo.specs.declared.attitude.Feedforward.{Feedforward}
+use Rattle.relay_geo.specs.declared.attitude.Feedforward.the-variants as rate
+use Rattle.relay_geo.specs.declared.controller.GeoGains.{GeoGains}
+use Rattle.relay_geo.specs.declared.set.RecoverableSet.{RecoverableSet}
+use Rattle.relay_geo.specs.Vectors.{norm, sanitise3}
+use Rattle.relay_geo.specs.Attitude.{thrustForce, thrustAttitude, tooWeak, flatnessOmegaFf, feedforwardFrom}
+use Rattle.relay_geo.specs.Set.{minusInfinity}
+use Rattle.latch.specs.Latch.{latch}
+use Rattle.relay_geo.proofs.Accepts.{feedforward-shares}
+use Rattle.relay_geo.proofs.NoAttitude.{bad-heading-none}
+use Rattle.joint_tick.specs.declared.state.State.{State}
+use Rattle.joint_tick.specs.declared.state.TickInput.{TickInput}
+use Rattle.joint_tick.specs.declared.stages.Reference.{Reference}
+use Rattle.joint_tick.specs.declared.stages.Guided.{Guided}
+use Rattle.joint_tick.specs.Tick.{cleaned, desired, prepare, guide, guidance, finish, ticked}
+use Rattle.joint_tick.proofs.Once.{one-attitude}
+use Rattle.joint_tick.proofs.Shielding.{tick-latch, tick-fallback}
+
+abbrev zeros : BodyRate
+zeros = record { 0 = (0·0, 0·0, 0·0) }
+
+-- the feedforward "takes an R_d and there is none"
+no-feedforward : (a j : Vec3) (yaw yawRate : Float) → thrustAttitude a yaw ≡ Refused → flatnessOmegaFf a j yaw yawRate ≡ rate.Refused
+unfolding feedforwardFrom
+no-feedforward a j yaw yawRate e = rw (feedforward-shares a j yaw yawRate, e) (either (tooWeak (norm (thrustForce a))))
+  where
+    either : (b : Bool) → _≡_ {A = Feedforward} (cond b rate.Refused rate.Refused) rate.Refused
+    either true = refl
+    either false = refl
+
+-- "If there is no R_d the margin is minus infinity and the psi word NaN." The fallback is then three +0.0.
+pub no-attitude : (gains : GeoGains) (set : RecoverableSet) (w : BodyRate) (wanted : Reference) (i : TickInput)
+    → desired wanted i ≡ Refused
+    → guide gains set w wanted i ≡ record { fallback = zeros; psi = nan; margin = minusInfinity; planner = record { 0 = sanitise3 (i .agile .0) } }
+unfolding guide
+no-attitude gains set w wanted i e =
+    let c = cleaned wanted in
+    rw (one-attitude gains (i .quat) (wanted .acc) (i .yaw), no-feedforward (c .acc) (c .jerk) (i .yaw) (i .«yaw_rate») e, e)
+
+-- minus infinity engages, whatever the thresholds
+unknown-engages : (enter exit : Float) (b : Bool) → latch enter exit b minusInfinity ≡ true
+unfolding latch isFinite
+unknown-engages enter exit true = refl
+unknown-engages enter exit false = refl
+
+clean-zeros : sanitise3 (zeros .0) ≡ zeros .0
+unfolding isFinite ofBits
+clean-zeros = refl
+
+-- So the flag names the fallback, and the command is three +0.0.
+pub record Damped (source : Float → Reference) (s : State) (i : TickInput) : Type 0 where
+  pub margin : ticked source s i .answer .margin ≡ minusInfinity
+  pub psi : ticked source s i .answer .psi ≡ nan
+  pub flag : ticked source s i .answer .fallback ≡ true
+  pub command : ticked source s i .answer .command ≡ zeros
+
+module _ (source : Float → Reference) (s : State) (i : TickInput) where
+  pub no-attitude-tick : desired (source (prepare s i .time)) i ≡ Refused → Damped source s i
+  unfolding ticked finish guidance
+  no-attitude-tick e =
+      let g = no-attitude (s .gains) (s .shield .set) (prepare s i .rate) (source (prepare s i .time)) i e in
+      let m = ap (λ (x : Guided). x .margin) g in
+      let f : ticked source s i .answer .fallback ≡ true = tick-latch source s i ∙ rw m (unknown-engages (s .shield .enter) (s .shield .exit) (s .shield .engaged)) in
+      record {
+        margin = m;
+        psi = ap (λ (x : Guided). x .psi) g;
+        flag = f;
+        command = tick-fallback source s i f ∙ rw (ap (λ (x : Guided). x .fallback) g, clean-zeros);
+      }
+
+  -- "A non-finite yaw makes the heading vector zero", and so does one beyond the limit: whatever the segment asks for.
+  pub bad-heading-tick : T (fits binary32 (i .yaw)) → T (not (inRange (i .yaw))) → Damped source s i
+  bad-heading-tick f far = no-attitude-tick (bad-heading-none (i .yaw) f far (cleaned (source (prepare s i .time)) .acc))
+
+  -- "Headings that aren't numbers."
+  pub nan-heading-tick : i .yaw ≡ nan → Damped source s i
+  unfolding fits inRange
+  nan-heading-tick e = bad-heading-tick (rw e tt) (rw e tt)

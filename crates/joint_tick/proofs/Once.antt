@@ -1,0 +1,85 @@
+-- `guide` builds R and R_d once, and takes the length of g - a once; ADRC's tick is taken in two halves: that is the Rust's own calls, bit for bit. Assumes nothing.
+use mathlib.Core.Path.{_≡_, refl}
+use lib.Ieee.{Float}
+use Rattle.relay_math.specs.F32.{isFinite}
+use Rattle.relay_math.specs.declared.Vec3.{Vec3}
+use Rattle.relay_math.specs.declared.BodyRate.{BodyRate}
+use Rattle.relay_geo.specs.declared.vectors.Mat3.{Mat3}
+use Rattle.relay_geo.specs.declared.vectors.Quat.{Quat}
+use Rattle.relay_geo.specs.declared.attitude.Attitude.{Attitude}
+use Rattle.relay_geo.specs.declared.attitude.Attitude.the-variants.{Matrix, Refused}
+use Rattle.relay_geo.specs.declared.controller.GeoGains.{GeoGains}
+use Rattle.relay_geo.specs.declared.set.RecoverableSet.{RecoverableSet}
+use Rattle.relay_geo.specs.Vectors.{sanitise3}
+use Rattle.relay_geo.specs.Attitude.{quatToRotmat, thrustAttitude, thrustOf, attitudeOn, feedforwardOn}
+use Rattle.relay_geo.specs.Controller.{rateToward, desiredRate}
+use Rattle.relay_geo.specs.Set.{margin}
+use Rattle.relay_geo.proofs.Accepts.{shared-attitude, shared-feedforward}
+use Rattle.relay_geo.proofs.Finite.{sanitise3-finite, sanitise3-keeps}
+use Rattle.joint_tick.specs.declared.state.State.{State}
+use Rattle.joint_tick.specs.declared.state.TickInput.{TickInput}
+use Rattle.joint_tick.specs.declared.stages.Reference.{Reference}
+use Rattle.relay_adrc.specs.declared.rate.AdrcRate.{AdrcRate}
+use Rattle.relay_adrc.proofs.Tick.{tick-in-halves}
+use Rattle.joint_tick.specs.declared.stages.Prepared.{Prepared}
+use Rattle.joint_tick.specs.declared.stages.Guided.{Guided}
+use Rattle.joint_tick.specs.declared.stages.Steered.{Steered}
+use Rattle.joint_tick.specs.declared.stages.Ticked.{Ticked}
+use Rattle.joint_tick.specs.Tick.{prepare, cleaned, plus, rateSq, psiOf, marginOf, referenceAt, guide, guidance, observe, follow, followOn, finish, finishOn, picks, toward, steered, steeredState, ticked, tick}
+
+-- `desired_rate` cleans its acceleration, which is clean already: its R_d is the tick's
+pub one-attitude : (g : GeoGains) (q : Quat) (a : Vec3) (yaw : Float) → desiredRate g q (sanitise3 a) yaw ≡ rateToward g (quatToRotmat q) (thrustAttitude (sanitise3 a) yaw)
+unfolding desiredRate
+one-attitude g q a yaw = rw (sanitise3-keeps (sanitise3 a) (sanitise3-finite a))
+
+-- of a psi that is a NaN the margin is minus infinity
+pub one-margin : (set : RecoverableSet) (r : Mat3) (rd : Attitude) (wSq : Float) → margin set (psiOf r rd) wSq ≡ marginOf set r rd wSq
+unfolding margin isFinite
+one-margin set r (Matrix rd) wSq = refl
+one-margin set r Refused wSq = refl
+
+pub guided-once : (gains : GeoGains) (set : RecoverableSet) (w : BodyRate) (wanted : Reference) (i : TickInput)
+    → (let t = thrustOf (cleaned wanted .acc) in
+    let r = quatToRotmat (i .quat) in
+    let rd = attitudeOn t (i .yaw) in
+    _≡_ {A = Guided} record {
+      fallback = plus (rateToward gains r rd) (feedforwardOn t (cleaned wanted .jerk) (i .«yaw_rate») rd);
+      psi = psiOf r rd;
+      margin = margin set (psiOf r rd) (rateSq w);
+      planner = record { 0 = sanitise3 (i .agile .0) };
+    } (guide gains set w wanted i))
+unfolding guide
+guided-once gains set w wanted i =
+    let acc = cleaned wanted .acc in
+    rw (shared-attitude acc (i .yaw), shared-feedforward acc (cleaned wanted .jerk) (i .yaw) (i .«yaw_rate»), one-attitude gains (i .quat) (wanted .acc) (i .yaw), one-margin set (quatToRotmat (i .quat)) (thrustAttitude acc (i .yaw)) (rateSq w))
+
+-- ---- ADRC's observers go before the guidance, its control after it
+
+pub follow-in-halves : (r : AdrcRate) (m w : BodyRate) (dt : Float) → followOn r (observe r m dt) w ≡ follow r m w dt
+unfolding followOn observe follow
+follow-in-halves r m w dt = rw (tick-in-halves (r .roll) (m .0 .0) (w .0 .0) dt, tick-in-halves (r .pitch) (m .0 .1) (w .0 .1) dt, tick-in-halves (r .yaw) (m .0 .2) (w .0 .2) dt)
+
+pub finish-in-halves : (p : Prepared) (g : Guided) (dt : Float) → finishOn p (observe (p .state .rate) (p .rate) dt) g ≡ finish p g dt
+unfolding finishOn finish
+finish-in-halves p g dt = rw (follow-in-halves (p .state .rate) (p .rate) (picks p g .command) dt)
+
+-- ---- a tick is its sample, and what comes after it
+
+pub tick-toward : (source : Float → Reference) (s : State) (i : TickInput) → toward (prepare s i) (source (prepare s i .time)) i ≡ ticked source s i
+unfolding toward ticked guidance prepare
+tick-toward source s i = refl
+
+pub segment-tick-toward : (s : State) (i : TickInput) → toward (prepare s i) (referenceAt (s .segment) (prepare s i .time)) i ≡ tick s i
+unfolding tick
+segment-tick-toward s i = tick-toward (referenceAt (s .segment)) s i
+
+-- what was prepared and what was steered make the tick
+pub steered-tick : (source : Float → Reference) (s : State) (i : TickInput) {p : Prepared} {wanted : Reference} {d : Steered}
+    → p ≡ prepare s i → wanted ≡ source (p .time) → d ≡ steered (toward p wanted i)
+    → _≡_ {A = Ticked} record { state = steeredState p d; answer = d .answer } (ticked source s i)
+unfolding toward finish ticked guidance prepare
+steered-tick source s i e f g = rw (g, f, e)
+
+pub prepared-segment : (s : State) (i : TickInput) {p : Prepared} → p ≡ prepare s i → p .state .segment ≡ s .segment
+unfolding prepare
+prepared-segment s i e = rw e

@@ -1,0 +1,24 @@
+-- Set-up, as document 01 has it: each part by its constructor. Definitions only.
+use Rattle.relay_adrc.specs.Rate.{rateNew}
+use Rattle.relay_adrc.specs.Biquad.{gyroNew}
+use Rattle.relay_geo.specs.Shield.{newShield}
+use Rattle.relay_traj.specs.declared.segment.Segment3.{Segment3}
+use Rattle.relay_traj.specs.Governor.{governor}
+use Rattle.relay_traj.specs.Segment.{segment}
+use Rattle.joint_tick.specs.declared.state.Leg.{Leg}
+use Rattle.joint_tick.specs.declared.state.SetUp.{SetUp}
+use Rattle.joint_tick.specs.declared.state.State.{State}
+
+unfoldable pub segmentOf : Leg → Segment3
+segmentOf leg = segment (leg .p0) (leg .v0) (leg .a0) (leg .pf) (leg .vf) (leg .af) (leg .t)
+
+unfoldable pub setUp : SetUp → State
+setUp i =
+    record {
+      gains = i .gains;
+      shield = newShield (i .set) (i .enter) (i .exit);
+      governor = governor (i .«err_lo») (i .«err_hi») (i .«g_min»);
+      segment = segmentOf (i .leg);
+      rate = rateNew (i .roll) (i .pitch) (i .yaw);
+      lpf = gyroNew (i .fc) (i .fs);
+    }

@@ -1,0 +1,31 @@
+// Set-up: the first state, by the constructors. They mend what is bad, so every bit pattern is taken.
+use crate::state::Leg;
+use crate::state::SetUp;
+use crate::state::State;
+use relay_adrc::AdrcRate;
+use relay_adrc::GyroLpf;
+use relay_geo::SimplexShield;
+use relay_traj::RefGovernor;
+use relay_traj::Segment3;
+ghost use mathlib.Core.Path.{_≡_};
+ghost use Rattle.joint_tick.specs.SetUp.{segmentOf, setUp};
+
+pub fn segment_of(leg: Leg) -> Segment3
+    ensures { λ r. ⌜ r ≡ segmentOf leg ⌝ }
+{
+    Segment3::new(leg.p0, leg.v0, leg.a0, leg.pf, leg.vf, leg.af, leg.t)
+}
+
+pub fn set_up(input: SetUp) -> State
+    ensures { λ r. ⌜ r ≡ setUp input ⌝ }
+{
+    let gains = input.gains;
+    State {
+        gains,
+        shield: SimplexShield::new(input.set, input.enter, input.exit),
+        governor: RefGovernor::new(input.err_lo, input.err_hi, input.g_min),
+        segment: segment_of(input.leg),
+        rate: AdrcRate::new(input.roll, input.pitch, input.yaw),
+        lpf: GyroLpf::new(input.fc, input.fs),
+    }
+}

@@ -1,0 +1,309 @@
+// The joint tick in stages, in document 01's order: prepare, take a reference, guide, finish. (ADRC's tick is taken in its two halves, the
+// observers' before the guidance.) A route's tick has another reference in place
+// of `reference_at` and nothing else; what is guided to depends on R, R_d and the heading in `guide` alone.
+use crate::state::Answer;
+use crate::state::State;
+use crate::state::TickInput;
+use relay_adrc::AdrcRate;
+use relay_adrc::Observed;
+use relay_adrc::RateTick;
+use relay_geo::Attitude;
+use relay_geo::Feedforward;
+use relay_geo::GeoAtt;
+use relay_geo::GeoGains;
+use relay_geo::Mat3;
+use relay_geo::RecoverableSet;
+use relay_geo::SimplexShield;
+use relay_geo::attitude_on;
+use relay_geo::dot;
+use relay_geo::feedforward_on;
+use relay_geo::quat_to_rotmat;
+use relay_geo::sanitise3;
+use relay_geo::thrust_of;
+use relay_math::BodyRate;
+use relay_math::Torque;
+use relay_math::Vec3;
+use relay_traj::Segment3;
+ghost use mathlib.Core.Path.{_≡_};
+ghost use Rattle.joint_tick.specs.Tick.{setFractions, prepare, sampleTime, referenceAt, cleaned, plus, rateSq, psiOf, guide, observe, followOn, finishOn, toward, steered, tick};
+
+// The state with its fractions, filters and clock moved on, the filtered rate and the governor's time.
+#[repr(C)]
+pub struct Prepared {
+    pub state: State,
+    pub rate: BodyRate,
+    pub time: f32,
+}
+
+// The acceleration and the jerk that the trajectory asks for.
+#[repr(C)]
+pub struct Reference {
+    pub acc: Vec3,
+    pub jerk: Vec3,
+}
+
+// The two commands to choose from, the attitude error and the margin.
+#[repr(C)]
+pub struct Guided {
+    pub fallback: BodyRate,
+    pub psi: f32,
+    pub margin: f32,
+    pub planner: BodyRate,
+}
+
+// What ADRC's observers see, axis by axis.
+#[repr(C)]
+pub struct Observed3 {
+    pub roll: Observed,
+    pub pitch: Observed,
+    pub yaw: Observed,
+}
+
+#[repr(C)]
+pub struct Ticked {
+    pub state: State,
+    pub answer: Answer,
+}
+
+// What a tick makes after its sample. All else of the state stays as it was prepared.
+#[repr(C)]
+pub struct Steered {
+    pub shield: SimplexShield,
+    pub rate: AdrcRate,
+    pub answer: Answer,
+}
+
+// ---- prepare
+
+// The fractions belong to the torque of the tick before: they are set first, and this tick's torque waits for the next ones.
+pub fn set_fractions(rate: AdrcRate, fraction: Vec3) -> AdrcRate
+    ensures { λ r. ⌜ r ≡ setFractions rate fraction ⌝ }
+{
+    AdrcRate {
+        roll: rate.roll.set_delivered_fraction(fraction.0),
+        pitch: rate.pitch.set_delivered_fraction(fraction.1),
+        yaw: rate.yaw.set_delivered_fraction(fraction.2),
+    }
+}
+
+// dt goes to the governor as it is given, and later to ADRC: each has its own rule for a bad one.
+pub fn prepare(state: State, input: TickInput) -> Prepared
+    ensures { λ r. ⌜ r ≡ prepare state input ⌝ }
+{
+    let rate = set_fractions(state.rate, input.fraction);
+    let filtered = state.lpf.filter(input.gyro);
+    let advanced = state.governor.advance(input.track_err, input.dt);
+    let gains = state.gains;
+    let shield = state.shield;
+    let segment = state.segment;
+    let governor = advanced.governor;
+    let lpf = filtered.lpf;
+    let measured = filtered.rate;
+    Prepared {
+        state: State {
+            gains,
+            shield,
+            governor,
+            segment,
+            rate,
+            lpf,
+        },
+        rate: measured,
+        time: advanced.time,
+    }
+}
+
+// ---- sample
+
+// `eval` takes a time that is not finite for 0; a clock that ran to +infinity is past the segment's end, so the tick asks for that.
+pub fn sample_time(segment: Segment3, time: f32) -> f32
+    ensures { λ r. ⌜ r ≡ sampleTime segment time ⌝ }
+{
+    if time == f32::from_bits(0x7f80_0000) {
+        segment.duration()
+    } else {
+        time
+    }
+}
+
+pub fn reference_at(segment: Segment3, time: f32) -> Reference
+    ensures { λ r. ⌜ r ≡ referenceAt segment time ⌝ }
+{
+    let s = segment.eval(sample_time(segment, time));
+    let acc = s.acc;
+    let jerk = s.jerk;
+    Reference { acc, jerk }
+}
+
+// ---- guide
+
+// Each number that is not finite made +0.0.
+pub fn clean(wanted: Reference) -> Reference
+    ensures { λ r. ⌜ r ≡ cleaned wanted ⌝ }
+{
+    Reference {
+        acc: sanitise3(wanted.acc),
+        jerk: sanitise3(wanted.jerk),
+    }
+}
+
+// The sum, and w itself where there is no feedforward: adding +0.0 would turn a -0.0.
+pub fn plus(w: BodyRate, feedforward: Feedforward) -> BodyRate
+    ensures { λ r. ⌜ r ≡ plus w feedforward ⌝ }
+{
+    let Feedforward::Rate(f) = feedforward else {
+        return w;
+    };
+    BodyRate(Vec3(w.0.0 + f.0.0, w.0.1 + f.0.1, w.0.2 + f.0.2))
+}
+
+pub fn rate_sq(w: BodyRate) -> f32
+    ensures { λ r. ⌜ r ≡ rateSq w ⌝ }
+{
+    dot(w.0, w.0)
+}
+
+pub fn psi_of(r: Mat3, r_d: Attitude) -> f32
+    ensures { λ x. ⌜ x ≡ psiOf r «r_d» ⌝ }
+{
+    match r_d {
+        Attitude::Matrix(r_d) => GeoAtt::psi(r, r_d),
+        Attitude::Refused => 0.0 / 0.0,
+    }
+}
+
+// R and R_d are built once, and the length of g - a is taken once: the fallback, psi and the margin share them, bit for bit as the Rust's
+// own calls have them. With no R_d psi is a NaN, of which the margin is minus infinity.
+pub fn guide(
+    gains: GeoGains,
+    set: RecoverableSet,
+    rate: BodyRate,
+    wanted: Reference,
+    input: TickInput,
+) -> Guided
+    ensures { λ r. ⌜ r ≡ guide gains set rate wanted input ⌝ }
+{
+    let w = clean(wanted);
+    let thrust = thrust_of(w.acc);
+    let r = quat_to_rotmat(input.quat);
+    let r_d = attitude_on(thrust, input.yaw);
+    let feedforward = feedforward_on(thrust, w.jerk, input.yaw_rate, r_d);
+    let att = GeoAtt { gains };
+    let fallback = plus(att.rate_toward(r, r_d), feedforward);
+    let psi = psi_of(r, r_d);
+    let margin = set.margin(psi, rate_sq(rate));
+    Guided {
+        fallback,
+        psi,
+        margin,
+        planner: BodyRate(sanitise3(input.agile.0)),
+    }
+}
+
+// ---- finish
+
+// What the three observers see. They need nothing of the guidance, so they go before it.
+pub fn observe(rate: AdrcRate, measured: BodyRate, dt: f32) -> Observed3
+    ensures { λ r. ⌜ r ≡ observe rate measured dt ⌝ }
+{
+    let m = measured.0;
+    Observed3 {
+        roll: rate.roll.observe(m.0, dt),
+        pitch: rate.pitch.observe(m.1, dt),
+        yaw: rate.yaw.observe(m.2, dt),
+    }
+}
+
+// Axis by axis: a body rate was observed, a body rate is wanted, and a torque comes out.
+pub fn follow(rate: AdrcRate, observed: Observed3, wanted: BodyRate) -> RateTick
+    ensures { λ r. ⌜ r ≡ followOn rate observed wanted ⌝ }
+{
+    let w = wanted.0;
+    let roll = rate.roll.act(observed.roll, w.0);
+    let pitch = rate.pitch.act(observed.pitch, w.1);
+    let yaw = rate.yaw.act(observed.yaw, w.2);
+    let ax = roll.axis;
+    let ay = pitch.axis;
+    let az = yaw.axis;
+    RateTick {
+        rate: AdrcRate {
+            roll: ax,
+            pitch: ay,
+            yaw: az,
+        },
+        torque: Torque(Vec3(roll.u, pitch.u, yaw.u)),
+    }
+}
+
+pub fn finish(prepared: Prepared, observed: Observed3, guided: Guided) -> Ticked
+    ensures { λ r. ⌜ r ≡ finishOn prepared observed guided ⌝ }
+{
+    let state = prepared.state;
+    let picked = state
+        .shield
+        .step(guided.margin, guided.planner, guided.fallback);
+    let command = picked.command;
+    let followed = follow(state.rate, observed, command);
+    let gains = state.gains;
+    let shield = picked.shield;
+    let governor = state.governor;
+    let segment = state.segment;
+    let rate = followed.rate;
+    let lpf = state.lpf;
+    let torque = followed.torque;
+    Ticked {
+        state: State {
+            gains,
+            shield,
+            governor,
+            segment,
+            rate,
+            lpf,
+        },
+        answer: Answer {
+            torque,
+            command,
+            fallback: picked.fallback,
+            time: prepared.time,
+            psi: guided.psi,
+            margin: guided.margin,
+        },
+    }
+}
+
+// ---- the tick
+
+// All of a tick that comes after its sample, whatever the sample was taken of.
+pub fn tick_toward(prepared: Prepared, wanted: Reference, input: TickInput) -> Ticked
+    ensures { λ r. ⌜ r ≡ toward prepared wanted input ⌝ }
+{
+    let state = prepared.state;
+    let observed = observe(state.rate, prepared.rate, input.dt);
+    let shield = state.shield;
+    let guided = guide(state.gains, shield.set, prepared.rate, wanted, input);
+    finish(prepared, observed, guided)
+}
+
+// The same without what stays as it was prepared: who has that still needs no second copy of it on the stack.
+pub fn steer(prepared: Prepared, wanted: Reference, input: TickInput) -> Steered
+    ensures { λ r. ⌜ r ≡ steered (toward prepared wanted input) ⌝ }
+{
+    let done = tick_toward(prepared, wanted, input);
+    let state = done.state;
+    let shield = state.shield;
+    let rate = state.rate;
+    let answer = done.answer;
+    Steered {
+        shield,
+        rate,
+        answer,
+    }
+}
+
+pub fn tick(state: State, input: TickInput) -> Ticked
+    ensures { λ r. ⌜ r ≡ tick state input ⌝ }
+{
+    let prepared = prepare(state, input);
+    let wanted = reference_at(state.segment, prepared.time);
+    tick_toward(prepared, wanted, input)
+}

@@ -1,0 +1,4 @@
+-- Laws of no module. Assumes nothing.
+pub mod Tests
+pub mod Determined
+pub mod Lent

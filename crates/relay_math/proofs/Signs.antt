@@ -1,0 +1,67 @@
+-- A float against zero, and what it is written as. Assumes nothing.
+use mathlib.Core.Path.{_≡_, refl}
+use mathlib.Core.Bool.{Bool, true, false, not, true≢false}
+use Prim.Native.Nat.{ℕ, zero, suc, _+_, _*_, _<_}
+use native.Mathlib.Nat.{mul-pos, zero-lt-suc}
+use native.Mathlib.Omega.{arith}
+use borrow.Author.Tests.{lt-ltb, le-ltb, ne-eqb}
+use lib.IntN.{ℤ, pos}
+use lib.Dec.{T}
+use lib.Ieee.{Float, nan, inf, fin, binary32, fits, isNan, up, down, lt, eq}
+use lib.Ieee.Back.{whole-unique}
+use lib.Ieee.Exact.{HasValue}
+use lib.Ieee.Fits.{up-pos}
+use lib.Ieee.Positive.{positive}
+use Rattle.laws.proofs.Tests.{no}
+use Rattle.relay_math.specs.Sqrt.{natural}
+use Rattle.relay_math.specs.Steps.{Zero}
+
+-- ---- a zero is written in one way, and another number is on the side of its sign
+
+pub zero-is : (s : Bool) (e : ℤ) → T (fits binary32 (fin s 0 e)) → fin s 0 e ≡ fin s 0 (pos 0)
+unfolding fits
+zero-is s e f = whole-unique binary32 (fin s 0 e) (fin s 0 (pos 0)) s 0 f tt (refl, omega arith) (refl, refl)
+
+module _ (m : ℕ) (e : ℤ) where
+  pub size-pos : 0 < suc m * up e
+  size-pos = mul-pos (zero-lt-suc m) (up-pos e)
+
+  pub is-below : (s : Bool) → lt (fin s (suc m) e) Zero ≡ s
+  unfolding lt
+  is-below true = lt-ltb 0 (suc m * up e * 1 + 0 * down e) (omega (arith, size-pos))
+  is-below false = le-ltb (suc m * up e * 1) (0 * down e) (omega arith)
+
+  pub is-above : (s : Bool) → lt Zero (fin s (suc m) e) ≡ not s
+  unfolding lt
+  is-above true = refl
+  is-above false = lt-ltb (0 * down e) (suc m * up e * 1) (omega (arith, size-pos))
+
+  pub not-zero : (s : Bool) → eq (fin s (suc m) e) Zero ≡ false
+  unfolding eq
+  not-zero s = rw (ne-eqb (suc m * up e * 1) (0 * down e) (λ z. omega (arith, size-pos, z)))
+
+pub not-nan : (x : Float) → lt Zero x ≡ true → T (not (isNan x))
+unfolding lt isNan
+not-nan nan t = no t
+not-nan (inf s) t = tt
+not-nan (fin s m e) t = tt
+
+-- ---- what a float is written as: one that is not below zero, one of the value a / c, a positive one
+pub of-natural : (P : Float → Type 0) → ((m : ℕ) (e : ℤ) → P (fin false m e)) → (x : Float) → T (natural x) → P x
+of-natural P h nan p = absurd p
+of-natural P h (inf s) p = absurd p
+of-natural P h (fin true m e) p = absurd p
+of-natural P h (fin false m e) p = h m e
+
+pub of-positive : (P : Float → Type 0) → ((m : ℕ) (e : ℤ) → T (fits binary32 (fin false (suc m) e)) → P (fin false (suc m) e)) → (x : Float) → T (fits binary32 x) → T (positive x) → P x
+of-positive P h nan f p = absurd p
+of-positive P h (inf s) f p = absurd p
+of-positive P h (fin true m e) f p = absurd p
+of-positive P h (fin false zero e) f p = absurd p
+of-positive P h (fin false (suc m) e) f p = h m e f
+
+pub of-value : (P : Float → Type 0) (a c : ℕ) → ((m : ℕ) (e : ℤ) → HasValue (fin false m e) false a c → P (fin false m e)) → (x : Float) → HasValue x false a c → P x
+of-value P a c h nan v = absurd v
+of-value P a c h (inf s) v = absurd v
+of-value P a c h (fin true m e) v = absurd (true≢false (v .0))
+of-value P a c h (fin false m e) v = h m e v

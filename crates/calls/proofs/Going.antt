@@ -1,5 +1,5 @@
 -- Runs exist and go on for ever: the image that set-up writes is never refused, nor the one that an accepted tick writes. Assumes nothing.
-use mathlib.Core.Path.{_≡_, refl, sym, subst}
+use mathlib.Core.Path.{_≡_, refl}
 use mathlib.Core.Bool.{Bool, true, false, _||_, _&&_, cond}
 use mathlib.Core.List.{List}
 use Prim.Native.Nat.{ℕ}
@@ -14,15 +14,16 @@ use Rattle.laws.proofs.Tests.{no}
 use Rattle.joint_tick.specs.declared.state.State.{State}
 use Rattle.joint_tick.specs.declared.stages.Reference.{Reference}
 use Rattle.joint_tick.specs.SetUp.{setUp, segmentOf}
-use Rattle.joint_tick.specs.Tick.{tick, ticked, prepare, finish, follow, referenceAt}
+use Rattle.joint_tick.specs.Tick.{ticked, prepare, finish, follow}
 use Rattle.joint_tick.specs.Good.{shieldOk, good}
 use Rattle.joint_tick.proofs.Kept.{Good, good-parts, set-up-good, tick-good}
 use Rattle.outcome.specs.declared.Outcome.the-variants.{Done, ImageLength, BrokenImage}
-use Rattle.image.specs.Layout.{COUNT, ENGAGED, IMAGE-WORDS, IMAGE-BYTES, INPUT-BYTES, ANSWER-BYTES, SETUP-ENTER}
-use Rattle.image.specs.Parts.{gainsAt, setAt, legAt, adrcGainsAt, quatAt}
+use Rattle.image.specs.Layout.{COUNT, ENGAGED, IMAGE-WORDS, IMAGE-BYTES, SETUP-ENTER}
+use Rattle.image.specs.Parts.{gainsAt, setAt, legAt, adrcGainsAt}
 use Rattle.image.specs.Image.{shieldAt, stateAt, imageOf}
 use Rattle.image.specs.Calls.{setupAt, inputAt}
 use Rattle.calls.specs.Entry.{intactWith, intact, tickRefusal}
+use Rattle.calls.specs.Ticks.{Accepted, shieldOf}
 use Rattle.image.specs.Fits.{Fits}
 use Rattle.image.proofs.Decoded.{image-length, count-written, engaged-written, decode-encode, state-fits}
 use Rattle.image.proofs.Fitting.{new-shield-fits, step-fits, governor-fits, advance-fits, segment-fits, rate-new-fits, axis-fraction-fits, axis-tick-fits, gyro-new-fits, gyro-filter-fits}
@@ -58,17 +59,13 @@ ticked-fits source s b f =
       lpf = gyro-filter-fits _ _ (f .lpf) (search float-fits);
     }
 
-pub tick-fits : (s : State) (b : List ℕ) → Fits s → Fits (tick s (inputAt b) .state)
-unfolding tick
-tick-fits s b f = ticked-fits (referenceAt (s .segment)) s b f
-
 -- ---- what is written is taken
 
 flag-ok : (b : Bool) → (eqb (flag b) 0 || eqb (flag b) 1) ≡ true
 flag-ok true = refl
 flag-ok false = refl
 
-taken : (s : State) → Fits s → good s ≡ true → tickRefusal (imageOf s) INPUT-BYTES ANSWER-BYTES ≡ Done
+taken : (s : State) → Fits s → good s ≡ true → Accepted (imageOf s)
 unfolding tickRefusal intact intactWith
 taken s f g = simp (image-length s, count-written s, engaged-written s, flag-ok (s .shield .engaged), decode-encode s f, g)
 
@@ -77,7 +74,7 @@ unfolding setupAt
 enter-fits b = float-fits b SETUP-ENTER
 
 -- "the image that set-up writes is never refused": from any input at all
-pub set-up-never-refused : (b : List ℕ) → tickRefusal (imageOf (setUp (setupAt b))) INPUT-BYTES ANSWER-BYTES ≡ Done
+pub set-up-never-refused : (b : List ℕ) → Accepted (imageOf (setUp (setupAt b)))
 set-up-never-refused b = taken (setUp (setupAt b)) (set-up-fits b) (set-up-good (setupAt b) (enter-fits b) .ok)
 
 -- ---- what an accepted image has
@@ -93,12 +90,12 @@ last true true false e = no e
 last true false z e = no e
 last false y z e = no e
 
-pub good-image : (image : List ℕ) → tickRefusal image INPUT-BYTES ANSWER-BYTES ≡ Done → Good (stateAt image)
+pub good-image : (image : List ℕ) → Accepted image → Good (stateAt image)
 unfolding tickRefusal intact intactWith
 good-image image e = record { holds = state-fits image .governor .0; ok = last (eqb (word image COUNT) IMAGE-WORDS) (eqb (word image ENGAGED) 0 || eqb (word image ENGAGED) 1) (good (stateAt image)) (accepted (eqb (length image) IMAGE-BYTES) (intact image) e) }
 
 -- its flag is in its word
-pub flag-of-image : (image : List ℕ) → tickRefusal image INPUT-BYTES ANSWER-BYTES ≡ Done → word image ENGAGED ≡ flag (stateAt image .shield .engaged)
+pub flag-of-image : (image : List ℕ) → Accepted image → word image ENGAGED ≡ flag (shieldOf image .engaged)
 unfolding tickRefusal intact intactWith stateAt shieldAt
 flag-of-image image e = bit (word image ENGAGED) (middle (eqb (word image COUNT) IMAGE-WORDS) (eqb (word image ENGAGED) 0 || eqb (word image ENGAGED) 1) (good (stateAt image)) (accepted (eqb (length image) IMAGE-BYTES) (intact image) e))
   where
@@ -116,20 +113,14 @@ flag-of-image image e = bit (word image ENGAGED) (middle (eqb (word image COUNT)
         go false false e p q = no e
 
 -- its thresholds are in order
-pub in-order : (image : List ℕ) → tickRefusal image INPUT-BYTES ANSWER-BYTES ≡ Done → lt (stateAt image .shield .enter) (stateAt image .shield .exit) ≡ true
+pub in-order : (image : List ℕ) → Accepted image → lt (shieldOf image .enter) (shieldOf image .exit) ≡ true
 unfolding shieldOk
 in-order image e =
-    let h = stateAt image .shield in
+    let h = shieldOf image in
     last (isFinite (h .enter)) (lt 0·0 (h .enter)) (lt (h .enter) (h .exit)) (good-parts (stateAt image) (good-image image e .ok) .0)
 
 -- "nor the one that an accepted tick writes": whatever the input, and from any source of references
-pub ticked-never-refused : (source : Float → Reference) (image input : List ℕ) → tickRefusal image INPUT-BYTES ANSWER-BYTES ≡ Done
-    → tickRefusal (imageOf (ticked source (stateAt image) (inputAt input) .state)) INPUT-BYTES ANSWER-BYTES ≡ Done
-ticked-never-refused source image input e =
+pub tick-never-refused : (source : Float → Reference) (image input : List ℕ) → Accepted image → Accepted (imageOf (ticked source (stateAt image) (inputAt input) .state))
+tick-never-refused source image input e =
     let s = stateAt image in
     taken (ticked source s (inputAt input) .state) (ticked-fits source s input (state-fits image)) (tick-good source s (inputAt input) (good-image image e) .ok)
-
-pub tick-never-refused : (image input : List ℕ) → tickRefusal image INPUT-BYTES ANSWER-BYTES ≡ Done
-    → tickRefusal (imageOf (tick (stateAt image) (inputAt input) .state)) INPUT-BYTES ANSWER-BYTES ≡ Done
-unfolding tick
-tick-never-refused image input e = ticked-never-refused (referenceAt (stateAt image .segment)) image input e

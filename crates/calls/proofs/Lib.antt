@@ -1,9 +1,6 @@
 pub mod Flown
 pub mod Going
-pub mod Shown
-pub mod Kept
-pub mod DemandThree
-pub mod Middle
+pub mod Steps
 pub mod Level
 pub mod Shams
 pub mod OneAnswer

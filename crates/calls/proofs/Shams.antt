@@ -12,16 +12,16 @@ use Rattle.relay_geo.specs.declared.shield.SimplexShield.{SimplexShield}
 use Rattle.relay_geo.specs.Shield.{newShield}
 use Rattle.joint_tick.specs.declared.state.State.{State}
 use Rattle.joint_tick.specs.SetUp.{setUp}
-use Rattle.joint_tick.specs.Tick.{tick, referenceAt}
+use Rattle.joint_tick.specs.Tick.{tick}
 use Rattle.joint_tick.proofs.Shielding.{tick-is, tick-keeps-shield}
 use Rattle.joint_tick.proofs.NoAttitude.{nan-heading-tick}
 use Rattle.outcome.specs.declared.Outcome.the-variants.{Done}
 use Rattle.outcome.specs.Outcomes.{Left, left, Called, called}
-use Rattle.image.specs.Layout.{COUNT, ENGAGED, FLAG, SETUP-BYTES, INPUT-BYTES, ANSWER-BYTES}
+use Rattle.image.specs.Layout.{COUNT, ENGAGED, FLAG, SETUP-BYTES, INPUT-BYTES}
 use Rattle.image.specs.Image.{stateAt, imageOf}
 use Rattle.image.specs.Calls.{setupAt, inputAt, answerOf}
-use Rattle.calls.specs.Entry.{setUpRefusal, tickRefusal, setUpCall, tickCall}
-use Rattle.calls.specs.Runs.{ticked}
+use Rattle.calls.specs.Entry.{setUpRefusal, setUpCall, tickCall}
+use Rattle.calls.specs.Ticks.{Accepted, onSegment}
 use Rattle.calls.specs.Shams.{Program, Keeps, RefusesSetUps, RefusesTicks, AnswersOnly, LeavesSetUp, LeavesTicked, blankAnswer, blankImage, ran, answered, EchoesAfter, levelSetUp, levelInput, lostInput}
 use Rattle.image.proofs.Decoded.{count-written, engaged-written, decode-encode}
 use Rattle.image.proofs.Answered.{flag-answered}
@@ -30,8 +30,8 @@ use Rattle.calls.proofs.Level.{planner-first}
 
 -- ---- what an accepted call leaves
 
-abbrev Accepted : List ℕ → Type 0
-Accepted image = tickRefusal image INPUT-BYTES ANSWER-BYTES ≡ Done
+unfoldable ticked : List ℕ → List ℕ → List ℕ
+ticked image input = imageOf (tick (stateAt image) (inputAt input) .state)
 
 set-up-accepted : (b : List ℕ) → length b ≡ SETUP-BYTES → setUpCall blankImage b ≡ left Done (imageOf (setUp (setupAt b)))
 unfolding setUpCall setUpRefusal
@@ -68,7 +68,7 @@ no-heading = refl
 
 -- whatever image it is given
 fallback-flies : (image : List ℕ) → flagOf image lostInput ≡ true
-fallback-flies image = rw (flagOf, tick-is (stateAt image) (inputAt lostInput)) (nan-heading-tick (referenceAt (stateAt image .segment)) (stateAt image) (inputAt lostInput) no-heading .flag)
+fallback-flies image = rw (flagOf, tick-is (stateAt image) (inputAt lostInput)) (nan-heading-tick (onSegment image) (stateAt image) (inputAt lostInput) no-heading .flag)
 
 -- the first tick releases the fresh shield, and the image says so
 engaged-before : word fresh ENGAGED ≡ 1
@@ -80,7 +80,7 @@ unfolding ticked tick
 released-after = engaged-written (tick (stateAt fresh) (inputAt levelInput) .state) ∙ rw (kept, planner-flies)
   where
     kept : tick (stateAt fresh) (inputAt levelInput) .state .shield .engaged ≡ flagOf fresh levelInput
-    kept = ap (λ (h : SimplexShield). h .engaged) (tick-keeps-shield (referenceAt (stateAt fresh .segment)) (stateAt fresh) (inputAt levelInput))
+    kept = ap (λ (h : SimplexShield). h .engaged) (tick-keeps-shield (onSegment fresh) (stateAt fresh) (inputAt levelInput))
 
 -- a blank image has no count of words, and a fresh one has
 counted : ¬ (blankImage ≡ fresh)
@@ -140,10 +140,10 @@ module _ (p : Program) (k : Keeps p) where
 
   -- "works at the first tick and echoes it later": demand 3, however late
   taken-on : (n : ℕ) (image : List ℕ) → Accepted image → Accepted (ran p image (replicate n levelInput))
-  unfolding ticked
+  unfolding ticked tick
   taken-on zero image a = a
   taken-on (suc n) image a = taken-on n (p .tick image levelInput blankAnswer .image)
-      (subst Accepted (sym (ap (λ (c : Called). c .image) (ticks image levelInput a refl))) (tick-never-refused image levelInput a))
+      (subst Accepted (sym (ap (λ (c : Called). c .image) (ticks image levelInput a refl))) (tick-never-refused (onSegment image) image levelInput a))
 
   pub not-echoing : (n : ℕ) → ¬ (EchoesAfter p n)
   not-echoing n r = suc-ne-zero 0 (sym lost ∙ ap (λ (b : List ℕ). word b FLAG) (r .again levelSetUp levelInput lostInput refl refl refl) ∙ flown)

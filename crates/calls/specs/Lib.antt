@@ -1,4 +1,3 @@
 pub mod Entry
-pub mod Runs
+pub mod Ticks
 pub mod Shams
-pub mod DemandThree

@@ -6,5 +6,4 @@ pub mod Answered
 pub mod Kept
 pub mod Calls
 pub mod OneAnswer
-pub mod Runs
 pub mod Figures

@@ -3,6 +3,4 @@ pub mod Joins
 pub mod LocalTime
 pub mod LegFlown
 pub mod Taken
-pub mod Runs
-pub mod Clock
 pub mod OneAnswer

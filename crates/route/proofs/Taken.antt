@@ -21,6 +21,7 @@ use Rattle.outcome.specs.declared.Outcome.{Outcome}
 use Rattle.outcome.specs.declared.Outcome.the-variants.{Done, LegCount, RouteLength, LegsApart}
 use Rattle.outcome.specs.Outcomes.{isDone, called}
 use Rattle.calls.specs.Entry.{tickRefusal}
+use Rattle.calls.specs.Ticks.{tickFrom}
 use Rattle.calls.proofs.Flown.{sized}
 use Rattle.route.specs.Form.{LEG-BYTES, TRAILER-BYTES, MOST-LEGS, countOf, backOf, allMeet, formRefusal}
 use Rattle.route.specs.Legs.{referenceOn}
@@ -85,3 +86,16 @@ module _ (image input route answer : List ℕ) {o : Outcome} {t : Bool} (e : o �
       → later ≡ imageOf (steeredState p s) → answered ≡ answerOf (s .answer) → called Done later answered ≡ routeCall image input route answer
   unfolding routeCall onRoute
   flew n {given} i p w s k l = rw (← e, ← d, not-false t n, ← i, ← steered-tick (onRoute route) (stateAt image) given p w s, k, l)
+
+-- ---- of the call's definition
+
+-- for runs: it is a tick from a source of references
+pub route-call : (image input route answer : List ℕ)
+    → routeCall image input route answer ≡ tickFrom (onRoute route) (routeRefusal image (length input) (length answer) route) image input answer
+unfolding routeCall
+route-call image input route answer = refl
+
+pub refused-changes-nothing : (image input route answer : List ℕ) → isDone (routeRefusal image (length input) (length answer) route) ≡ false
+    → routeCall image input route answer ≡ called (routeRefusal image (length input) (length answer) route) image answer
+unfolding routeCall
+refused-changes-nothing image input route answer e = rw e

@@ -1,4 +1,3 @@
 pub mod Form
 pub mod Legs
 pub mod Entry
-pub mod Runs

@@ -10,8 +10,8 @@ use Rattle.relay_math.specs.F32.{0·0, isFinite, finiteOr}
 use Rattle.relay_geo.specs.Vectors.{sanitise3}
 use Rattle.joint_tick.specs.declared.stages.Guided.{Guided}
 use Rattle.image.specs.Layout.{ENTER, EXIT, AGILE, COMMAND, FLAG, MARGIN}
-use Rattle.outcome.specs.Outcomes.{number, Called}
-use Rattle.calls.specs.Runs.{start}
+use Rattle.outcome.specs.Outcomes.{number}
+use Rattle.runs.specs.Runs.{Tick, tickOf, guided, start}
 
 -- the thresholds, as set-up mended them
 abbrev pub enterOf : List ℕ → Float
@@ -34,16 +34,20 @@ fallbackWords g = wordsOf (floatsOfVec (sanitise3 (g .fallback .0)))
 abbrev pub commandWords : List ℕ → List ℕ
 commandWords answer = word answer COMMAND ∷ word answer (COMMAND + 1) ∷ word answer (COMMAND + 2) ∷ []
 
--- A tick of that input, guided so, left c: it was accepted; the flag is 0 or 1, and 0 exactly if the planner is to fly; it names whose command is
+-- the flag that a tick of the image answers
+abbrev pub flagOf : List ℕ → Tick → ℕ
+flagOf image t = word (tickOf image t .answer) FLAG
+
+-- What a tick of the image shows: it is accepted; its flag is 0 or 1, and 0 exactly if the planner is to fly; the flag names whose command is
 -- passed on; and the margin is shown, so that it can be read off.
-pub record Shows (Flying : Type 0) (input : List ℕ) (g : Guided) (c : Called) : Type 0 where
-  pub accepted : number (c .outcome) ≡ 0
-  pub flag : (word (c .answer) FLAG ≡ 0) ⊎ (word (c .answer) FLAG ≡ 1)
-  pub flies : (word (c .answer) FLAG ≡ 0) ↔ Flying
-  pub planner : word (c .answer) FLAG ≡ 0 → commandWords (c .answer) ≡ plannerWords input
-  pub fallback : word (c .answer) FLAG ≡ 1 → commandWords (c .answer) ≡ fallbackWords g
-  pub margin : word (c .answer) MARGIN ≡ bits (g .margin)
-  pub margin-read : float (c .answer) MARGIN ≡ g .margin
+pub record Shows (Flying : Type 0) (image : List ℕ) (t : Tick) : Type 0 where
+  pub accepted : number (tickOf image t .outcome) ≡ 0
+  pub flag : (flagOf image t ≡ 0) ⊎ (flagOf image t ≡ 1)
+  pub flies : (flagOf image t ≡ 0) ↔ Flying
+  pub planner : flagOf image t ≡ 0 → commandWords (tickOf image t .answer) ≡ plannerWords (t .input)
+  pub fallback : flagOf image t ≡ 1 → commandWords (tickOf image t .answer) ≡ fallbackWords (guided image t)
+  pub margin : word (tickOf image t .answer) MARGIN ≡ bits (guided image t .margin)
+  pub margin-read : float (tickOf image t .answer) MARGIN ≡ guided image t .margin
 
 -- the user's middle: finite, not above exit and not below enter, each of them included
 pub record InBand (enter exit m : Float) : Type 0 where

@@ -1,0 +1,109 @@
+-- Any run from set-up, by one induction: each image is one that a tick takes, and its shield is set-up's, stepped by the margins. Assumes nothing.
+use mathlib.Core.Path.{_≡_, refl, sym, ap, _∙_, subst}
+use mathlib.Core.Bool.{Bool, true}
+use mathlib.Core.List.{List, [], _∷_, _++_}
+use Prim.Native.Nat.{ℕ}
+use lib.Ieee.{Float, lt}
+use lib.ListN.{length}
+use Rattle.words.specs.Words.{float}
+use Rattle.latch.specs.Latch.{latch, after, engagedAfter}
+use Rattle.relay_geo.specs.declared.shield.SimplexShield.{SimplexShield}
+use Rattle.relay_geo.proofs.SetUp.{starts-engaged}
+use Rattle.joint_tick.specs.declared.state.State.{State}
+use Rattle.joint_tick.specs.SetUp.{setUp}
+use Rattle.joint_tick.proofs.Shielding.{tick-latch}
+use Rattle.outcome.specs.declared.Outcome.the-variants.{Done}
+use Rattle.outcome.specs.Outcomes.{left, Called}
+use Rattle.image.specs.Layout.{ENTER, EXIT, IMAGE-BYTES, SETUP-BYTES}
+use Rattle.image.specs.Image.{shieldAt, stateAt}
+use Rattle.image.specs.Calls.{setupAt, inputAt}
+use Rattle.image.proofs.Decoded.{decode-encode}
+use Rattle.calls.specs.Entry.{setUpRefusal, setUpCall}
+use Rattle.calls.specs.Ticks.{Accepted, marginsIf, shieldOf, stepped, Steps}
+use Rattle.calls.proofs.Going.{set-up-fits, set-up-never-refused, in-order}
+use Rattle.calls.proofs.Steps.{tick-steps}
+use Rattle.runs.specs.Runs.{Tick, Call, Ticks, leftBy, sourceOn, guided, marginsOf, start, imageAfter, marginsAlong}
+use Rattle.runs.specs.DemandThree.{enterOf, exitOf}
+use Rattle.runs.proofs.Shown.{refusalOn, flying-is, done}
+
+-- ---- what each call does: another kind of call is a case more
+
+pub call-steps : (image : List ℕ) (c : Call) → Accepted image → Steps (marginsOf image c) image (leftBy image c)
+unfolding marginsOf leftBy guided
+call-steps image (Ticks t) a =
+    subst (λ (c : Called). Steps (marginsIf c (guided image t .margin)) image (c .image)) (sym (flying-is (t .course) image (t .input) (t .answer)))
+    (tick-steps (sourceOn (t .course) image) (refusalOn (t .course) image (length (t .input)) (length (t .answer))) image (t .input) (t .answer) a)
+
+-- ---- one after another
+
+after-append : (enter exit : Float) (b : Bool) (ms ns : List Float) → after enter exit (after enter exit b ms) ns ≡ after enter exit b (ms ++ ns)
+unfolding after
+after-append enter exit b [] ns = refl
+after-append enter exit b (m ∷ ms) ns = after-append enter exit (latch enter exit b m) ms ns
+
+stepped-append : (h : SimplexShield) (ms ns : List Float) → stepped (stepped h ms) ns ≡ stepped h (ms ++ ns)
+stepped-append h ms ns = rw (after-append (h .enter) (h .exit) (h .engaged) ms ns)
+
+pub run-steps : (image : List ℕ) (calls : List Call) → Accepted image → Steps (marginsAlong image calls) image (imageAfter image calls)
+unfolding marginsAlong imageAfter after
+run-steps image [] a = record { accepted = a; shield = refl }
+run-steps image (c ∷ calls) a =
+    let one = call-steps image c a in
+    let more = run-steps (leftBy image c) calls (one .accepted) in
+    record {
+      accepted = more .accepted;
+      shield =
+          more .shield
+          ∙ ap (λ (h : SimplexShield). stepped h (marginsAlong (leftBy image c) calls)) (one .shield)
+          ∙ stepped-append (shieldOf image) (marginsOf image c) (marginsAlong (leftBy image c) calls);
+    }
+
+-- ---- from set-up on
+
+-- the image that an accepted set-up leaves is the one that runs start at
+pub set-up-starts : (image setup : List ℕ) → length image ≡ IMAGE-BYTES → length setup ≡ SETUP-BYTES → setUpCall image setup ≡ left Done (start setup)
+unfolding setUpCall setUpRefusal start
+set-up-starts image setup p q = rw (p, q)
+
+module _ (setup : List ℕ) where
+  pub start-accepted : Accepted (start setup)
+  unfolding start
+  start-accepted = set-up-never-refused setup
+
+  pub start-engaged : shieldOf (start setup) .engaged ≡ true
+  unfolding start setUp
+  start-engaged =
+      let i = setupAt setup in
+      ap (λ (s : State). s .shield .engaged) (decode-encode (setUp i) (set-up-fits setup)) ∙ starts-engaged (i .set) (i .enter) (i .exit)
+
+  pub thresholds-in-order : lt (enterOf setup) (exitOf setup) ≡ true
+  unfolding stateAt shieldAt
+  thresholds-in-order = in-order (start setup) start-accepted
+
+  module _ (calls : List Call) where
+    abbrev image : List ℕ
+    image = imageAfter (start setup) calls
+
+    pub ran : Steps (marginsAlong (start setup) calls) (start setup) image
+    ran = run-steps (start setup) calls start-accepted
+
+    -- every later image keeps the thresholds
+    pub thresholds-kept : (float image ENTER ≡ enterOf setup) × (float image EXIT ≡ exitOf setup)
+    unfolding stateAt shieldAt
+    thresholds-kept = (ap (λ (h : SimplexShield). h .enter) (ran .shield), ap (λ (h : SimplexShield). h .exit) (ran .shield))
+
+    module _ (t : Tick) where
+      -- the flag at a tick then: the latch of its margin, by whoever had control before ..
+      pub latched : done image t .answer .fallback ≡ latch (enterOf setup) (exitOf setup) (shieldOf image .engaged) (guided image t .margin)
+      unfolding guided stateAt shieldAt
+      latched =
+          tick-latch (sourceOn (t .course) image) (stateAt image) (inputAt (t .input))
+          ∙ rw (thresholds-kept .0, thresholds-kept .1)
+
+      -- .. and so by the margins of the whole run
+      pub latched-along : done image t .answer .fallback ≡ engagedAfter (enterOf setup) (exitOf setup) (marginsAlong (start setup) calls ++ guided image t .margin ∷ [])
+      unfolding after stateAt shieldAt
+      latched-along =
+          latched
+          ∙ rw (ap (λ (h : SimplexShield). h .engaged) (ran .shield), start-engaged)
+          (after-append (enterOf setup) (exitOf setup) true (marginsAlong (start setup) calls) (guided image t .margin ∷ []))

@@ -1,0 +1,5 @@
+pub mod Shown
+pub mod Going
+pub mod DemandThree
+pub mod Middle
+pub mod Kept

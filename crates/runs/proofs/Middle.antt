@@ -1,0 +1,86 @@
+-- What the third demand says of single ticks of a run: between the thresholds nothing changes hands. Assumes nothing.
+use mathlib.Core.Path.{_≡_, refl, sym, ap, _∙_, subst}
+use mathlib.Core.Bool.{Bool, true, false}
+use mathlib.Core.List.{List, [], _∷_, _++_}
+use Prim.Native.Nat.{ℕ}
+use lib.Ieee.{Float}
+use Rattle.words.specs.Words.{word, flag}
+use Rattle.latch.specs.Latch.{releases, engages, latch}
+use Rattle.relay_geo.specs.declared.shield.SimplexShield.{SimplexShield}
+use Rattle.relay_geo.proofs.Steps.{released-only-above-exit, above-exit-releases, engaged-by, released-stays-in-band, engaged-stays-in-band}
+use Rattle.joint_tick.proofs.Shielding.{tick-keeps-shield}
+use Rattle.image.specs.Layout.{ENGAGED}
+use Rattle.image.specs.Image.{stateAt}
+use Rattle.image.specs.Calls.{inputAt}
+use Rattle.image.proofs.Decoded.{engaged-written}
+use Rattle.calls.specs.Ticks.{shieldOf}
+use Rattle.calls.proofs.Going.{flag-of-image}
+use Rattle.runs.specs.Runs.{Tick, Call, Ticks, tickOf, leftBy, sourceOn, guided, start, imageAfter, Right}
+use Rattle.runs.specs.DemandThree.{enterOf, exitOf, flagOf, InBand}
+use Rattle.runs.proofs.Shown.{flag-zero, flag-one, done, tick-done, flag-shown}
+use Rattle.runs.proofs.Going.{start-accepted, start-engaged, thresholds-in-order, ran, latched}
+
+in-band : (enter exit m : Float) → InBand enter exit m → (b : Bool) → latch enter exit b m ≡ b
+in-band enter exit m i true = engaged-stays-in-band enter exit m (i .not-above)
+in-band enter exit m i false = released-stays-in-band enter exit m (i .finite) (i .not-below)
+
+one-more : (image : List ℕ) (calls : List Call) (t : Tick) → imageAfter image (calls ++ Ticks t ∷ []) ≡ tickOf (imageAfter image calls) t .image
+unfolding imageAfter leftBy
+one-more image [] t = refl
+one-more image (c ∷ calls) t = one-more (leftBy image c) calls t
+
+module _ (setup : List ℕ) where
+  module _ (calls : List Call) (t : Tick) (r : Right t) where
+    abbrev image : List ℕ
+    image = imageAfter (start setup) calls
+
+    abbrev m : Float
+    m = guided image t .margin
+
+    -- the flag's word is the latch of the margin, by whoever had control before, who stands in the image
+    now : flagOf image t ≡ flag (latch (enterOf setup) (exitOf setup) (shieldOf image .engaged) m)
+    now = flag-shown image t (ran setup calls .accepted) r ∙ ap flag (latched setup calls t)
+
+    before : word image ENGAGED ≡ flag (shieldOf image .engaged)
+    before = flag-of-image image (ran setup calls .accepted)
+
+    -- "A margin above exit is answered with the planner's command in that same tick."
+    pub above-exit-flies-at-once : releases (exitOf setup) m ≡ true → flagOf image t ≡ 0
+    above-exit-flies-at-once e = now ∙ ap flag (above-exit-releases (enterOf setup) (exitOf setup) (shieldOf image .engaged) m (thresholds-in-order setup) e)
+
+    -- A margin that is non-finite or below enter is answered with the fallback's.
+    pub below-enter-falls-back-at-once : engages (enterOf setup) m ≡ true → flagOf image t ≡ 1
+    below-enter-falls-back-at-once e = now ∙ ap flag (engaged-by (enterOf setup) (exitOf setup) (shieldOf image .engaged) m (thresholds-in-order setup) e)
+
+    -- Between the thresholds nothing changes hands: the flag is the image's.
+    pub in-band-as-before : InBand (enterOf setup) (exitOf setup) m → flagOf image t ≡ word image ENGAGED
+    in-band-as-before i = now ∙ ap flag (in-band (enterOf setup) (exitOf setup) m i (shieldOf image .engaged)) ∙ sym before
+
+    -- The planner gets control back by a finite margin above exit, and by nothing else.
+    pub back-only-above-exit : word image ENGAGED ≡ 1 → flagOf image t ≡ 0 → releases (exitOf setup) m ≡ true
+    back-only-above-exit e f =
+        let b = flag-one (shieldOf image .engaged) (sym before ∙ e) in
+        let l = flag-zero (latch (enterOf setup) (exitOf setup) (shieldOf image .engaged) m) (sym now ∙ f) in
+        released-only-above-exit (enterOf setup) (exitOf setup) m (subst (λ (x : Bool). latch (enterOf setup) (exitOf setup) x m ≡ false) b l)
+
+    -- The image keeps the flag for the next tick.
+    pub flag-kept : word (tickOf image t .image) ENGAGED ≡ flagOf image t
+    flag-kept =
+        rw (tick-done image t (ran setup calls .accepted) r) (engaged-written (done image t .state))
+        ∙ ap (λ (h : SimplexShield). flag (h .engaged)) (tick-keeps-shield (sourceOn (t .course) image) (stateAt image) (inputAt (t .input)))
+        ∙ sym (flag-shown image t (ran setup calls .accepted) r)
+
+  -- at the first tick the fallback's command goes on
+  pub first-in-band : (t : Tick) → Right t → InBand (enterOf setup) (exitOf setup) (guided (start setup) t .margin) → flagOf (start setup) t ≡ 1
+  unfolding imageAfter
+  first-in-band t r i = in-band-as-before [] t r i ∙ flag-of-image (start setup) (start-accepted setup) ∙ ap flag (start-engaged setup)
+
+  -- at a tick u right after a tick t, u's flag is t's
+  pub next-in-band : (calls : List Call) (t u : Tick) → Right t → Right u
+      → let image = imageAfter (start setup) calls in
+      let next = tickOf image t .image in
+      InBand (enterOf setup) (exitOf setup) (guided next u .margin) → flagOf next u ≡ flagOf image t
+  next-in-band calls t u r q i =
+      subst (λ (x : List ℕ). InBand (enterOf setup) (exitOf setup) (guided x u .margin) → flagOf x u ≡ word x ENGAGED) (one-more (start setup) calls t)
+      (in-band-as-before (calls ++ Ticks t ∷ []) u q) i
+      ∙ flag-kept calls t r

@@ -1,0 +1,148 @@
+-- One tick of either kind on bytes: that it is accepted, and what its answer shows. Assumes nothing.
+use mathlib.Core.Path.{_≡_, refl, sym, ap, _∙_}
+use mathlib.Core.Logic.{_⊎_, inl, inr, _↔_}
+use mathlib.Core.Bool.{Bool, true, false, not}
+use mathlib.Core.List.{List}
+use Prim.Native.Nat.{ℕ, _+_, _*_, _<_}
+use native.Mathlib.Omega.{arith}
+use lib.Dec.{T}
+use lib.Ieee.{Float, nan, inf, fin, isNan, ofBits, toBits}
+use lib.ListN.{length, getD}
+use Rattle.words.specs.Words.{word, vec, float, floatOf, bits, flag, floatsOfVec, wordsOf}
+use Rattle.words.proofs.Back.{canon-itself}
+use Rattle.relay_math.specs.F32.{isFinite}
+use Rattle.laws.proofs.Tests.{no}
+use Rattle.relay_math.specs.declared.Vec3.{Vec3}
+use Rattle.relay_geo.specs.Vectors.{sanitise3}
+use Rattle.joint_tick.specs.declared.state.TickInput.{TickInput}
+use Rattle.joint_tick.specs.declared.state.State.{State}
+use Rattle.joint_tick.specs.declared.stages.Reference.{Reference}
+use Rattle.joint_tick.specs.declared.stages.Ticked.{Ticked}
+use Rattle.joint_tick.specs.Tick.{guidance, ticked}
+use Rattle.joint_tick.proofs.Shielding.{tick-margin, tick-planner, tick-fallback, planner-is}
+use Rattle.image.specs.Layout.{FLAG, MARGIN, INPUT-BYTES, ANSWER-BYTES}
+use Rattle.image.specs.Image.{stateAt, imageOf}
+use Rattle.image.specs.Calls.{inputAt, answerOf}
+use Rattle.image.specs.Fits.{F32}
+use Rattle.image.proofs.Answered.{flag-answered, margin-answered, margin-word, command-words}
+use Rattle.image.proofs.AnswerFits.{margin-fits, command-fits}
+use Rattle.outcome.specs.declared.Outcome.{Outcome}
+use Rattle.outcome.specs.declared.Outcome.the-variants.{Done}
+use Rattle.outcome.specs.Outcomes.{called}
+use Rattle.calls.specs.Entry.{tickRefusal}
+use Rattle.calls.specs.Ticks.{Accepted, tickFrom}
+use Rattle.calls.proofs.Steps.{tick-call}
+use Rattle.route.specs.Entry.{routeRefusal}
+use Rattle.route.proofs.Taken.{route-call}
+use Rattle.runs.specs.Runs.{Course, Segment, Route, Tick, flying, tickOf, sourceOn, guided, RightCourse, Right}
+use Rattle.runs.specs.DemandThree.{cleanWord, plannerWords, fallbackWords, commandWords, flagOf, Shows}
+
+-- ---- a word that is passed on: itself if its number is finite, else 0
+
+finite-number : (x : Float) → isFinite x ≡ true → T (not (isNan x))
+unfolding isFinite isNan
+finite-number nan e = no e
+finite-number (inf s) e = no e
+finite-number (fin s m x) e = tt
+
+pub finite-word-itself : (w : ℕ) → w < 4294967296 → isFinite (floatOf w) ≡ true → cleanWord w ≡ w
+finite-word-itself w h e = rw e (canon-itself w h (finite-number (floatOf w) e))
+
+pub other-word-zero : (w : ℕ) → isFinite (floatOf w) ≡ false → cleanWord w ≡ 0
+unfolding ofBits toBits
+other-word-zero w e = rw e
+
+-- every word of bytes is one of 32 bits
+pub word-lt : (b : List ℕ) → ((i : ℕ) → getD b i 0 < 256) → (k : ℕ) → word b k < 4294967296
+unfolding word
+word-lt b h k = omega (arith, h (4 * k), h (4 * k + 1), h (4 * k + 2), h (4 * k + 3))
+
+-- ---- a flag's word
+
+pub flag-zero : (b : Bool) → flag b ≡ 0 → b ≡ false
+flag-zero true e = absurd (omega (arith, e))
+flag-zero false e = refl
+
+pub flag-one : (b : Bool) → flag b ≡ 1 → b ≡ true
+flag-one true e = refl
+flag-one false e = absurd (omega (arith, e))
+
+flag-either : (b : Bool) → (flag b ≡ 0) ⊎ (flag b ≡ 1)
+flag-either true = inr refl
+flag-either false = inl refl
+
+-- ---- both kinds are ticks from a source of references: another kind is a line more in each of these three
+
+abbrev pub refusalOn : Course → List ℕ → ℕ → ℕ → Outcome
+refusalOn Segment image inputLen answerLen = tickRefusal image inputLen answerLen
+refusalOn (Route route) image inputLen answerLen = routeRefusal image inputLen answerLen route
+
+pub flying-is : (c : Course) (image input answer : List ℕ)
+    → flying c image input answer ≡ tickFrom (sourceOn c image) (refusalOn c image (length input) (length answer)) image input answer
+unfolding flying
+flying-is Segment image input answer = tick-call image input answer
+flying-is (Route route) image input answer = route-call image input route answer
+
+not-refused : (c : Course) (image : List ℕ) → Accepted image → RightCourse c → refusalOn c image INPUT-BYTES ANSWER-BYTES ≡ Done
+unfolding routeRefusal
+not-refused Segment image a r = a
+not-refused (Route route) image a r = rw (a, r)
+
+-- ---- what a tick does
+
+module _ (image : List ℕ) (t : Tick) where
+  abbrev source : Float → Reference
+  source = sourceOn (t .course) image
+
+  abbrev s : State
+  s = stateAt image
+
+  abbrev i : TickInput
+  i = inputAt (t .input)
+
+  abbrev pub done : Ticked
+  done = ticked source s i
+
+  abbrev answers : List ℕ
+  answers = answerOf (done .answer)
+
+  flag-word : word answers FLAG ≡ flag (done .answer .fallback)
+  flag-word = flag-answered (done .answer)
+
+  words-of : (v : Vec3) → done .answer .command ≡ record { 0 = v } → commandWords answers ≡ wordsOf (floatsOfVec v)
+  words-of v e = let w = command-words (done .answer) (command-fits source s (t .input)) in rw (w .0, w .1, w .2, e)
+
+  planner-words : done .answer .fallback ≡ false → commandWords answers ≡ plannerWords (t .input)
+  unfolding inputAt vec float
+  planner-words e = words-of (sanitise3 (i .agile .0)) (tick-planner source s i e ∙ planner-is source s i)
+
+  fallback-words : done .answer .fallback ≡ true → commandWords answers ≡ fallbackWords (guided image t)
+  unfolding guided
+  fallback-words e = words-of (sanitise3 (guidance source s i .fallback .0)) (tick-fallback source s i e)
+
+  margin-shown : (word answers MARGIN ≡ bits (guided image t .margin)) × (float answers MARGIN ≡ guided image t .margin)
+  unfolding guided
+  margin-shown =
+      let e = tick-margin source s i in
+      let f : F32 (done .answer .margin) = rw e (margin-fits source s i) in
+      (margin-word (done .answer) f ∙ ap bits e, margin-answered (done .answer) f ∙ e)
+
+  module _ (a : Accepted image) (r : Right t) where
+    pub tick-done : tickOf image t ≡ called Done (imageOf (done .state)) answers
+    tick-done = flying-is (t .course) image (t .input) (t .answer) ∙ rw (r .0, r .1, not-refused (t .course) image a (r .2))
+
+    pub flag-shown : flagOf image t ≡ flag (done .answer .fallback)
+    flag-shown = rw tick-done flag-word
+
+    pub shows : (Flying : Type 0) → (done .answer .fallback ≡ false) ↔ Flying → Shows Flying image t
+    shows Flying f =
+        let b = done .answer .fallback in
+        record {
+          accepted = rw tick-done;
+          flag = rw flag-shown (flag-either b);
+          flies = (λ e. f .0 (flag-zero b (sym flag-shown ∙ e)), λ x. flag-shown ∙ ap flag (f .1 x));
+          planner = λ e. rw tick-done (planner-words (flag-zero b (sym flag-shown ∙ e)));
+          fallback = λ e. rw tick-done (fallback-words (flag-one b (sym flag-shown ∙ e)));
+          margin = rw tick-done (margin-shown .0);
+          margin-read = rw tick-done (margin-shown .1);
+        }

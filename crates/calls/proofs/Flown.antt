@@ -1,5 +1,5 @@
 -- What a tick that is not refused has, and what it leaves by what its stages gave. Assumes nothing.
-use mathlib.Core.Path.{_≡_, refl, ap, _∙_}
+use mathlib.Core.Path.{_≡_, refl}
 use mathlib.Core.Bool.{Bool, true, false, not, cond}
 use mathlib.Core.List.{List}
 use Prim.Native.Nat.{ℕ}
@@ -7,20 +7,20 @@ use lib.Dec.{eqb}
 use lib.ListN.{length}
 use borrow.Author.Tests.{eqb-true, not-true, not-false}
 use Rattle.laws.proofs.Tests.{no}
-use Rattle.relay_traj.specs.declared.segment.Segment3.{Segment3}
+use lib.Ieee.{Float}
+use Rattle.joint_tick.specs.declared.state.Fixed.{Fixed}
 use Rattle.joint_tick.specs.declared.state.TickInput.{TickInput}
 use Rattle.joint_tick.specs.declared.stages.Prepared.{Prepared}
 use Rattle.joint_tick.specs.declared.stages.Reference.{Reference}
-use Rattle.joint_tick.specs.declared.stages.Steered.{Steered}
-use Rattle.joint_tick.specs.Tick.{prepare, referenceAt, toward, steered, steeredState, tick}
-use Rattle.joint_tick.proofs.Once.{steered-tick, prepared-segment}
+use Rattle.joint_tick.specs.declared.stages.Ticked.{Ticked}
+use Rattle.joint_tick.specs.Tick.{prepare, finish, ticked}
 use Rattle.outcome.specs.declared.Outcome.{Outcome}
 use Rattle.outcome.specs.declared.Outcome.the-variants.{Done, ImageLength, InputLength, AnswerLength, BrokenImage}
 use Rattle.outcome.specs.Outcomes.{isDone, called}
 use Rattle.image.specs.Layout.{IMAGE-BYTES, INPUT-BYTES, ANSWER-BYTES}
-use Rattle.image.specs.Image.{stateAt, imageOf}
-use Rattle.image.specs.Calls.{inputAt, answerOf}
-use Rattle.calls.specs.Entry.{intact, tickRefusal, tickCall}
+use Rattle.image.specs.Image.{fixedAt, movingAt}
+use Rattle.image.specs.Inputs.{inputAt}
+use Rattle.calls.specs.Entry.{intact, tickRefusal, tickFrom, Leaves}
 
 lengths : (x y z w : Bool) → isDone (cond x (cond y (cond z (cond w Done BrokenImage) AnswerLength) InputLength) ImageLength) ≡ true
     → (x ≡ true) × (y ≡ true) × (z ≡ true)
@@ -43,16 +43,14 @@ pub sized-here : (image : List ℕ) (inputLen answerLen : ℕ) {o : Outcome} {t 
     → (length image ≡ IMAGE-BYTES) × (inputLen ≡ INPUT-BYTES) × (answerLen ≡ ANSWER-BYTES)
 sized-here image inputLen answerLen {o} {t} e d n = sized image inputLen answerLen (rw (← e, ← d) (not-false t n))
 
-module _ (image input answer : List ℕ) {o : Outcome} {t : Bool} (e : o ≡ tickRefusal image (length input) (length answer)) (d : t ≡ isDone o) where
-  pub refused : not t ≡ true → called o image answer ≡ tickCall image input answer
-  unfolding tickCall
+-- of any source of references
+module _ (source : Float → Reference) (image input answer : List ℕ) {o r : Outcome} {t : Bool} (e : o ≡ r) (d : t ≡ isDone o) where
+  pub refused : not t ≡ true → called o image answer ≡ tickFrom source r image input answer
+  unfolding tickFrom
   refused n = rw (← e, ← d, not-true t n)
 
-  pub flown : not t ≡ false → {given : TickInput} {p : Prepared} {wanted : Reference} {s : Steered} {later answered : List ℕ}
-      → given ≡ inputAt input → p ≡ prepare (stateAt image) given → wanted ≡ referenceAt (p .state .segment) (p .time) → s ≡ steered (toward p wanted given)
-      → later ≡ imageOf (steeredState p s) → answered ≡ answerOf (s .answer) → called Done later answered ≡ tickCall image input answer
-  unfolding tickCall tick
-  flown n {given} {p} i q w h k l =
-      let b = stateAt image in
-      let done = steered-tick (referenceAt (b .segment)) b given q (w ∙ ap (λ (x : Segment3). referenceAt x (p .time)) (prepared-segment b given q)) h in
-      rw (← e, ← d, not-false t n, ← i, ← done, k, l)
+  pub flown : not t ≡ false → {given : TickInput} {f : Fixed} {p : Prepared} {wanted : Reference} {done : Ticked} {later answered : List ℕ}
+      → given ≡ inputAt input → f ≡ fixedAt image → p ≡ prepare (movingAt image) given → wanted ≡ source (p .time) → done ≡ finish f p wanted given
+      → Leaves f p done later answered → called Done later answered ≡ tickFrom source r image input answer
+  unfolding tickFrom ticked
+  flown n i k q w h l = rw (← e, ← d, not-false t n, l .image, l .answer, h, w, q, k, i)

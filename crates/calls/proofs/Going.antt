@@ -11,51 +11,54 @@ use Rattle.words.specs.Words.{word, vec, flag}
 use Rattle.words.proofs.Back.{float-fits}
 use Rattle.relay_math.specs.F32.{0·0, isFinite}
 use Rattle.laws.proofs.Tests.{no}
+use Rattle.relay_geo.specs.Shield.{newShield}
 use Rattle.joint_tick.specs.declared.state.State.{State}
 use Rattle.joint_tick.specs.declared.stages.Reference.{Reference}
 use Rattle.joint_tick.specs.SetUp.{setUp, segmentOf}
-use Rattle.joint_tick.specs.Tick.{ticked, prepare, finish, follow}
-use Rattle.joint_tick.specs.Good.{shieldOk, good}
+use Rattle.joint_tick.specs.Tick.{ticked, prepare, pick, finish, stateAfter}
+use Rattle.joint_tick.specs.Good.{thresholdsOk, good}
 use Rattle.joint_tick.proofs.Kept.{Good, good-parts, set-up-good, tick-good}
 use Rattle.outcome.specs.declared.Outcome.the-variants.{Done, ImageLength, BrokenImage}
 use Rattle.image.specs.Layout.{COUNT, ENGAGED, IMAGE-WORDS, IMAGE-BYTES, SETUP-ENTER}
 use Rattle.image.specs.Parts.{gainsAt, setAt, legAt, adrcGainsAt}
-use Rattle.image.specs.Image.{shieldAt, stateAt, imageOf}
-use Rattle.image.specs.Calls.{setupAt, inputAt}
-use Rattle.calls.specs.Entry.{intactWith, intact, tickRefusal}
-use Rattle.calls.specs.Ticks.{Accepted, shieldOf}
+use Rattle.image.specs.Image.{fixedAt, movingAt, stateAt, imageOf}
+use Rattle.image.specs.Inputs.{setupAt, inputAt}
+use Rattle.calls.specs.Entry.{intact, tickRefusal}
+use Rattle.calls.specs.Ticks.{Accepted}
 use Rattle.image.specs.Fits.{Fits}
 use Rattle.image.proofs.Decoded.{image-length, count-written, engaged-written, decode-encode, state-fits}
-use Rattle.image.proofs.Fitting.{new-shield-fits, step-fits, governor-fits, advance-fits, segment-fits, rate-new-fits, axis-fraction-fits, axis-tick-fits, gyro-new-fits, gyro-filter-fits}
+use Rattle.image.proofs.Fitting.{new-shield-fits, governor-fits, advance-fits, segment-fits, rate-new-fits, rate-fraction-fits, rate-tick-fits, gyro-new-fits, gyro-filter-fits}
 
 -- ---- every state that set-up and ticks make is one of f32 values
 
 pub set-up-fits : (b : List ℕ) → Fits (setUp (setupAt b))
-unfolding setUp setupAt segmentOf gainsAt vec setAt legAt adrcGainsAt
+unfolding setUp setupAt segmentOf gainsAt vec setAt legAt adrcGainsAt newShield
 set-up-fits b =
+    let i = setupAt b in
+    let h = new-shield-fits (i .set) (i .enter) (i .exit) (search float-fits) (search float-fits) in
     record {
       gains = search float-fits;
-      shield = new-shield-fits _ _ _ (search float-fits) (search float-fits) (search float-fits);
-      governor = governor-fits _ _ _ (search float-fits) (search float-fits) (search float-fits);
+      set = search float-fits;
+      enter = h .0;
+      exit = h .1;
       segment = segment-fits _ _ _ _ _ _ _ (search float-fits) (search float-fits) (search float-fits) (search float-fits);
+      governor = governor-fits _ _ _ (search float-fits) (search float-fits) (search float-fits);
       rate = rate-new-fits _ _ _ (search float-fits) (search float-fits) (search float-fits);
       lpf = gyro-new-fits _ _;
     }
 
 -- from any source of references
-pub ticked-fits : (source : Float → Reference) (s : State) (b : List ℕ) → Fits s → Fits (ticked source s (inputAt b) .state)
-unfolding ticked prepare finish follow inputAt vec
-ticked-fits source s b f =
+pub tick-fits : (source : Float → Reference) (s : State) (b : List ℕ) → Fits s → Fits (stateAfter source s (inputAt b))
+unfolding ticked prepare finish pick inputAt vec
+tick-fits source s b f =
     record {
       gains = f .gains;
-      shield = step-fits _ _ _ _ (f .shield);
-      governor = advance-fits _ _ _ (f .governor);
+      set = f .set;
+      enter = f .enter;
+      exit = f .exit;
       segment = f .segment;
-      rate = (
-        axis-tick-fits _ _ _ _ (axis-fraction-fits _ _ (f .rate .0) (search float-fits)),
-        axis-tick-fits _ _ _ _ (axis-fraction-fits _ _ (f .rate .1) (search float-fits)),
-        axis-tick-fits _ _ _ _ (axis-fraction-fits _ _ (f .rate .2) (search float-fits)),
-      );
+      governor = advance-fits _ _ _ (f .governor);
+      rate = rate-tick-fits _ _ _ _ (rate-fraction-fits _ _ (f .rate) (search float-fits));
       lpf = gyro-filter-fits _ _ (f .lpf) (search float-fits);
     }
 
@@ -66,8 +69,8 @@ flag-ok true = refl
 flag-ok false = refl
 
 taken : (s : State) → Fits s → good s ≡ true → Accepted (imageOf s)
-unfolding tickRefusal intact intactWith
-taken s f g = simp (image-length s, count-written s, engaged-written s, flag-ok (s .shield .engaged), decode-encode s f, g)
+unfolding tickRefusal intact
+taken s f g = simp (image-length s, count-written s, engaged-written s, flag-ok (s .moving .engaged), decode-encode s f, g)
 
 enter-fits : (b : List ℕ) → T (fits binary32 (setupAt b .enter))
 unfolding setupAt
@@ -91,12 +94,12 @@ last true false z e = no e
 last false y z e = no e
 
 pub good-image : (image : List ℕ) → Accepted image → Good (stateAt image)
-unfolding tickRefusal intact intactWith
+unfolding tickRefusal intact
 good-image image e = record { holds = state-fits image .governor .0; ok = last (eqb (word image COUNT) IMAGE-WORDS) (eqb (word image ENGAGED) 0 || eqb (word image ENGAGED) 1) (good (stateAt image)) (accepted (eqb (length image) IMAGE-BYTES) (intact image) e) }
 
 -- its flag is in its word
-pub flag-of-image : (image : List ℕ) → Accepted image → word image ENGAGED ≡ flag (shieldOf image .engaged)
-unfolding tickRefusal intact intactWith stateAt shieldAt
+pub flag-of-image : (image : List ℕ) → Accepted image → word image ENGAGED ≡ flag (movingAt image .engaged)
+unfolding tickRefusal intact movingAt
 flag-of-image image e = bit (word image ENGAGED) (middle (eqb (word image COUNT) IMAGE-WORDS) (eqb (word image ENGAGED) 0 || eqb (word image ENGAGED) 1) (good (stateAt image)) (accepted (eqb (length image) IMAGE-BYTES) (intact image) e))
   where
     middle : (x y z : Bool) → (x && y && z) ≡ true → y ≡ true
@@ -113,14 +116,14 @@ flag-of-image image e = bit (word image ENGAGED) (middle (eqb (word image COUNT)
         go false false e p q = no e
 
 -- its thresholds are in order
-pub in-order : (image : List ℕ) → Accepted image → lt (shieldOf image .enter) (shieldOf image .exit) ≡ true
-unfolding shieldOk
+pub in-order : (image : List ℕ) → Accepted image → lt (fixedAt image .enter) (fixedAt image .exit) ≡ true
+unfolding thresholdsOk
 in-order image e =
-    let h = shieldOf image in
-    last (isFinite (h .enter)) (lt 0·0 (h .enter)) (lt (h .enter) (h .exit)) (good-parts (stateAt image) (good-image image e .ok) .0)
+    let f = fixedAt image in
+    last (isFinite (f .enter)) (lt 0·0 (f .enter)) (lt (f .enter) (f .exit)) (good-parts (stateAt image) (good-image image e .ok) .0)
 
 -- "nor the one that an accepted tick writes": whatever the input, and from any source of references
-pub tick-never-refused : (source : Float → Reference) (image input : List ℕ) → Accepted image → Accepted (imageOf (ticked source (stateAt image) (inputAt input) .state))
+pub tick-never-refused : (source : Float → Reference) (image input : List ℕ) → Accepted image → Accepted (imageOf (stateAfter source (stateAt image) (inputAt input)))
 tick-never-refused source image input e =
     let s = stateAt image in
-    taken (ticked source s (inputAt input) .state) (ticked-fits source s input (state-fits image)) (tick-good source s (inputAt input) (good-image image e) .ok)
+    taken (stateAfter source s (inputAt input)) (tick-fits source s input (state-fits image)) (tick-good source s (inputAt input) (good-image image e) .ok)

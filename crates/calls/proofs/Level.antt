@@ -1,5 +1,5 @@
 -- Level flight at rest: its margin is 1.75, so that a fresh shield whose exit is 1 gives the planner control in the very first tick. Assumes nothing.
-use mathlib.Core.Path.{_≡_, refl}
+use mathlib.Core.Path.{_≡_, refl, ap, _∙_}
 use mathlib.Core.Bool.{true, false}
 use lib.Ieee.{Float, ofBits, add, sub, mul, div, neg, lt, le, eq}
 use Rattle.words.specs.Words.{word, float, vec}
@@ -20,13 +20,15 @@ use Rattle.relay_traj.specs.Quintic.{mend as mend-leg}
 use Rattle.relay_traj.specs.Segment.{segment, eval3}
 use Rattle.relay_traj.specs.Governor.{advance, gate, gateFactor, clampTo}
 use Rattle.relay_adrc.specs.Biquad.{lowpass, biquadFilter, gyroNew, gyroFilter}
+use Rattle.relay_geo.specs.declared.shield.SimplexShield.{SimplexShield}
 use Rattle.joint_tick.specs.declared.state.State.{State}
 use Rattle.joint_tick.specs.declared.state.TickInput.{TickInput}
+use Rattle.joint_tick.specs.declared.stages.Reference.{Reference}
 use Rattle.joint_tick.specs.SetUp.{setUp, segmentOf}
-use Rattle.joint_tick.specs.Tick.{prepare, referenceAt, cleaned, rateSq, guide, guidance, tick}
-use Rattle.joint_tick.proofs.Shielding.{tick-is, tick-latch}
+use Rattle.joint_tick.specs.Tick.{prepare, referenceAt, cleaned, rateSq, guide, guidance, shieldOf, ticked}
+use Rattle.joint_tick.proofs.Shielding.{tick-latch}
 use Rattle.image.specs.Parts.{setAt, legAt, quatAt}
-use Rattle.image.specs.Calls.{setupAt, inputAt}
+use Rattle.image.specs.Inputs.{setupAt, inputAt}
 use Rattle.calls.specs.Shams.{levelSetUp, levelInput}
 
 abbrev 1·75 : Float
@@ -57,15 +59,18 @@ s = setUp (setupAt levelSetUp)
 abbrev i : TickInput
 i = inputAt levelInput
 
-shield-is : s .shield ≡ record { set = newSet 1·0 1·0 1·75; engaged = true; enter = 0·5; exit = 1·0 }
+abbrev source : Float → Reference
+source = referenceAt (s .fixed .segment)
+
+shield-is : shieldOf s ≡ record { set = newSet 1·0 1·0 1·75; engaged = true; enter = 0·5; exit = 1·0 }
 unfolding setUp setupAt setAt float word newShield mend isFinite lt ofBits
 shield-is = refl
 
-no-acceleration : cleaned (referenceAt (s .segment) (prepare s i .time)) .acc ≡ zeros
+no-acceleration : cleaned (source (prepare (s .moving) i .time)) .acc ≡ zeros
 unfolding setUp setupAt inputAt segmentOf legAt vec float word segment quintic mend-leg ofMended referenceAt eval3 eval sampleAt timeOn prepare advance gate gateFactor clampTo isFinite lt le eq ofBits add sub mul div neg
 no-acceleration = refl
 
-no-rate : prepare s i .rate ≡ record { 0 = zeros }
+no-rate : prepare (s .moving) i .rate ≡ record { 0 = zeros }
 unfolding setUp setupAt inputAt vec float word prepare gyroNew lowpass gyroFilter biquadFilter isFinite lt le ofBits add sub mul
 no-rate = refl
 
@@ -87,9 +92,11 @@ released = refl
 
 -- ---- so
 
-first-margin : guidance (referenceAt (s .segment)) s i .margin ≡ 1·75
+first-margin : guidance source s i .margin ≡ 1·75
 unfolding guidance guide
-first-margin = rw (level-body, no-acceleration, no-rate, north, at-rest, shield-is, level-margin)
+first-margin = rw (level-body, no-acceleration, no-rate, north, at-rest, ap (λ (h : SimplexShield). h .set) shield-is, level-margin)
 
-pub planner-first : tick (setUp (setupAt levelSetUp)) (inputAt levelInput) .answer .fallback ≡ false
-planner-first = rw (tick-is s i, tick-latch (referenceAt (s .segment)) s i, first-margin, shield-is, released)
+pub planner-first : ticked source s i .answer .fallback ≡ false
+planner-first =
+    tick-latch source s i
+    ∙ rw (first-margin, ap (λ (h : SimplexShield). h .enter) shield-is, ap (λ (h : SimplexShield). h .exit) shield-is, ap (λ (h : SimplexShield). h .engaged) shield-is, released)

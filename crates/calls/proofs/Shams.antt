@@ -11,17 +11,18 @@ use Rattle.words.specs.Words.{word, float, flag}
 use Rattle.relay_geo.specs.declared.shield.SimplexShield.{SimplexShield}
 use Rattle.relay_geo.specs.Shield.{newShield}
 use Rattle.joint_tick.specs.declared.state.State.{State}
+use Rattle.joint_tick.specs.declared.stages.Ticked.{Ticked}
 use Rattle.joint_tick.specs.SetUp.{setUp}
-use Rattle.joint_tick.specs.Tick.{tick}
-use Rattle.joint_tick.proofs.Shielding.{tick-is, tick-keeps-shield}
+use Rattle.joint_tick.specs.Tick.{referenceAt, ticked, stateAfter}
+use Rattle.joint_tick.proofs.Shielding.{tick-keeps-flag}
 use Rattle.joint_tick.proofs.NoAttitude.{nan-heading-tick}
 use Rattle.outcome.specs.declared.Outcome.the-variants.{Done}
 use Rattle.outcome.specs.Outcomes.{Left, left, Called, called}
 use Rattle.image.specs.Layout.{COUNT, ENGAGED, FLAG, SETUP-BYTES, INPUT-BYTES}
 use Rattle.image.specs.Image.{stateAt, imageOf}
-use Rattle.image.specs.Calls.{setupAt, inputAt, answerOf}
-use Rattle.calls.specs.Entry.{setUpRefusal, setUpCall, tickCall}
-use Rattle.calls.specs.Ticks.{Accepted, onSegment}
+use Rattle.image.specs.Inputs.{setupAt, inputAt, answerOf}
+use Rattle.calls.specs.Entry.{setUpRefusal, tickRefusal, onSegment, tickFrom, setUpCall, tickCall}
+use Rattle.calls.specs.Ticks.{Accepted}
 use Rattle.calls.specs.Shams.{Program, Keeps, RefusesSetUps, RefusesTicks, AnswersOnly, LeavesSetUp, LeavesTicked, blankAnswer, blankImage, ran, answered, EchoesAfter, levelSetUp, levelInput, lostInput}
 use Rattle.image.proofs.Decoded.{count-written, engaged-written, decode-encode}
 use Rattle.image.proofs.Answered.{flag-answered}
@@ -30,16 +31,20 @@ use Rattle.calls.proofs.Level.{planner-first}
 
 -- ---- what an accepted call leaves
 
-unfoldable ticked : List ℕ → List ℕ → List ℕ
-ticked image input = imageOf (tick (stateAt image) (inputAt input) .state)
+-- of a plain tick of an image: what comes of it, and the image that it leaves
+abbrev tick : List ℕ → List ℕ → Ticked
+tick image input = ticked (onSegment image) (stateAt image) (inputAt input)
+
+unfoldable leaves : List ℕ → List ℕ → List ℕ
+leaves image input = imageOf (stateAfter (onSegment image) (stateAt image) (inputAt input))
 
 set-up-accepted : (b : List ℕ) → length b ≡ SETUP-BYTES → setUpCall blankImage b ≡ left Done (imageOf (setUp (setupAt b)))
 unfolding setUpCall setUpRefusal
 set-up-accepted b e = rw e
 
 tick-accepted : (image input : List ℕ) → Accepted image → length input ≡ INPUT-BYTES
-    → tickCall image input blankAnswer ≡ called Done (ticked image input) (answerOf (tick (stateAt image) (inputAt input) .answer))
-unfolding tickCall ticked
+    → tickCall image input blankAnswer ≡ called Done (leaves image input) (answerOf (tick image input .answer))
+unfolding tickCall tickFrom leaves
 tick-accepted image input a e = rw (e, a)
 
 -- ---- the run
@@ -57,10 +62,10 @@ fresh-state : stateAt fresh ≡ s
 fresh-state = decode-encode s (set-up-fits levelSetUp)
 
 abbrev flagOf : List ℕ → List ℕ → Bool
-flagOf image input = tick (stateAt image) (inputAt input) .answer .fallback
+flagOf image input = tick image input .answer .fallback
 
 planner-flies : flagOf fresh levelInput ≡ false
-planner-flies = rw (flagOf, fresh-state) planner-first
+planner-flies = ap (λ (t : State). ticked (referenceAt (t .fixed .segment)) t (inputAt levelInput) .answer .fallback) fresh-state ∙ planner-first
 
 no-heading : inputAt lostInput .yaw ≡ nan
 unfolding inputAt float word ofBits
@@ -68,19 +73,18 @@ no-heading = refl
 
 -- whatever image it is given
 fallback-flies : (image : List ℕ) → flagOf image lostInput ≡ true
-fallback-flies image = rw (flagOf, tick-is (stateAt image) (inputAt lostInput)) (nan-heading-tick (onSegment image) (stateAt image) (inputAt lostInput) no-heading .flag)
+fallback-flies image = nan-heading-tick (onSegment image) (stateAt image) (inputAt lostInput) no-heading .flag
 
 -- the first tick releases the fresh shield, and the image says so
 engaged-before : word fresh ENGAGED ≡ 1
 unfolding setUp newShield
 engaged-before = engaged-written s
 
-released-after : word (ticked fresh levelInput) ENGAGED ≡ 0
-unfolding ticked tick
-released-after = engaged-written (tick (stateAt fresh) (inputAt levelInput) .state) ∙ rw (kept, planner-flies)
-  where
-    kept : tick (stateAt fresh) (inputAt levelInput) .state .shield .engaged ≡ flagOf fresh levelInput
-    kept = ap (λ (h : SimplexShield). h .engaged) (tick-keeps-shield (onSegment fresh) (stateAt fresh) (inputAt levelInput))
+released-after : word (leaves fresh levelInput) ENGAGED ≡ 0
+unfolding leaves
+released-after =
+    engaged-written (stateAfter (onSegment fresh) (stateAt fresh) (inputAt levelInput))
+    ∙ rw (tick-keeps-flag (onSegment fresh) (stateAt fresh) (inputAt levelInput), planner-flies)
 
 -- a blank image has no count of words, and a fresh one has
 counted : ¬ (blankImage ≡ fresh)
@@ -98,13 +102,13 @@ module _ (p : Program) (k : Keeps p) where
   sets-up = k .setUp blankImage levelSetUp ∙ set-up-accepted levelSetUp refl
 
   ticks : (image input : List ℕ) → Accepted image → length input ≡ INPUT-BYTES
-      → p .tick image input blankAnswer ≡ called Done (ticked image input) (answerOf (tick (stateAt image) (inputAt input) .answer))
+      → p .tick image input blankAnswer ≡ called Done (leaves image input) (answerOf (tick image input .answer))
   ticks image input a e = k .tick image input blankAnswer ∙ tick-accepted image input a e
 
   flag-is : (image input : List ℕ) → Accepted image → length input ≡ INPUT-BYTES → word (answered p image input) FLAG ≡ flag (flagOf image input)
   flag-is image input a e =
       ap (λ (c : Called). word (c .answer) FLAG) (ticks image input a e)
-      ∙ flag-answered (tick (stateAt image) (inputAt input) .answer)
+      ∙ flag-answered (tick image input .answer)
 
   -- "refusing all calls": demand 2, the table says when
   pub not-refusing-set-ups : ¬ (RefusesSetUps p)
@@ -135,12 +139,12 @@ module _ (p : Program) (k : Keeps p) where
 
   pub not-leaving-ticked : ¬ (LeavesTicked p)
   not-leaving-ticked r =
-      let same : ticked fresh levelInput ≡ fresh = sym (ap (λ (c : Called). c .image) (ticks fresh levelInput fresh-taken refl)) ∙ r .always fresh levelInput blankAnswer in
+      let same : leaves fresh levelInput ≡ fresh = sym (ap (λ (c : Called). c .image) (ticks fresh levelInput fresh-taken refl)) ∙ r .always fresh levelInput blankAnswer in
       suc-ne-zero 0 (sym engaged-before ∙ ap (λ (b : List ℕ). word b ENGAGED) (sym same) ∙ released-after)
 
   -- "works at the first tick and echoes it later": demand 3, however late
   taken-on : (n : ℕ) (image : List ℕ) → Accepted image → Accepted (ran p image (replicate n levelInput))
-  unfolding ticked tick
+  unfolding leaves
   taken-on zero image a = a
   taken-on (suc n) image a = taken-on n (p .tick image levelInput blankAnswer .image)
       (subst Accepted (sym (ap (λ (c : Called). c .image) (ticks image levelInput a refl))) (tick-never-refused (onSegment image) image levelInput a))

@@ -5,7 +5,6 @@ use mathlib.Core.Bool.{Bool, true, false, cond}
 use mathlib.Core.List.{List, [], _∷_}
 use Prim.Native.Nat.{ℕ}
 use lib.Dec.{T}
-use lib.ListN.{length}
 use lib.Ieee.{Float, le}
 use Rattle.words.specs.Words.{float}
 use Rattle.latch.specs.Latch.{after}
@@ -15,8 +14,9 @@ use Rattle.relay_traj.proofs.Clock.{never-nan}
 use Rattle.joint_tick.specs.declared.state.State.{State}
 use Rattle.joint_tick.specs.declared.state.TickInput.{TickInput}
 use Rattle.joint_tick.specs.declared.stages.Reference.{Reference}
-use Rattle.joint_tick.specs.Tick.{guidance, ticked, tick}
-use Rattle.joint_tick.proofs.Shielding.{tick-latch, tick-keeps-shield}
+use Rattle.joint_tick.specs.Tick.{guidance, ticked, stateAfter}
+use Rattle.joint_tick.specs.Tick.{shieldOf as shieldOfState}
+use Rattle.joint_tick.proofs.Shielding.{tick-latch, tick-keeps-flag}
 use Rattle.joint_tick.proofs.Kept.{good-runs}
 use Rattle.joint_tick.proofs.Clock.{time-never-back}
 use Rattle.outcome.specs.declared.Outcome.{Outcome}
@@ -24,21 +24,16 @@ use Rattle.outcome.specs.declared.Outcome.the-variants.{Done}
 use Rattle.outcome.specs.Outcomes.{isDone, Called, called, calledUnless}
 use Rattle.image.specs.Layout.{GOVERNOR}
 use Rattle.image.specs.Parts.{governorAt}
-use Rattle.image.specs.Image.{stateAt, imageOf}
-use Rattle.image.specs.Calls.{inputAt, answerOf}
+use Rattle.image.specs.Image.{movingAt, stateAt, imageOf}
+use Rattle.image.specs.Inputs.{inputAt, answerOf}
 use Rattle.image.proofs.Decoded.{decode-encode, time-written, state-fits}
-use Rattle.calls.specs.Entry.{tickRefusal, tickCall}
-use Rattle.calls.specs.Ticks.{Accepted, onSegment, tickFrom, marginsIf, shieldOf, stepped, Steps}
-use Rattle.calls.proofs.Going.{ticked-fits, good-image, tick-never-refused}
-
--- a call that is a tick from a source of references is so by its definition: the base's
-pub tick-call : (image input answer : List ℕ) → tickCall image input answer ≡ tickFrom (onSegment image) (tickRefusal image (length input) (length answer)) image input answer
-unfolding tickCall tick
-tick-call image input answer = refl
+use Rattle.calls.specs.Entry.{tickFrom}
+use Rattle.calls.specs.Ticks.{Accepted, marginsIf, shieldOf, stepped, Steps}
+use Rattle.calls.proofs.Going.{tick-fits, good-image, tick-never-refused}
 
 -- the time that an image holds is one that a governor can have
 pub image-runs : (image : List ℕ) → Accepted image → Running (float image GOVERNOR)
-unfolding stateAt governorAt
+unfolding movingAt governorAt
 image-runs image a = good-runs (good-image image a)
 
 -- what holds of an accepted call and of a refused one holds of a call
@@ -57,8 +52,11 @@ module _ (source : Float → Reference) (o : Outcome) (image input answer : List
   abbrev i : TickInput
   i = inputAt input
 
+  abbrev next : State
+  next = stateAfter source s i
+
   abbrev done : Called
-  done = called Done (imageOf (ticked source s i .state)) (answerOf (ticked source s i .answer))
+  done = called Done (imageOf next) (answerOf (ticked source s i .answer))
 
   abbrev m : Float
   m = guidance source s i .margin
@@ -66,21 +64,20 @@ module _ (source : Float → Reference) (o : Outcome) (image input answer : List
   shield-left : shieldOf (done .image) ≡ stepped (shieldOf image) (m ∷ [])
   unfolding after
   shield-left =
-      ap (λ (t : State). t .shield) (decode-encode (ticked source s i .state) (ticked-fits source s input (state-fits image)))
-      ∙ tick-keeps-shield source s i
-      ∙ rw (tick-latch source s i)
+      ap shieldOfState (decode-encode next (tick-fits source s input (state-fits image)))
+      ∙ rw (tick-keeps-flag source s i, tick-latch source s i)
 
   pub tick-steps : Steps (marginsIf (tickFrom source o image input answer) m) image (tickFrom source o image input answer .image)
-  unfolding after
+  unfolding after tickFrom
   tick-steps =
       either-way (λ (c : Called). Steps (marginsIf c m) image (c .image)) o done image answer
       record { accepted = tick-never-refused source image input a; shield = shield-left }
       (λ e. rw e record { accepted = a; shield = refl })
 
   pub tick-clock : T (le (float image GOVERNOR) (float (tickFrom source o image input answer .image) GOVERNOR))
-  unfolding stateAt governorAt
+  unfolding movingAt governorAt tickFrom
   tick-clock =
-      let written = time-written (ticked source s i .state) (ticked-fits source s input (state-fits image) .governor .0) in
+      let written = time-written next (tick-fits source s input (state-fits image) .governor .0) in
       either-way (λ (c : Called). T (le (float image GOVERNOR) (float (c .image) GOVERNOR))) o done image answer
       (rw written (time-never-back source s i (good-runs (good-image image a)) .0))
       (λ e. le-refl-of _ (never-nan (image-runs image a)))

@@ -1,30 +1,31 @@
 -- Set-up and tick on lent bytes: what is refused, and what each call leaves (document 01's table). Definitions only.
 use Prim.Native.Nat.{ℕ}
+use mathlib.Core.Path.{_≡_}
 use mathlib.Core.Bool.{Bool, _&&_, _||_, cond}
 use mathlib.Core.List.{List}
 use lib.Dec.{eqb}
+use lib.Ieee.{Float}
 use lib.ListN.{length}
 use Rattle.words.specs.Words.{word}
-use Rattle.joint_tick.specs.declared.state.State.{State}
+use Rattle.joint_tick.specs.declared.state.Fixed.{Fixed}
+use Rattle.joint_tick.specs.declared.stages.Prepared.{Prepared}
+use Rattle.joint_tick.specs.declared.stages.Reference.{Reference}
+use Rattle.joint_tick.specs.declared.stages.Ticked.{Ticked}
 use Rattle.joint_tick.specs.SetUp.{setUp}
-use Rattle.joint_tick.specs.Tick.{tick}
+use Rattle.joint_tick.specs.Tick.{referenceAt, ticked, stateAfter}
 use Rattle.joint_tick.specs.Good.{good}
 use Rattle.image.specs.Layout.{COUNT, ENGAGED, IMAGE-WORDS, IMAGE-BYTES, SETUP-BYTES, INPUT-BYTES, ANSWER-BYTES}
-use Rattle.image.specs.Image.{stateAt, imageOf}
-use Rattle.image.specs.Calls.{setupAt, inputAt, answerOf}
+use Rattle.image.specs.Image.{fixedAt, stateAt, imageOf}
+use Rattle.image.specs.Inputs.{setupAt, inputAt, answerOf}
 use Rattle.outcome.specs.declared.Outcome.{Outcome}
 use Rattle.outcome.specs.declared.Outcome.the-variants.{Done, ImageLength, InputLength, AnswerLength, BrokenImage}
 use Rattle.outcome.specs.Outcomes.{Left, left, leftUnless, Called, called, calledUnless}
 
 -- ---- what is refused: the lowest number that applies
 
--- row 4's tests of an image b whose state is s: its count is its own, its flag is 0 or 1, and a tick takes s
-unfoldable pub intactWith : List ℕ → State → Bool
-intactWith b s = eqb (word b COUNT) IMAGE-WORDS && (eqb (word b ENGAGED) 0 || eqb (word b ENGAGED) 1) && good s
-
+-- row 4's tests: its count is its own, its flag is 0 or 1, and a tick takes its state
 unfoldable pub intact : List ℕ → Bool
-unfolding intactWith
-intact b = intactWith b (stateAt b)
+intact b = eqb (word b COUNT) IMAGE-WORDS && (eqb (word b ENGAGED) 0 || eqb (word b ENGAGED) 1) && good (stateAt b)
 
 unfoldable pub setUpRefusal : ℕ → ℕ → Outcome
 setUpRefusal imageLen inputLen = cond (eqb imageLen IMAGE-BYTES) (cond (eqb inputLen SETUP-BYTES) Done InputLength) ImageLength
@@ -42,8 +43,23 @@ unfoldable pub setUpCall : List ℕ → List ℕ → Left
 unfolding setUpRefusal
 setUpCall image input = leftUnless (setUpRefusal (length image) (length input)) (left Done (imageOf (setUp (setupAt input)))) image
 
+-- the references of a plain tick: those of the image's own segment
+abbrev pub onSegment : List ℕ → Float → Reference
+onSegment image time = referenceAt (fixedAt image .segment) time
+
+-- A tick by references from a source, refused for o or else done: plain ticks and route ticks differ in these two alone.
+unfoldable pub tickFrom : (Float → Reference) → Outcome → List ℕ → List ℕ → List ℕ → Called
+tickFrom source o image input answer =
+    let s = stateAt image in
+    let i = inputAt input in
+    calledUnless o (called Done (imageOf (stateAfter source s i)) (answerOf (ticked source s i .answer))) image answer
+
 unfoldable pub tickCall : List ℕ → List ℕ → List ℕ → Called
-unfolding tickRefusal
-tickCall image input answer =
-    let t = tick (stateAt image) (inputAt input) in
-    calledUnless (tickRefusal image (length input) (length answer)) (called Done (imageOf (t .state)) (answerOf (t .answer))) image answer
+unfolding tickFrom tickRefusal
+tickCall image input answer = tickFrom (onSegment image) (tickRefusal image (length input) (length answer)) image input answer
+
+-- ---- what is written of what was fixed, prepared and done
+
+pub record Leaves (f : Fixed) (p : Prepared) (t : Ticked) (later answered : List ℕ) : Type 0 where
+  pub image : later ≡ imageOf record { fixed = f; moving = record { engaged = t .engaged; governor = p .moving .governor; rate = t .rate; lpf = p .moving .lpf } }
+  pub answer : answered ≡ answerOf (t .answer)

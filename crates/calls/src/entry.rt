@@ -2,6 +2,8 @@
 use image::ANSWER_BYTES;
 use image::COUNT;
 use image::ENGAGED;
+use image::ENTER;
+use image::EXIT;
 use image::GOVERNOR;
 use image::IMAGE_BYTES;
 use image::IMAGE_WORDS;
@@ -10,13 +12,16 @@ use image::QUINTIC_WORDS;
 use image::SEGMENT;
 use image::SETUP_BYTES;
 use image::T_END;
+use image::fixed_at;
 use image::input_at;
-use image::prepared_at;
+use image::moving_at;
 use image::put_answer;
 use image::put_state;
-use image::put_steered;
 use image::setup_at;
-use image::shield_at;
+use joint_tick::Fixed;
+use joint_tick::Prepared;
+use joint_tick::TickInput;
+use joint_tick::Ticked;
 use outcome::Outcome;
 use outcome::is_done;
 use words::float_at;
@@ -24,11 +29,12 @@ use words::word_at;
 ghost use mathlib.Core.Path.{_≡_};
 ghost use lib.ListN.{length};
 ghost use Rattle.joint_tick.specs.Good.{segmentOk, good};
-ghost use Rattle.image.specs.Layout.{SEGMENT, IMAGE-BYTES};
+ghost use Rattle.joint_tick.specs.Tick.{prepare};
+ghost use Rattle.image.specs.Layout.{SEGMENT, IMAGE-BYTES, ANSWER-BYTES};
 ghost use Rattle.image.specs.Parts.{segmentAt};
-ghost use Rattle.image.specs.Image.{stateAt};
+ghost use Rattle.image.specs.Image.{movingAt, stateAt};
 ghost use Rattle.outcome.specs.Outcomes.{left, called};
-ghost use Rattle.calls.specs.Entry.{intact, tickRefusal, setUpCall, tickCall};
+ghost use Rattle.calls.specs.Entry.{intact, tickRefusal, Leaves, setUpCall, tickCall};
 
 // By the t_end of each axis of the segment.
 fn segment_lasts(image: &[u8]) -> bool
@@ -46,12 +52,12 @@ fn segment_lasts(image: &[u8]) -> bool
     }
 }
 
-// `joint_tick::good` of the image's state, looking at the words that it speaks of and no others.
+// The numbers that row 4 speaks of, and no others.
 fn good_at(image: &[u8]) -> bool
     requires { ⌜ length (now image) ≡ IMAGE-BYTES ⌝ }
     ensures { λ r. ⌜ r ≡ good (stateAt (now (image .entry))) ⌝ }
 {
-    if joint_tick::shield_ok(shield_at(image)) {
+    if joint_tick::thresholds_ok(float_at(image, ENTER), float_at(image, EXIT)) {
         if joint_tick::time_ok(float_at(image, GOVERNOR)) {
             segment_lasts(image)
         } else {
@@ -110,8 +116,40 @@ pub fn setup(image: &mut [u8], input: &[u8]) -> Outcome
     if input.len() != SETUP_BYTES {
         return Outcome::InputLength;
     }
-    put_state(image, joint_tick::set_up(setup_at(input)));
+    let state = joint_tick::set_up(setup_at(input));
+    put_state(
+        image,
+        state.fixed,
+        state.moving.engaged,
+        state.moving.governor,
+        state.moving.rate,
+        state.moving.lpf,
+    );
     Outcome::Done
+}
+
+// A tick up to its reference. What was read is gone from the stack once it is prepared.
+pub fn begin(image: &[u8], given: TickInput) -> Prepared
+    requires { ⌜ length (now image) ≡ IMAGE-BYTES ⌝ }
+    ensures { λ r. ⌜ r ≡ prepare (movingAt (now (image .entry))) given ⌝ }
+{
+    joint_tick::prepare(moving_at(image), given)
+}
+
+// What a tick leaves. A plain tick and a route tick differ by where their reference comes from, and by nothing else.
+pub fn leave(image: &mut [u8], answer: &mut [u8], fixed: Fixed, prepared: Prepared, done: Ticked)
+    requires { ⌜ (length (now image) ≡ IMAGE-BYTES) × (length (now answer) ≡ ANSWER-BYTES) ⌝ }
+    ensures { λ _. ⌜ Leaves fixed prepared done (now (image .exit)) (now (answer .exit)) ⌝ }
+{
+    put_state(
+        image,
+        fixed,
+        done.engaged,
+        prepared.moving.governor,
+        done.rate,
+        prepared.moving.lpf,
+    );
+    put_answer(answer, done.answer);
 }
 
 pub fn tick(image: &mut [u8], input: &[u8], answer: &mut [u8]) -> Outcome
@@ -122,10 +160,10 @@ pub fn tick(image: &mut [u8], input: &[u8], answer: &mut [u8]) -> Outcome
         return refusal;
     }
     let given = input_at(input);
-    let prepared = prepared_at(image, given);
-    let wanted = joint_tick::reference_at(prepared.state.segment, prepared.time);
-    let done = joint_tick::steer(prepared, wanted, given);
-    put_steered(image, prepared, done);
-    put_answer(answer, done.answer);
+    let fixed = fixed_at(image);
+    let prepared = begin(image, given);
+    let wanted = joint_tick::reference_at(fixed.segment, prepared.time);
+    let done = joint_tick::finish(fixed, prepared, wanted, given);
+    leave(image, answer, fixed, prepared, done);
     Outcome::Done
 }

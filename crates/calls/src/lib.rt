@@ -1,6 +1,8 @@
 // The joint tick on lent bytes (added by document 01).
 mod entry; // entry.rt: set-up and tick on lent bytes, and what they refuse
 
+pub use entry::begin;
+pub use entry::leave;
 pub use entry::setup;
 pub use entry::tick;
 pub use entry::tick_refusal;

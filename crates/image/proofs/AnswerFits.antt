@@ -24,7 +24,7 @@ use Rattle.joint_tick.specs.declared.state.TickInput.{TickInput}
 use Rattle.joint_tick.specs.declared.stages.Reference.{Reference}
 use Rattle.joint_tick.specs.Tick.{prepare, cleaned, desired, plus, rateSq, marginOf, guide, guidance, ticked}
 use Rattle.joint_tick.proofs.Shielding.{tick-command}
-use Rattle.image.specs.Calls.{inputAt}
+use Rattle.image.specs.Inputs.{inputAt}
 use Rattle.image.specs.Fits.{F32, FitsVec}
 use Rattle.image.proofs.Fitting.{fitting}
 
@@ -48,15 +48,15 @@ module _ (source : Float → Reference) (s : State) where
   pub margin-fits : (i : TickInput) → F32 (guidance source s i .margin)
   unfolding guidance guide
   margin-fits i =
-      let p = prepare s i in
-      margin-of-fits (s .shield .set) (quatToRotmat (i .quat)) (desired (source (p .time)) i) (rateSq (p .rate))
+      let p = prepare (s .moving) i in
+      margin-of-fits (s .fixed .set) (quatToRotmat (i .quat)) (desired (source (p .time)) i) (rateSq (p .rate))
 
   fallback-fits : (i : TickInput) → FitsVec (guidance source s i .fallback .0)
   unfolding guidance guide desiredRate
   fallback-fits i =
-      let w = cleaned (source (prepare s i .time)) in
-      plus-fits (desiredRate (s .gains) (i .quat) (w .acc) (i .yaw)) (flatnessOmegaFf (w .acc) (w .jerk) (i .yaw) (i .«yaw_rate»))
-      (rate-toward-fits (s .gains) (quatToRotmat (i .quat)) (thrustAttitude (sanitise3 (w .acc)) (i .yaw)))
+      let w = cleaned (source (prepare (s .moving) i .time)) in
+      plus-fits (desiredRate (s .fixed .gains) (i .quat) (w .acc) (i .yaw)) (flatnessOmegaFf (w .acc) (w .jerk) (i .yaw) (i .«yaw_rate»))
+      (rate-toward-fits (s .fixed .gains) (quatToRotmat (i .quat)) (thrustAttitude (sanitise3 (w .acc)) (i .yaw)))
 
   agile-fits : (b : List ℕ) → FitsVec (inputAt b .agile .0)
   unfolding inputAt vec

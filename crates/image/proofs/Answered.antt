@@ -8,7 +8,7 @@ use Rattle.words.proofs.Back.{word-back, bits-back, float-back, vec-back, flag-
 use Rattle.words.proofs.Written.{length-bytesOf}
 use Rattle.joint_tick.specs.declared.state.Answer.{Answer}
 use Rattle.image.specs.Layout.{TORQUE, COMMAND, FLAG, TIME, PSI, MARGIN, ANSWER-BYTES}
-use Rattle.image.specs.Calls.{wordsOfAnswer, answerOf}
+use Rattle.image.specs.Inputs.{wordsOfAnswer, answerOf}
 use Rattle.image.specs.Fits.{F32, FitsVec}
 
 answer-is : (a : Answer) → Holds (answerOf a) (wordsOfAnswer a)

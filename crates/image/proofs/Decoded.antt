@@ -7,11 +7,10 @@ use lib.Dec.{eqb, lit<}
 use lib.ListN.{length, getD, take, drop}
 use lib.Ieee.{Float}
 use Rattle.words.specs.Words.{word, float, vec, bits, flag, wordsOf, bytesOf, Holds, canons}
-use Rattle.words.proofs.Back.{word-back, bits-back, float-back, floats-back, first-back, float-fits, flag-back, flag-lt}
+use Rattle.words.proofs.Back.{word-back, float-back, floats-back, first-back, float-fits, flag-back, flag-lt}
 use Rattle.words.proofs.Written.{length-bytesOf}
 use Rattle.relay_geo.specs.declared.controller.GeoGains.{GeoGains}
 use Rattle.relay_geo.specs.declared.set.RecoverableSet.{RecoverableSet}
-use Rattle.relay_geo.specs.declared.shield.SimplexShield.{SimplexShield}
 use Rattle.relay_traj.specs.declared.governor.RefGovernor.{RefGovernor}
 use Rattle.relay_traj.specs.declared.quintic.Quintic.{Quintic}
 use Rattle.relay_adrc.specs.declared.axis.AdrcAxis.{AdrcAxis}
@@ -19,8 +18,8 @@ use Rattle.relay_adrc.specs.declared.biquad.Biquad.{Biquad}
 use Rattle.joint_tick.specs.declared.state.State.{State}
 use Rattle.image.specs.Layout.{QUINTIC-WORDS, AXIS-WORDS, BIQUAD-WORDS, COUNT, GAINS, SET, ENTER, EXIT, ENGAGED, GOVERNOR, SEGMENT, RATE, LPF, IMAGE-WORDS, IMAGE-BYTES}
 use Rattle.image.specs.Parts.{gainsAt, setAt, governorAt, quinticAt, segmentAt, adrcGainsAt, axisAt, rateAt, biquadAt, lpfAt, floatsOfGains, floatsOfSet, floatsOfGovernor, floatsOfQuintic, floatsOfAxis, floatsOfBiquad}
-use Rattle.image.specs.Image.{shieldAt, stateAt, wordsOfState, imageOf, canonicalImage}
-use Rattle.image.specs.Fits.{F32, FitsGains, FitsSet, FitsShield, FitsGovernor, FitsQuintic, FitsSegment, FitsAxis, FitsRate, FitsBiquad, FitsLpf, Fits}
+use Rattle.image.specs.Image.{fixedAt, movingAt, stateAt, wordsOfState, imageOf, canonicalImage}
+use Rattle.image.specs.Fits.{F32, FitsGains, FitsSet, FitsGovernor, FitsQuintic, FitsSegment, FitsAxis, FitsRate, FitsBiquad, FitsLpf, Fits}
 
 -- ---- each part, at any place: words that hold it are read as it
 
@@ -73,66 +72,55 @@ image-length s = ap length (image-is s .is) ∙ length-bytesOf (wordsOfState s)
 pub count-written : (s : State) → word (imageOf s) COUNT ≡ IMAGE-WORDS
 count-written s = word-back (image-is s) COUNT refl (lit< tt)
 
-pub engaged-written : (s : State) → word (imageOf s) ENGAGED ≡ flag (s .shield .engaged)
-engaged-written s = word-back (image-is s) ENGAGED refl (flag-lt (s .shield .engaged))
+pub engaged-written : (s : State) → word (imageOf s) ENGAGED ≡ flag (s .moving .engaged)
+engaged-written s = word-back (image-is s) ENGAGED refl (flag-lt (s .moving .engaged))
 
 -- the float at a place of the image is the one that the state's words have there
 pub float-written : (s : State) (k : ℕ) (x : Float) → getD (wordsOfState s) k 0 ≡ bits x → F32 x → float (imageOf s) k ≡ x
 float-written s k x held f = float-back (image-is s) k x held f
 
--- and its word is that float's
-pub bits-written : (s : State) (k : ℕ) (x : Float) → getD (wordsOfState s) k 0 ≡ bits x → F32 x → word (imageOf s) k ≡ bits x
-bits-written s k x held f = bits-back (image-is s) k x held f
+pub enter-written : (s : State) → F32 (s .fixed .enter) → float (imageOf s) ENTER ≡ s .fixed .enter
+enter-written s f = float-written s ENTER (s .fixed .enter) refl f
 
-pub enter-written : (s : State) → F32 (s .shield .enter) → float (imageOf s) ENTER ≡ s .shield .enter
-enter-written s f = float-written s ENTER (s .shield .enter) refl f
+pub exit-written : (s : State) → F32 (s .fixed .exit) → float (imageOf s) EXIT ≡ s .fixed .exit
+exit-written s f = float-written s EXIT (s .fixed .exit) refl f
 
-pub exit-written : (s : State) → F32 (s .shield .exit) → float (imageOf s) EXIT ≡ s .shield .exit
-exit-written s f = float-written s EXIT (s .shield .exit) refl f
-
-pub time-written : (s : State) → F32 (s .governor .s) → float (imageOf s) GOVERNOR ≡ s .governor .s
-time-written s f = float-written s GOVERNOR (s .governor .s) refl f
+pub time-written : (s : State) → F32 (s .moving .governor .s) → float (imageOf s) GOVERNOR ≡ s .moving .governor .s
+time-written s f = float-written s GOVERNOR (s .moving .governor .s) refl f
 
 -- ---- read again
 
-pub segment-written : (s : State) → FitsSegment (s .segment) → segmentAt (imageOf s) SEGMENT ≡ s .segment
+pub segment-written : (s : State) → FitsSegment (s .fixed .segment) → segmentAt (imageOf s) SEGMENT ≡ s .fixed .segment
 unfolding segmentAt
 segment-written s f =
     let at = quintic-back (image-is s) in
-    simp (at SEGMENT (s .segment .0) refl (f .0), at (SEGMENT + QUINTIC-WORDS) (s .segment .1) refl (f .1), at (SEGMENT + QUINTIC-WORDS + QUINTIC-WORDS) (s .segment .2) refl (f .2))
+    simp (at SEGMENT (s .fixed .segment .0) refl (f .0), at (SEGMENT + QUINTIC-WORDS) (s .fixed .segment .1) refl (f .1), at (SEGMENT + QUINTIC-WORDS + QUINTIC-WORDS) (s .fixed .segment .2) refl (f .2))
 
-pub rate-written : (s : State) → FitsRate (s .rate) → rateAt (imageOf s) RATE ≡ s .rate
+pub rate-written : (s : State) → FitsRate (s .moving .rate) → rateAt (imageOf s) RATE ≡ s .moving .rate
 unfolding rateAt
 rate-written s f =
     let at = axis-back (image-is s) in
-    simp (at RATE (s .rate .roll) refl (f .0), at (RATE + AXIS-WORDS) (s .rate .pitch) refl (f .1), at (RATE + AXIS-WORDS + AXIS-WORDS) (s .rate .yaw) refl (f .2))
+    simp (at RATE (s .moving .rate .roll) refl (f .0), at (RATE + AXIS-WORDS) (s .moving .rate .pitch) refl (f .1), at (RATE + AXIS-WORDS + AXIS-WORDS) (s .moving .rate .yaw) refl (f .2))
 
-pub lpf-written : (s : State) → FitsLpf (s .lpf) → lpfAt (imageOf s) LPF ≡ s .lpf
+pub lpf-written : (s : State) → FitsLpf (s .moving .lpf) → lpfAt (imageOf s) LPF ≡ s .moving .lpf
 unfolding lpfAt
 lpf-written s f =
     let at = biquad-back (image-is s) in
-    simp (at LPF (s .lpf .roll) refl (f .0), at (LPF + BIQUAD-WORDS) (s .lpf .pitch) refl (f .1), at (LPF + BIQUAD-WORDS + BIQUAD-WORDS) (s .lpf .yaw) refl (f .2))
-
-pub shield-written : (s : State) → FitsShield (s .shield) → shieldAt (imageOf s) ≡ s .shield
-unfolding shieldAt
-shield-written s f =
-    simp (
-      set-back (image-is s) SET (s .shield .set) refl (f .0),
-      engaged-written s,
-      flag-back (s .shield .engaged),
-      enter-written s (f .1),
-      exit-written s (f .2),
-    )
+    simp (at LPF (s .moving .lpf .roll) refl (f .0), at (LPF + BIQUAD-WORDS) (s .moving .lpf .pitch) refl (f .1), at (LPF + BIQUAD-WORDS + BIQUAD-WORDS) (s .moving .lpf .yaw) refl (f .2))
 
 -- what is written is read again
 pub decode-encode : (s : State) → Fits s → stateAt (imageOf s) ≡ s
-unfolding stateAt
+unfolding fixedAt movingAt
 decode-encode s f =
     simp (
-      gains-back (image-is s) GAINS (s .gains) refl (f .gains),
-      shield-written s (f .shield),
-      governor-back (image-is s) GOVERNOR (s .governor) refl (f .governor),
+      gains-back (image-is s) GAINS (s .fixed .gains) refl (f .gains),
+      set-back (image-is s) SET (s .fixed .set) refl (f .set),
+      enter-written s (f .enter),
+      exit-written s (f .exit),
       segment-written s (f .segment),
+      engaged-written s,
+      flag-back (s .moving .engaged),
+      governor-back (image-is s) GOVERNOR (s .moving .governor) refl (f .governor),
       rate-written s (f .rate),
       lpf-written s (f .lpf),
     )
@@ -140,7 +128,7 @@ decode-encode s f =
 -- ---- written again
 
 same-words : (b : List ℕ) → wordsOfState (stateAt b) ≡ IMAGE-WORDS ∷ canons b GAINS (ENGAGED - GAINS) ++ flag (eqb (word b ENGAGED) 1) ∷ canons b GOVERNOR (IMAGE-WORDS - GOVERNOR)
-unfolding stateAt shieldAt gainsAt vec setAt governorAt segmentAt quinticAt rateAt axisAt adrcGainsAt lpfAt biquadAt float
+unfolding fixedAt movingAt gainsAt vec setAt governorAt segmentAt quinticAt rateAt axisAt adrcGainsAt lpfAt biquadAt float
 same-words b = refl
 
 -- what is read is written again, but for the count, the flag and the NaNs
@@ -151,13 +139,15 @@ encode-decode b = image-is (stateAt b) .is ∙ ap bytesOf (same-words b)
 -- ---- what is read fits
 
 pub state-fits : (b : List ℕ) → Fits (stateAt b)
-unfolding stateAt shieldAt gainsAt vec setAt governorAt segmentAt quinticAt rateAt axisAt adrcGainsAt lpfAt biquadAt
+unfolding fixedAt movingAt gainsAt vec setAt governorAt segmentAt quinticAt rateAt axisAt adrcGainsAt lpfAt biquadAt
 state-fits b =
     record {
       gains = search float-fits;
-      shield = search float-fits;
-      governor = search float-fits;
+      set = search float-fits;
+      enter = search float-fits;
+      exit = search float-fits;
       segment = search float-fits;
+      governor = search float-fits;
       rate = search float-fits;
       lpf = search float-fits;
     }

@@ -6,8 +6,7 @@ use lib.Ieee.Bits.{ofBits-fits}
 use Rattle.relay_math.specs.declared.Vec3.{Vec3}
 use Rattle.relay_math.specs.declared.BodyRate.{BodyRate}
 use Rattle.relay_geo.specs.declared.set.RecoverableSet.{RecoverableSet}
-use Rattle.relay_geo.specs.declared.shield.SimplexShield.{SimplexShield}
-use Rattle.relay_geo.specs.Shield.{newShield, step}
+use Rattle.relay_geo.specs.Shield.{newShield}
 use Rattle.relay_traj.specs.declared.governor.RefGovernor.{RefGovernor}
 use Rattle.relay_traj.specs.Governor.{governor, advance}
 use Rattle.relay_traj.specs.Quintic.{quintic}
@@ -20,20 +19,16 @@ use Rattle.relay_adrc.specs.declared.biquad.GyroLpf.{GyroLpf}
 use Rattle.relay_adrc.specs.Axis.{axisNew, axisTick, axisSetDeliveredFraction}
 use Rattle.relay_adrc.specs.Rate.{rateNew, rateTick, rateSetDeliveredFraction}
 use Rattle.relay_adrc.specs.Biquad.{passesThrough, passthrough, filterAt, lowpass, biquadFilter, gyroNew, gyroFilter}
-use Rattle.image.specs.Fits.{F32, FitsVec, FitsSet, FitsShield, FitsGovernor, FitsQuintic, FitsSegment, FitsAdrcGains, FitsAxis, FitsRate, FitsBiquad, FitsLpf}
+use Rattle.image.specs.Fits.{F32, FitsVec, FitsGovernor, FitsQuintic, FitsSegment, FitsAdrcGains, FitsAxis, FitsRate, FitsBiquad, FitsLpf}
 
 -- each operation rounds to an f32, a literal is one, and a choice of two is one of them
 pub ruleset fitting = (cond-fits, add-fits, sub-fits, mul-fits, div-fits, ofBits-fits)
 
--- ---- the shield
+-- ---- the thresholds
 
-pub new-shield-fits : (set : RecoverableSet) (enter exit : Float) → FitsSet set → F32 enter → F32 exit → FitsShield (newShield set enter exit)
+pub new-shield-fits : (set : RecoverableSet) (enter exit : Float) → F32 enter → F32 exit → let h = newShield set enter exit in F32 (h .enter) × F32 (h .exit)
 unfolding newShield
-new-shield-fits set enter exit f g h = search fitting
-
-pub step-fits : (s : SimplexShield) (margin : Float) (agile fallback : BodyRate) → FitsShield s → FitsShield (step s margin agile fallback .shield)
-unfolding step
-step-fits s margin agile fallback f = f
+new-shield-fits set enter exit f g = search fitting
 
 -- ---- the governor
 

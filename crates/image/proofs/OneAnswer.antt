@@ -1,30 +1,18 @@
 -- Of each public function here: no second answer fits its promise. Assumes nothing.
 use mathlib.Core.Path.{refl}
 use Rattle.laws.proofs.Determined.{OneAnswer, no-second, both}
-use Rattle.image.proofs.calls
+use Rattle.image.proofs.inputs
 use Rattle.image.proofs.image
 use Rattle.image.proofs.parts
 
-pub setup-at-once : OneAnswer calls.setup_at.ended calls.setup_at.Reads.Post
+pub setup-at-once : OneAnswer inputs.setup_at.ended inputs.setup_at.Reads.Post
 setup-at-once κs a x y v w p q = (no-second p q, refl)
 
-pub input-at-once : OneAnswer calls.input_at.ended calls.input_at.Reads.Post
+pub input-at-once : OneAnswer inputs.input_at.ended inputs.input_at.Reads.Post
 input-at-once κs a x y v w p q = (no-second p q, refl)
 
-pub put-answer-once : OneAnswer calls.put_answer.ended calls.put_answer.Reads.Post
+pub put-answer-once : OneAnswer inputs.put_answer.ended inputs.put_answer.Reads.Post
 put-answer-once κs a x y v w p q = (refl, both (no-second p q) refl)
-
-pub state-at-once : OneAnswer image.state_at.ended image.state_at.Reads.Post
-state-at-once κs a x y v w p q = (no-second p q, refl)
-
-pub shield-at-once : OneAnswer image.shield_at.ended image.shield_at.Reads.Post
-shield-at-once κs a x y v w p q = (no-second p q, refl)
-
-pub prepared-at-once : OneAnswer image.prepared_at.ended image.prepared_at.Reads.Post
-prepared-at-once κs a x y v w p q = (no-second p q, refl)
-
-pub put-steered-once : OneAnswer image.put_steered.ended image.put_steered.Reads.Post
-put-steered-once κs a x y v w p q = (refl, both (no-second p q) refl)
 
 pub put-state-once : OneAnswer image.put_state.ended image.put_state.Reads.Post
 put-state-once κs a x y v w p q = (refl, both (no-second p q) refl)
@@ -94,3 +82,9 @@ put-biquad-once κs a x y v w p q = (refl, both (no-second (p .is) (q .is)) refl
 
 pub put-lpf-once : OneAnswer parts.put_lpf.ended parts.put_lpf.Reads.Post
 put-lpf-once κs a x y v w p q = (refl, both (no-second (p .is) (q .is)) refl)
+
+pub fixed-at-once : OneAnswer image.fixed_at.ended image.fixed_at.Reads.Post
+fixed-at-once κs a x y v w p q = (no-second p q, refl)
+
+pub moving-at-once : OneAnswer image.moving_at.ended image.moving_at.Reads.Post
+moving-at-once κs a x y v w p q = (no-second p q, refl)

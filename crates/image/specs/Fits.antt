@@ -5,7 +5,6 @@ use Rattle.words.specs.Words.{AllFit, floatsOfVec}
 use Rattle.relay_math.specs.declared.Vec3.{Vec3}
 use Rattle.relay_geo.specs.declared.controller.GeoGains.{GeoGains}
 use Rattle.relay_geo.specs.declared.set.RecoverableSet.{RecoverableSet}
-use Rattle.relay_geo.specs.declared.shield.SimplexShield.{SimplexShield}
 use Rattle.relay_traj.specs.declared.governor.RefGovernor.{RefGovernor}
 use Rattle.relay_traj.specs.declared.quintic.Quintic.{Quintic}
 use Rattle.relay_traj.specs.declared.segment.Segment3.{Segment3}
@@ -28,9 +27,6 @@ FitsGains g = AllFit (floatsOfGains g)
 
 abbrev pub FitsSet : RecoverableSet → Type 0
 FitsSet s = AllFit (floatsOfSet s)
-
-abbrev pub FitsShield : SimplexShield → Type 0
-FitsShield s = FitsSet (s .set) × F32 (s .enter) × F32 (s .exit)
 
 abbrev pub FitsGovernor : RefGovernor → Type 0
 FitsGovernor g = AllFit (floatsOfGovernor g)
@@ -57,9 +53,11 @@ abbrev pub FitsLpf : GyroLpf → Type 0
 FitsLpf l = FitsBiquad (l .roll) × FitsBiquad (l .pitch) × FitsBiquad (l .yaw)
 
 pub record Fits (s : State) : Type 0 where
-  pub gains : FitsGains (s .gains)
-  pub shield : FitsShield (s .shield)
-  pub governor : FitsGovernor (s .governor)
-  pub segment : FitsSegment (s .segment)
-  pub rate : FitsRate (s .rate)
-  pub lpf : FitsLpf (s .lpf)
+  pub gains : FitsGains (s .fixed .gains)
+  pub set : FitsSet (s .fixed .set)
+  pub enter : F32 (s .fixed .enter)
+  pub exit : F32 (s .fixed .exit)
+  pub segment : FitsSegment (s .fixed .segment)
+  pub governor : FitsGovernor (s .moving .governor)
+  pub rate : FitsRate (s .moving .rate)
+  pub lpf : FitsLpf (s .moving .lpf)

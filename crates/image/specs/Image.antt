@@ -1,38 +1,38 @@
 -- The state image: what is read out of it, and what is written. Definitions only.
 use mathlib.Core.List.{List, [], _∷_, _++_}
 use Prim.Native.Nat.{ℕ, _-_}
+use mathlib.Core.Bool.{Bool}
 use lib.Dec.{eqb}
+use lib.Ieee.{Float}
 use Rattle.words.specs.Words.{word, float, bits, flag, wordsOf, bytesOf, canons}
-use Rattle.relay_geo.specs.declared.shield.SimplexShield.{SimplexShield}
+use Rattle.relay_geo.specs.declared.set.RecoverableSet.{RecoverableSet}
+use Rattle.joint_tick.specs.declared.state.Fixed.{Fixed}
+use Rattle.joint_tick.specs.declared.state.Moving.{Moving}
 use Rattle.joint_tick.specs.declared.state.State.{State}
 use Rattle.image.specs.Layout.{GAINS, SET, ENTER, EXIT, ENGAGED, GOVERNOR, SEGMENT, RATE, LPF, IMAGE-WORDS}
 use Rattle.image.specs.Parts.{gainsAt, setAt, governorAt, segmentAt, rateAt, lpfAt, floatsOfGains, floatsOfSet, floatsOfGovernor, floatsOfSegment, floatsOfRate, floatsOfLpf}
 
+unfoldable pub fixedAt : List ℕ → Fixed
+fixedAt b = record { gains = gainsAt b GAINS; set = setAt b SET; enter = float b ENTER; exit = float b EXIT; segment = segmentAt b SEGMENT }
+
 -- engaged is a 1 in its word: any other word is not, and a tick refuses one that is neither 0 nor 1
-unfoldable pub shieldAt : List ℕ → SimplexShield
-shieldAt b = record { set = setAt b SET; engaged = eqb (word b ENGAGED) 1; enter = float b ENTER; exit = float b EXIT }
+unfoldable pub movingAt : List ℕ → Moving
+movingAt b = record { engaged = eqb (word b ENGAGED) 1; governor = governorAt b GOVERNOR; rate = rateAt b RATE; lpf = lpfAt b LPF }
 
-unfoldable pub stateAt : List ℕ → State
-stateAt b =
-    record {
-      gains = gainsAt b GAINS;
-      shield = shieldAt b;
-      governor = governorAt b GOVERNOR;
-      segment = segmentAt b SEGMENT;
-      rate = rateAt b RATE;
-      lpf = lpfAt b LPF;
-    }
+abbrev pub stateAt : List ℕ → State
+stateAt b = record { fixed = fixedAt b; moving = movingAt b }
 
-abbrev pub wordsOfShield : SimplexShield → List ℕ
-wordsOfShield s = wordsOf (floatsOfSet (s .set)) ++ bits (s .enter) ∷ bits (s .exit) ∷ flag (s .engaged) ∷ []
+abbrev pub wordsOfShield : RecoverableSet → Float → Float → Bool → List ℕ
+wordsOfShield set enter exit engaged = wordsOf (floatsOfSet set) ++ bits enter ∷ bits exit ∷ flag engaged ∷ []
 
 abbrev pub wordsOfState : State → List ℕ
 wordsOfState s =
+    let f = s .fixed in
+    let m = s .moving in
     IMAGE-WORDS ∷
-    wordsOf (floatsOfGains (s .gains)) ++
-    wordsOfShield (s .shield) ++
-    wordsOf (floatsOfGovernor (s .governor)) ++
-    wordsOf (floatsOfSegment (s .segment)) ++ wordsOf (floatsOfRate (s .rate)) ++ wordsOf (floatsOfLpf (s .lpf))
+    wordsOf (floatsOfGains (f .gains)) ++
+    wordsOfShield (f .set) (f .enter) (f .exit) (m .engaged) ++
+    wordsOf (floatsOfGovernor (m .governor)) ++ wordsOf (floatsOfSegment (f .segment)) ++ wordsOf (floatsOfRate (m .rate)) ++ wordsOf (floatsOfLpf (m .lpf))
 
 unfoldable pub imageOf : State → List ℕ
 imageOf s = bytesOf (wordsOfState s)

@@ -1,5 +1,5 @@
 pub mod Layout
 pub mod Parts
 pub mod Image
-pub mod Calls
+pub mod Inputs
 pub mod Fits

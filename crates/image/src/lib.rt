@@ -1,20 +1,20 @@
 // The state in bytes: the image, what set-up and a tick are given, what a tick answers (added by document 01).
-mod calls; // calls.rt: what set-up and a tick are given, and what a tick answers
+mod inputs; // inputs.rt: what set-up and a tick are given, and what a tick answers
 mod image; // image.rt: the state image
 mod layout; // layout.rt: where each number stands
 mod parts; // parts.rt: the parts of the images and inputs
 
-pub use calls::input_at;
-pub use calls::put_answer;
-pub use calls::setup_at;
-pub use image::prepared_at;
+pub use image::fixed_at;
+pub use image::moving_at;
 pub use image::put_state;
-pub use image::put_steered;
-pub use image::shield_at;
-pub use image::state_at;
+pub use inputs::input_at;
+pub use inputs::put_answer;
+pub use inputs::setup_at;
 pub use layout::ANSWER_BYTES;
 pub use layout::COUNT;
 pub use layout::ENGAGED;
+pub use layout::ENTER;
+pub use layout::EXIT;
 pub use layout::GOVERNOR;
 pub use layout::IMAGE_BYTES;
 pub use layout::IMAGE_WORDS;

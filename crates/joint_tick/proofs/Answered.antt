@@ -9,6 +9,7 @@ use Rattle.relay_math.specs.declared.BodyRate.{BodyRate}
 use Rattle.laws.proofs.Tests.{held}
 use Rattle.relay_math.proofs.Order.{finite-number}
 use Rattle.relay_adrc.specs.declared.rate.AdrcRate.{AdrcRate}
+use Rattle.relay_adrc.specs.Rate.{rateTick}
 use Rattle.relay_adrc.proofs.Tick.{tick-finite}
 use Rattle.relay_geo.specs.declared.controller.GeoGains.{GeoGains}
 use Rattle.relay_geo.specs.declared.set.RecoverableSet.{RecoverableSet}
@@ -23,7 +24,7 @@ use Rattle.joint_tick.specs.declared.state.State.{State}
 use Rattle.joint_tick.specs.declared.state.TickInput.{TickInput}
 use Rattle.joint_tick.specs.declared.state.Answer.{Answer}
 use Rattle.joint_tick.specs.declared.stages.Reference.{Reference}
-use Rattle.joint_tick.specs.Tick.{prepare, desired, rateSq, psiOf, guide, guidance, follow, finish, ticked}
+use Rattle.joint_tick.specs.Tick.{prepare, desired, rateSq, psiOf, guide, guidance, pick, finish, ticked}
 use Rattle.joint_tick.proofs.Once.{one-margin}
 use Rattle.joint_tick.proofs.Shielding.{tick-command, tick-torque}
 use Rattle.joint_tick.proofs.Clock.{tick-time, time-never-back}
@@ -47,9 +48,9 @@ ranges-number m (inr e) = subst (λ (x : Float). T (not (isNan x))) (sym e) minu
 
 -- ---- torque and command are finite
 
-follow-finite : (r : AdrcRate) (m w : BodyRate) (dt : Float) → Finite3 (follow r m w dt .torque .0)
-unfolding follow
-follow-finite r m w dt = record { x = tick-finite (r .roll) _ _ dt .u; y = tick-finite (r .pitch) _ _ dt .u; z = tick-finite (r .yaw) _ _ dt .u }
+rate-finite : (r : AdrcRate) (m w : BodyRate) (dt : Float) → Finite3 (rateTick r m w dt .torque .0)
+unfolding rateTick
+rate-finite r m w dt = record { x = tick-finite (r .roll) _ _ dt .u; y = tick-finite (r .pitch) _ _ dt .u; z = tick-finite (r .yaw) _ _ dt .u }
 
 -- three finite numbers each, a time and a margin that are numbers
 pub record Numbers (a : Answer) : Type 0 where
@@ -67,13 +68,13 @@ module _ (source : Float → Reference) (s : State) (i : TickInput) where
       either false v w = sanitise3-finite w
 
   pub torque-finite : Finite3 (ticked source s i .answer .torque .0)
-  torque-finite = rw tick-torque (follow-finite _ _ _ _)
+  torque-finite = rw tick-torque (rate-finite _ _ _ _)
 
   pub margin-ranges : Ranges (ticked source s i .answer .margin)
-  unfolding ticked finish guidance
-  margin-ranges = guide-margin-ranges (s .gains) (s .shield .set) (prepare s i .rate) (source (prepare s i .time)) i
+  unfolding ticked finish pick
+  margin-ranges = guide-margin-ranges (s .fixed .gains) (s .fixed .set) (prepare (s .moving) i .rate) (source (prepare (s .moving) i .time)) i
 
-  pub answer-finite : Running (s .governor .s) → Numbers (ticked source s i .answer)
+  pub answer-finite : Running (s .moving .governor .s) → Numbers (ticked source s i .answer)
   answer-finite r =
       record {
         torque = torque-finite;

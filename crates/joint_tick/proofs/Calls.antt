@@ -1,4 +1,4 @@
--- The stages go axis by axis, so that one axis can be left out; together they are the Rust's own calls. Assumes nothing.
+-- The fraction of the last torque, and where the segment is sampled. Assumes nothing.
 use mathlib.Core.Path.{_≡_, refl}
 use mathlib.Core.Bool.{true, false}
 use lib.Ieee.{Float, nan, inf, fin, eq, ofBits}
@@ -10,21 +10,14 @@ use Rattle.relay_adrc.specs.declared.gains.AdrcGains.{AdrcGains}
 use Rattle.relay_adrc.specs.declared.axis.AdrcAxis.{AdrcAxis}
 use Rattle.relay_adrc.specs.declared.rate.AdrcRate.{AdrcRate}
 use Rattle.relay_adrc.specs.Axis.{mendDt, lag, deliveredFraction, axisSetDeliveredFraction}
-use Rattle.relay_adrc.specs.Rate.{rateTick, rateSetDeliveredFraction}
+use Rattle.relay_adrc.specs.Rate.{rateTick}
 use Rattle.relay_adrc.proofs.Tick.{fraction-scales-the-command-before}
 use Rattle.relay_traj.specs.declared.segment.Segment3.{Segment3}
 use Rattle.relay_traj.specs.Segment.{duration}
 use Rattle.joint_tick.specs.declared.state.State.{State}
 use Rattle.joint_tick.specs.declared.state.TickInput.{TickInput}
 use Rattle.joint_tick.specs.declared.stages.Reference.{Reference}
-use Rattle.joint_tick.specs.Tick.{setFractions, prepare, sampleTime, follow, finish, ticked}
-
-pub fractions-are-the-rusts : (r : AdrcRate) (f : Vec3) → setFractions r f ≡ rateSetDeliveredFraction r f
-fractions-are-the-rusts r f = refl
-
-pub follow-is-the-rusts : (r : AdrcRate) (measured wanted : BodyRate) (dt : Float) → follow r measured wanted dt ≡ rateTick r measured wanted dt
-unfolding follow rateTick
-follow-is-the-rusts r measured wanted dt = refl
+use Rattle.joint_tick.specs.Tick.{prepare, sampleTime, pick, finish, ticked, stateAfter}
 
 -- ---- "The delivered fraction set after one tick is used in the next": a tick's fraction scales the torque that the tick before it answered.
 
@@ -33,17 +26,17 @@ abbrev pub Delivered : AdrcAxis → AdrcAxis → AdrcGains → Float → Float �
 Delivered before after g u fraction dt = after .«u_act» ≡ finiteOr (lag (before .«u_act») (u ⊗ deliveredFraction fraction) (g .tau) (mendDt dt)) 0·0
 
 pub record ScalesTheLast (source next : Float → Reference) (s : State) (i k : TickInput) : Type 0 where
-  pub roll : Delivered (ticked source s i .state .rate .roll) (ticked next (ticked source s i .state) k .state .rate .roll) (s .rate .roll .g) (ticked source s i .answer .torque .0 .0) (k .fraction .0) (k .dt)
-  pub pitch : Delivered (ticked source s i .state .rate .pitch) (ticked next (ticked source s i .state) k .state .rate .pitch) (s .rate .pitch .g) (ticked source s i .answer .torque .0 .1) (k .fraction .1) (k .dt)
-  pub yaw : Delivered (ticked source s i .state .rate .yaw) (ticked next (ticked source s i .state) k .state .rate .yaw) (s .rate .yaw .g) (ticked source s i .answer .torque .0 .2) (k .fraction .2) (k .dt)
+  pub roll : Delivered (ticked source s i .rate .roll) (ticked next (stateAfter source s i) k .rate .roll) (s .moving .rate .roll .g) (ticked source s i .answer .torque .0 .0) (k .fraction .0) (k .dt)
+  pub pitch : Delivered (ticked source s i .rate .pitch) (ticked next (stateAfter source s i) k .rate .pitch) (s .moving .rate .pitch .g) (ticked source s i .answer .torque .0 .1) (k .fraction .1) (k .dt)
+  pub yaw : Delivered (ticked source s i .rate .yaw) (ticked next (stateAfter source s i) k .rate .yaw) (s .moving .rate .yaw .g) (ticked source s i .answer .torque .0 .2) (k .fraction .2) (k .dt)
 
 pub fraction-scales-the-last-torque : (source next : Float → Reference) (s : State) (i k : TickInput) → ScalesTheLast source next s i k
-unfolding ticked prepare finish follow
+unfolding ticked prepare finish pick rateTick
 fraction-scales-the-last-torque source next s i k =
     record {
-      roll = fraction-scales-the-command-before (axisSetDeliveredFraction (s .rate .roll) (i .fraction .0)) _ _ _ _ _ _ _;
-      pitch = fraction-scales-the-command-before (axisSetDeliveredFraction (s .rate .pitch) (i .fraction .1)) _ _ _ _ _ _ _;
-      yaw = fraction-scales-the-command-before (axisSetDeliveredFraction (s .rate .yaw) (i .fraction .2)) _ _ _ _ _ _ _;
+      roll = fraction-scales-the-command-before (axisSetDeliveredFraction (s .moving .rate .roll) (i .fraction .0)) _ _ _ _ _ _ _;
+      pitch = fraction-scales-the-command-before (axisSetDeliveredFraction (s .moving .rate .pitch) (i .fraction .1)) _ _ _ _ _ _ _;
+      yaw = fraction-scales-the-command-before (axisSetDeliveredFraction (s .moving .rate .yaw) (i .fraction .2)) _ _ _ _ _ _ _;
     }
 
 -- ---- "at its duration (the first axis's t_end) if the time is +infinity", else at the time

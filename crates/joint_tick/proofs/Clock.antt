@@ -8,20 +8,21 @@ use Rattle.relay_math.specs.declared.BodyRate.{BodyRate}
 use Rattle.relay_adrc.specs.declared.axis.AdrcAxis.{AdrcAxis}
 use Rattle.relay_adrc.specs.declared.rate.AdrcRate.{AdrcRate}
 use Rattle.relay_adrc.specs.Axis.{axisTick}
+use Rattle.relay_adrc.specs.Rate.{rateTick, rateSetDeliveredFraction}
 use Rattle.relay_traj.specs.Governor.{advance, Running}
 use Rattle.relay_traj.proofs.Clock.{clock-never-back, no-dt-keeps-number}
 use Rattle.joint_tick.specs.declared.state.State.{State}
 use Rattle.joint_tick.specs.declared.state.TickInput.{TickInput}
 use Rattle.joint_tick.specs.declared.stages.Reference.{Reference}
-use Rattle.joint_tick.specs.Tick.{setFractions, prepare, follow, finish, ticked}
+use Rattle.joint_tick.specs.Tick.{prepare, pick, finish, ticked, stateAfter}
 
 axis-by-1ms : (a : AdrcAxis) (measured wanted dt : Float) → isFinite dt ≡ false → axisTick a measured wanted dt ≡ axisTick a measured wanted 1e-3
 unfolding axisTick isFinite lt ofBits
 axis-by-1ms a measured wanted dt e = rw e
 
-follows-by-1ms : (r : AdrcRate) (measured wanted : BodyRate) (dt : Float) → isFinite dt ≡ false → follow r measured wanted dt ≡ follow r measured wanted 1e-3
-unfolding follow
-follows-by-1ms r m w dt e =
+rate-by-1ms : (r : AdrcRate) (measured wanted : BodyRate) (dt : Float) → isFinite dt ≡ false → rateTick r measured wanted dt ≡ rateTick r measured wanted 1e-3
+unfolding rateTick
+rate-by-1ms r m w dt e =
     rw (axis-by-1ms (r .roll) (m .0 .0) (w .0 .0) dt e, axis-by-1ms (r .pitch) (m .0 .1) (w .0 .1) dt e, axis-by-1ms (r .yaw) (m .0 .2) (w .0 .2) dt e)
 
 no-time : (dt : Float) → isFinite dt ≡ false → finiteAbove 0·0 dt ≡ false
@@ -29,18 +30,19 @@ no-time dt e = rw e
 
 module _ (source : Float → Reference) (s : State) (i : TickInput) where
   -- the time word is the time after the advance, which the state keeps
-  pub tick-time : ticked source s i .answer .time ≡ ticked source s i .state .governor .s
-  unfolding ticked prepare finish advance
+  pub tick-time : ticked source s i .answer .time ≡ stateAfter source s i .moving .governor .s
+  unfolding ticked prepare finish pick advance
   tick-time = refl
 
   -- "Its time never decreases between resets and is never NaN; it may reach +infinity."
-  pub time-never-back : Running (s .governor .s) → T (le (s .governor .s) (ticked source s i .state .governor .s)) × Running (ticked source s i .state .governor .s)
-  unfolding ticked prepare finish advance
-  time-never-back r = clock-never-back (s .governor) (i .«track_err») (i .dt) r
+  pub time-never-back : Running (s .moving .governor .s)
+      → T (le (s .moving .governor .s) (stateAfter source s i .moving .governor .s)) × Running (stateAfter source s i .moving .governor .s)
+  unfolding ticked prepare finish pick advance
+  time-never-back r = clock-never-back (s .moving .governor) (i .«track_err») (i .dt) r
 
   -- "a NaN dt moves ADRC by 1 ms and the governor by nothing"; so does an infinite one.
-  pub one-dt-two-rules : isFinite (i .dt) ≡ false → Running (s .governor .s)
-      → T (eq (s .governor .s) (ticked source s i .state .governor .s))
-      × (ticked source s i .state .rate ≡ follow (setFractions (s .rate) (i .fraction)) (prepare s i .rate) (ticked source s i .answer .command) 1e-3 .rate)
-  unfolding ticked prepare finish advance
-  one-dt-two-rules e r = (no-dt-keeps-number (s .governor) (i .«track_err») (i .dt) (no-time (i .dt) e) r, rw (follows-by-1ms _ _ _ (i .dt) e))
+  pub one-dt-two-rules : isFinite (i .dt) ≡ false → Running (s .moving .governor .s)
+      → T (eq (s .moving .governor .s) (stateAfter source s i .moving .governor .s))
+      × (ticked source s i .rate ≡ rateTick (rateSetDeliveredFraction (s .moving .rate) (i .fraction)) (prepare (s .moving) i .rate) (ticked source s i .answer .command) 1e-3 .rate)
+  unfolding ticked prepare finish pick advance
+  one-dt-two-rules e r = (no-dt-keeps-number (s .moving .governor) (i .«track_err») (i .dt) (no-time (i .dt) e) r, rw (rate-by-1ms _ _ _ (i .dt) e))

@@ -8,6 +8,7 @@ use Rattle.relay_math.specs.F32.{0·0, 1e-3, isFinite}
 use Rattle.laws.proofs.Tests.{no, held}
 use Rattle.relay_math.proofs.Order.{le-is-not-above}
 use Rattle.relay_adrc.specs.Axis.{axisTick}
+use Rattle.relay_adrc.specs.Rate.{rateTick}
 use Rattle.relay_geo.specs.declared.set.RecoverableSet.{RecoverableSet}
 use Rattle.relay_geo.specs.Shield.{newShield}
 use Rattle.relay_geo.proofs.SetUp.{enter-finite-positive, fresh-in-order}
@@ -18,27 +19,25 @@ use Rattle.relay_traj.proofs.Clock.{starts-at-zero}
 use Rattle.relay_traj.proofs.Leg.{segment-lasts}
 use Rattle.joint_tick.specs.declared.state.Leg.{Leg}
 use Rattle.joint_tick.specs.declared.state.SetUp.{SetUp}
+use Rattle.joint_tick.specs.declared.state.Moving.{Moving}
 use Rattle.joint_tick.specs.declared.state.State.{State}
 use Rattle.joint_tick.specs.declared.state.TickInput.{TickInput}
 use Rattle.joint_tick.specs.declared.stages.Reference.{Reference}
 use Rattle.joint_tick.specs.SetUp.{segmentOf, setUp}
-use Rattle.joint_tick.specs.Tick.{prepare, follow, finish, ticked}
-use Rattle.joint_tick.specs.Good.{shieldOk, timeOk, lasts, segmentOk, good}
-use Rattle.joint_tick.proofs.Shielding.{tick-keeps-shield}
+use Rattle.joint_tick.specs.Tick.{prepare, pick, finish, ticked, stateAfter}
+use Rattle.joint_tick.specs.Good.{thresholdsOk, timeOk, lasts, segmentOk, good}
 use Rattle.joint_tick.proofs.Clock.{time-never-back}
 
--- ---- what a tick keeps, beside the shield's set and thresholds (`tick-keeps-shield`)
+-- ---- what a tick keeps of what moves: ADRC's gains. (What is fixed is no part of what it leaves.)
 
-pub record Kept (s t : State) : Type 0 where
-  pub gains : t .gains ≡ s .gains
-  pub segment : t .segment ≡ s .segment
+pub record Kept (s t : Moving) : Type 0 where
   pub roll : t .rate .roll .g ≡ s .rate .roll .g
   pub pitch : t .rate .pitch .g ≡ s .rate .pitch .g
   pub yaw : t .rate .yaw .g ≡ s .rate .yaw .g
 
-pub tick-keeps : (source : Float → Reference) (s : State) (i : TickInput) → Kept s (ticked source s i .state)
-unfolding ticked prepare finish follow axisTick
-tick-keeps source s i = record { gains = refl; segment = refl; roll = refl; pitch = refl; yaw = refl }
+pub tick-keeps : (source : Float → Reference) (s : State) (i : TickInput) → Kept (s .moving) (stateAfter source s i .moving)
+unfolding ticked prepare finish pick rateTick axisTick
+tick-keeps source s i = record { roll = refl; pitch = refl; yaw = refl }
 
 -- ---- row 4 in document 01's words
 
@@ -61,7 +60,7 @@ lasts-says (fin s m e) = le-is-not-above (fin s m e) 1e-3 tt tt
 
 -- A state that a tick takes. That its time is an f32 is no test: every time that a program holds is one.
 pub record Good (s : State) : Type 0 where
-  pub holds : T (fits binary32 (s .governor .s))
+  pub holds : T (fits binary32 (s .moving .governor .s))
   pub ok : good s ≡ true
 
 parts : (a b c : Bool) → (a && b && c) ≡ true → (a ≡ true) × (b ≡ true) × (c ≡ true)
@@ -73,16 +72,17 @@ parts false b c e = no e
 all : {a b c : Bool} → a ≡ true → b ≡ true → c ≡ true → (a && b && c) ≡ true
 all p q r = rw (p, q, r)
 
-pub good-parts : (s : State) → good s ≡ true → (shieldOk (s .shield) ≡ true) × (timeOk (s .governor .s) ≡ true) × (segmentOk (s .segment) ≡ true)
+pub good-parts : (s : State) → good s ≡ true
+    → (thresholdsOk (s .fixed .enter) (s .fixed .exit) ≡ true) × (timeOk (s .moving .governor .s) ≡ true) × (segmentOk (s .fixed .segment) ≡ true)
 unfolding good
-good-parts s e = parts (shieldOk (s .shield)) (timeOk (s .governor .s)) (segmentOk (s .segment)) e
+good-parts s e = parts (thresholdsOk (s .fixed .enter) (s .fixed .exit)) (timeOk (s .moving .governor .s)) (segmentOk (s .fixed .segment)) e
 
 running-ok : {t : Float} → Running t → timeOk t ≡ true
 unfolding timeOk
 running-ok {t} r = is-true (le 0·0 t) (r .from-zero)
 
 -- its time is one that a governor can have
-pub good-runs : {s : State} → Good s → Running (s .governor .s)
+pub good-runs : {s : State} → Good s → Running (s .moving .governor .s)
 unfolding timeOk
 good-runs {s} g = record { holds = g .holds; from-zero = held (good-parts s (g .ok) .1) }
 
@@ -98,23 +98,21 @@ leg-ok l =
     let h = segment-lasts (l .p0) (l .v0) (l .a0) (l .pf) (l .vf) (l .af) (l .t) in
     all (lasts-ok (g .0 .«t_end») (h .0)) (lasts-ok (g .1 .«t_end») (h .1)) (lasts-ok (g .2 .«t_end») (h .2))
 
-fresh-shield-ok : (set : RecoverableSet) (enter exit : Float) → T (fits binary32 enter) → shieldOk (newShield set enter exit) ≡ true
-unfolding shieldOk newShield
-fresh-shield-ok set enter exit f = rw (enter-finite-positive enter exit, fresh-in-order set enter exit f)
+fresh-thresholds-ok : (set : RecoverableSet) (enter exit : Float) → T (fits binary32 enter)
+    → let h = newShield set enter exit in thresholdsOk (h .enter) (h .exit) ≡ true
+unfolding thresholdsOk newShield
+fresh-thresholds-ok set enter exit f = rw (enter-finite-positive enter exit, fresh-in-order set enter exit f)
 
 -- "Every bit pattern is taken; the constructors mend it."
 pub set-up-good : (i : SetUp) → T (fits binary32 (i .enter)) → Good (setUp i)
 unfolding setUp good
 set-up-good i f =
-    record { holds = starts-at-zero .holds; ok = all (fresh-shield-ok (i .set) (i .enter) (i .exit) f) (running-ok starts-at-zero) (leg-ok (i .leg)) }
+    record { holds = starts-at-zero .holds; ok = all (fresh-thresholds-ok (i .set) (i .enter) (i .exit) f) (running-ok starts-at-zero) (leg-ok (i .leg)) }
 
 -- So a run from set-up never meets number 4.
-pub tick-good : (source : Float → Reference) (s : State) (i : TickInput) → Good s → Good (ticked source s i .state)
-unfolding good shieldOk
+pub tick-good : (source : Float → Reference) (s : State) (i : TickInput) → Good s → Good (stateAfter source s i)
+unfolding good
 tick-good source s i g =
     let p = good-parts s (g .ok) in
-    let t = ticked source s i .state in
-    let h : shieldOk (t .shield) ≡ true = rw (tick-keeps-shield source s i) (p .0) in
     let r = time-never-back source s i (good-runs g) .1 in
-    let k : segmentOk (t .segment) ≡ true = rw (tick-keeps source s i .segment) (p .2) in
-    record { holds = r .holds; ok = all h (running-ok r) k }
+    record { holds = r .holds; ok = all (p .0) (running-ok r) (p .2) }

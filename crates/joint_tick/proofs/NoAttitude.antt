@@ -22,7 +22,7 @@ use Rattle.joint_tick.specs.declared.state.State.{State}
 use Rattle.joint_tick.specs.declared.state.TickInput.{TickInput}
 use Rattle.joint_tick.specs.declared.stages.Reference.{Reference}
 use Rattle.joint_tick.specs.declared.stages.Guided.{Guided}
-use Rattle.joint_tick.specs.Tick.{cleaned, desired, prepare, guide, guidance, finish, ticked}
+use Rattle.joint_tick.specs.Tick.{cleaned, desired, prepare, guide, guidance, pick, finish, ticked}
 use Rattle.joint_tick.proofs.Once.{one-attitude}
 use Rattle.joint_tick.proofs.Shielding.{tick-latch, tick-fallback}
 
@@ -65,12 +65,12 @@ pub record Damped (source : Float → Reference) (s : State) (i : TickInput) : T
   pub command : ticked source s i .answer .command ≡ zeros
 
 module _ (source : Float → Reference) (s : State) (i : TickInput) where
-  pub no-attitude-tick : desired (source (prepare s i .time)) i ≡ Refused → Damped source s i
-  unfolding ticked finish guidance
+  pub no-attitude-tick : desired (source (prepare (s .moving) i .time)) i ≡ Refused → Damped source s i
+  unfolding ticked finish pick guidance
   no-attitude-tick e =
-      let g = no-attitude (s .gains) (s .shield .set) (prepare s i .rate) (source (prepare s i .time)) i e in
+      let g = no-attitude (s .fixed .gains) (s .fixed .set) (prepare (s .moving) i .rate) (source (prepare (s .moving) i .time)) i e in
       let m = ap (λ (x : Guided). x .margin) g in
-      let f : ticked source s i .answer .fallback ≡ true = tick-latch source s i ∙ rw m (unknown-engages (s .shield .enter) (s .shield .exit) (s .shield .engaged)) in
+      let f : ticked source s i .answer .fallback ≡ true = tick-latch source s i ∙ rw m (unknown-engages (s .fixed .enter) (s .fixed .exit) (s .moving .engaged)) in
       record {
         margin = m;
         psi = ap (λ (x : Guided). x .psi) g;
@@ -80,7 +80,7 @@ module _ (source : Float → Reference) (s : State) (i : TickInput) where
 
   -- "A non-finite yaw makes the heading vector zero", and so does one beyond the limit: whatever the segment asks for.
   pub bad-heading-tick : T (fits binary32 (i .yaw)) → T (not (inRange (i .yaw))) → Damped source s i
-  bad-heading-tick f far = no-attitude-tick (bad-heading-none (i .yaw) f far (cleaned (source (prepare s i .time)) .acc))
+  bad-heading-tick f far = no-attitude-tick (bad-heading-none (i .yaw) f far (cleaned (source (prepare (s .moving) i .time)) .acc))
 
   -- "Headings that aren't numbers."
   pub nan-heading-tick : i .yaw ≡ nan → Damped source s i

@@ -16,16 +16,15 @@ use Rattle.relay_geo.specs.Controller.{rateToward, desiredRate}
 use Rattle.relay_geo.specs.Set.{margin}
 use Rattle.relay_geo.proofs.Accepts.{shared-attitude, shared-feedforward}
 use Rattle.relay_geo.proofs.Finite.{sanitise3-finite, sanitise3-keeps}
-use Rattle.joint_tick.specs.declared.state.State.{State}
+use Rattle.joint_tick.specs.declared.state.Fixed.{Fixed}
 use Rattle.joint_tick.specs.declared.state.TickInput.{TickInput}
 use Rattle.joint_tick.specs.declared.stages.Reference.{Reference}
 use Rattle.relay_adrc.specs.declared.rate.AdrcRate.{AdrcRate}
+use Rattle.relay_adrc.specs.Rate.{rateTick}
 use Rattle.relay_adrc.proofs.Tick.{tick-in-halves}
 use Rattle.joint_tick.specs.declared.stages.Prepared.{Prepared}
 use Rattle.joint_tick.specs.declared.stages.Guided.{Guided}
-use Rattle.joint_tick.specs.declared.stages.Steered.{Steered}
-use Rattle.joint_tick.specs.declared.stages.Ticked.{Ticked}
-use Rattle.joint_tick.specs.Tick.{prepare, cleaned, plus, rateSq, psiOf, marginOf, referenceAt, guide, guidance, observe, follow, followOn, finish, finishOn, picks, toward, steered, steeredState, ticked, tick}
+use Rattle.joint_tick.specs.Tick.{cleaned, plus, rateSq, psiOf, marginOf, guide, observe, followOn, picked, pick, pickOn}
 
 -- `desired_rate` cleans its acceleration, which is clean already: its R_d is the tick's
 pub one-attitude : (g : GeoGains) (q : Quat) (a : Vec3) (yaw : Float) → desiredRate g q (sanitise3 a) yaw ≡ rateToward g (quatToRotmat q) (thrustAttitude (sanitise3 a) yaw)
@@ -55,31 +54,10 @@ guided-once gains set w wanted i =
 
 -- ---- ADRC's observers go before the guidance, its control after it
 
-pub follow-in-halves : (r : AdrcRate) (m w : BodyRate) (dt : Float) → followOn r (observe r m dt) w ≡ follow r m w dt
-unfolding followOn observe follow
+pub follow-in-halves : (r : AdrcRate) (m w : BodyRate) (dt : Float) → followOn r (observe r m dt) w ≡ rateTick r m w dt
+unfolding followOn observe rateTick
 follow-in-halves r m w dt = rw (tick-in-halves (r .roll) (m .0 .0) (w .0 .0) dt, tick-in-halves (r .pitch) (m .0 .1) (w .0 .1) dt, tick-in-halves (r .yaw) (m .0 .2) (w .0 .2) dt)
 
-pub finish-in-halves : (p : Prepared) (g : Guided) (dt : Float) → finishOn p (observe (p .state .rate) (p .rate) dt) g ≡ finish p g dt
-unfolding finishOn finish
-finish-in-halves p g dt = rw (follow-in-halves (p .state .rate) (p .rate) (picks p g .command) dt)
-
--- ---- a tick is its sample, and what comes after it
-
-pub tick-toward : (source : Float → Reference) (s : State) (i : TickInput) → toward (prepare s i) (source (prepare s i .time)) i ≡ ticked source s i
-unfolding toward ticked guidance prepare
-tick-toward source s i = refl
-
-pub segment-tick-toward : (s : State) (i : TickInput) → toward (prepare s i) (referenceAt (s .segment) (prepare s i .time)) i ≡ tick s i
-unfolding tick
-segment-tick-toward s i = tick-toward (referenceAt (s .segment)) s i
-
--- what was prepared and what was steered make the tick
-pub steered-tick : (source : Float → Reference) (s : State) (i : TickInput) {p : Prepared} {wanted : Reference} {d : Steered}
-    → p ≡ prepare s i → wanted ≡ source (p .time) → d ≡ steered (toward p wanted i)
-    → _≡_ {A = Ticked} record { state = steeredState p d; answer = d .answer } (ticked source s i)
-unfolding toward finish ticked guidance prepare
-steered-tick source s i e f g = rw (g, f, e)
-
-pub prepared-segment : (s : State) (i : TickInput) {p : Prepared} → p ≡ prepare s i → p .state .segment ≡ s .segment
-unfolding prepare
-prepared-segment s i e = rw e
+pub pick-in-halves : (f : Fixed) (p : Prepared) (g : Guided) (dt : Float) → pickOn f p (observe (p .moving .rate) (p .rate) dt) g ≡ pick f p g dt
+unfolding pickOn pick
+pick-in-halves f p g dt = rw (follow-in-halves (p .moving .rate) (p .rate) (picked f p g .command) dt)

@@ -2,13 +2,12 @@
 use mathlib.Core.Bool.{Bool, _&&_}
 use lib.Ieee.{Float, lt, le}
 use Rattle.relay_math.specs.F32.{0·0, 1e-3, isFinite, finiteAbove}
-use Rattle.relay_geo.specs.declared.shield.SimplexShield.{SimplexShield}
 use Rattle.relay_traj.specs.declared.segment.Segment3.{Segment3}
 use Rattle.joint_tick.specs.declared.state.State.{State}
 
 -- enter is finite and above 0, exit above enter
-unfoldable pub shieldOk : SimplexShield → Bool
-shieldOk h = finiteAbove 0·0 (h .enter) && lt (h .enter) (h .exit)
+unfoldable pub thresholdsOk : Float → Float → Bool
+thresholdsOk enter exit = finiteAbove 0·0 enter && lt enter exit
 
 -- a time from 0 on, so no NaN and none below 0
 unfoldable pub timeOk : Float → Bool
@@ -23,5 +22,5 @@ unfolding lasts
 segmentOk g = lasts (g .0 .«t_end») && lasts (g .1 .«t_end») && lasts (g .2 .«t_end»)
 
 unfoldable pub good : State → Bool
-unfolding shieldOk timeOk segmentOk
-good s = shieldOk (s .shield) && timeOk (s .governor .s) && segmentOk (s .segment)
+unfolding thresholdsOk timeOk segmentOk
+good s = thresholdsOk (s .fixed .enter) (s .fixed .exit) && timeOk (s .moving .governor .s) && segmentOk (s .fixed .segment)

@@ -14,11 +14,14 @@ segmentOf leg = segment (leg .p0) (leg .v0) (leg .a0) (leg .pf) (leg .vf) (leg .
 
 unfoldable pub setUp : SetUp → State
 setUp i =
+    let shield = newShield (i .set) (i .enter) (i .exit) in
     record {
-      gains = i .gains;
-      shield = newShield (i .set) (i .enter) (i .exit);
-      governor = governor (i .«err_lo») (i .«err_hi») (i .«g_min»);
-      segment = segmentOf (i .leg);
-      rate = rateNew (i .roll) (i .pitch) (i .yaw);
-      lpf = gyroNew (i .fc) (i .fs);
+      fixed = record { gains = i .gains; set = shield .set; enter = shield .enter; exit = shield .exit; segment = segmentOf (i .leg) };
+      moving =
+          record {
+            engaged = shield .engaged;
+            governor = governor (i .«err_lo») (i .«err_hi») (i .«g_min»);
+            rate = rateNew (i .roll) (i .pitch) (i .yaw);
+            lpf = gyroNew (i .fc) (i .fs);
+          };
     }

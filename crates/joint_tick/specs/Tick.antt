@@ -1,12 +1,12 @@
 -- The joint tick, stage by stage, in document 01's order and with the Rust's own calls. Definitions only.
 use mathlib.Core.Bool.{cond}
 use lib.Ieee.{Float, nan, eq}
-use Rattle.relay_math.specs.declared.Vec3.{Vec3}
 use Rattle.relay_math.specs.declared.BodyRate.{BodyRate}
 use Rattle.relay_math.specs.F32.{_⊕_, ∞}
 use Rattle.relay_adrc.specs.declared.rate.AdrcRate.{AdrcRate}
 use Rattle.relay_adrc.specs.declared.rate.RateTick.{RateTick}
-use Rattle.relay_adrc.specs.Axis.{axisTick, axisObserve, axisAct, axisSetDeliveredFraction}
+use Rattle.relay_adrc.specs.Axis.{axisObserve, axisAct}
+use Rattle.relay_adrc.specs.Rate.{rateTick, rateSetDeliveredFraction}
 use Rattle.relay_adrc.specs.Biquad.{gyroFilter}
 use Rattle.relay_geo.specs.declared.vectors.Mat3.{Mat3}
 use Rattle.relay_geo.specs.declared.attitude.Attitude.{Attitude}
@@ -15,6 +15,7 @@ use Rattle.relay_geo.specs.declared.attitude.Feedforward.{Feedforward}
 use Rattle.relay_geo.specs.declared.attitude.Feedforward.the-variants as rate
 use Rattle.relay_geo.specs.declared.controller.GeoGains.{GeoGains}
 use Rattle.relay_geo.specs.declared.set.RecoverableSet.{RecoverableSet}
+use Rattle.relay_geo.specs.declared.shield.SimplexShield.{SimplexShield}
 use Rattle.relay_geo.specs.declared.shield.Shielded.{Shielded}
 use Rattle.relay_geo.specs.Vectors.{dot, sanitise3}
 use Rattle.relay_geo.specs.Attitude.{quatToRotmat, thrustAttitude, flatnessOmegaFf}
@@ -24,6 +25,8 @@ use Rattle.relay_geo.specs.Shield.{step}
 use Rattle.relay_traj.specs.declared.segment.Segment3.{Segment3}
 use Rattle.relay_traj.specs.Governor.{advance}
 use Rattle.relay_traj.specs.Segment.{duration, eval3}
+use Rattle.joint_tick.specs.declared.state.Fixed.{Fixed}
+use Rattle.joint_tick.specs.declared.state.Moving.{Moving}
 use Rattle.joint_tick.specs.declared.state.State.{State}
 use Rattle.joint_tick.specs.declared.state.TickInput.{TickInput}
 use Rattle.joint_tick.specs.declared.stages.Prepared.{Prepared}
@@ -31,25 +34,22 @@ use Rattle.joint_tick.specs.declared.stages.Reference.{Reference}
 use Rattle.joint_tick.specs.declared.stages.Guided.{Guided}
 use Rattle.joint_tick.specs.declared.stages.Observed3.{Observed3}
 use Rattle.joint_tick.specs.declared.stages.Ticked.{Ticked}
-use Rattle.joint_tick.specs.declared.stages.Steered.{Steered}
+
+-- ---- the two parts of the state
+
+-- the shield has its set and its thresholds in the one and its flag in the other
+abbrev pub shieldOf : State → SimplexShield
+shieldOf s = record { set = s .fixed .set; engaged = s .moving .engaged; enter = s .fixed .enter; exit = s .fixed .exit }
 
 -- ---- prepare: "set the fractions; filter the gyro; advance the governor"
 
-abbrev pub setFractions : AdrcRate → Vec3 → AdrcRate
-setFractions r f =
+unfoldable pub prepare : Moving → TickInput → Prepared
+prepare m i =
+    let rate = rateSetDeliveredFraction (m .rate) (i .fraction) in
+    let filtered = gyroFilter (m .lpf) (i .gyro) in
+    let advanced = advance (m .governor) (i .«track_err») (i .dt) in
     record {
-      roll = axisSetDeliveredFraction (r .roll) (f .0);
-      pitch = axisSetDeliveredFraction (r .pitch) (f .1);
-      yaw = axisSetDeliveredFraction (r .yaw) (f .2);
-    }
-
-unfoldable pub prepare : State → TickInput → Prepared
-prepare s i =
-    let rate = setFractions (s .rate) (i .fraction) in
-    let filtered = gyroFilter (s .lpf) (i .gyro) in
-    let advanced = advance (s .governor) (i .«track_err») (i .dt) in
-    record {
-      state = record { gains = s .gains; shield = s .shield; governor = advanced .governor; segment = s .segment; rate = rate; lpf = filtered .lpf };
+      moving = record { engaged = m .engaged; governor = advanced .governor; rate = rate; lpf = filtered .lpf };
       rate = filtered .rate;
       time = advanced .time;
     }
@@ -104,37 +104,26 @@ guide gains set w wanted i =
       planner = record { 0 = sanitise3 (i .agile .0) };
     }
 
--- ---- finish: "The shield picks, non-finite numbers of the pick made +0.0; ADRC ticks on the filtered gyro, the pick and dt."
+-- ---- pick: "The shield picks, non-finite numbers of the pick made +0.0; ADRC ticks on the filtered gyro, the pick and dt."
 
-unfoldable pub follow : AdrcRate → BodyRate → BodyRate → Float → RateTick
-follow r measured wanted dt =
-    let roll = axisTick (r .roll) (measured .0 .0) (wanted .0 .0) dt in
-    let pitch = axisTick (r .pitch) (measured .0 .1) (wanted .0 .1) dt in
-    let yaw = axisTick (r .yaw) (measured .0 .2) (wanted .0 .2) dt in
-    record {
-      rate = record { roll = roll .axis; pitch = pitch .axis; yaw = yaw .axis };
-      torque = record { 0 = (roll .u, pitch .u, yaw .u) };
-    }
+abbrev pub picked : Fixed → Prepared → Guided → Shielded
+picked f p g = step (shieldOf record { fixed = f; moving = p .moving }) (g .margin) (g .planner) (g .fallback)
 
--- the state and the answer of what was prepared, guided, picked and followed
 abbrev pub together : Prepared → Guided → Shielded → RateTick → Ticked
-together p g picked followed =
-    let s = p .state in
+together p g shielded followed =
     record {
-      state = record { gains = s .gains; shield = picked .shield; governor = s .governor; segment = s .segment; rate = followed .rate; lpf = s .lpf };
+      engaged = shielded .shield .engaged;
+      rate = followed .rate;
       answer =
-          record { torque = followed .torque; command = picked .command; fallback = picked .fallback; time = p .time; psi = g .psi; margin = g .margin };
+          record { torque = followed .torque; command = shielded .command; fallback = shielded .fallback; time = p .time; psi = g .psi; margin = g .margin };
     }
 
-abbrev pub picks : Prepared → Guided → Shielded
-picks p g = step (p .state .shield) (g .margin) (g .planner) (g .fallback)
+unfoldable pub pick : Fixed → Prepared → Guided → Float → Ticked
+pick f p g dt =
+    let shielded = picked f p g in
+    together p g shielded (rateTick (p .moving .rate) (p .rate) (shielded .command) dt)
 
-unfoldable pub finish : Prepared → Guided → Float → Ticked
-finish p g dt =
-    let picked = picks p g in
-    together p g picked (follow (p .state .rate) (p .rate) (picked .command) dt)
-
--- ---- the same with ADRC's tick in its two halves, of which the first needs no pick: `finish-in-halves` of proofs/Once.antt
+-- ---- the same with ADRC's tick in its two halves, of which the first needs no pick: `pick-in-halves` of proofs/Once.antt
 
 unfoldable pub observe : AdrcRate → BodyRate → Float → Observed3
 observe r measured dt =
@@ -154,35 +143,31 @@ followOn r o wanted =
       torque = record { 0 = (roll .u, pitch .u, yaw .u) };
     }
 
-unfoldable pub finishOn : Prepared → Observed3 → Guided → Ticked
-finishOn p o g =
-    let picked = picks p g in
-    together p g picked (followOn (p .state .rate) o (picked .command))
+unfoldable pub pickOn : Fixed → Prepared → Observed3 → Guided → Ticked
+pickOn f p o g =
+    let shielded = picked f p g in
+    together p g shielded (followOn (p .moving .rate) o (shielded .command))
 
 -- ---- the tick, from any source of references, by the time
 
--- what is guided to at this tick
-unfoldable pub guidance : (Float → Reference) → State → TickInput → Guided
-guidance source s i =
-    let p = prepare s i in
-    guide (s .gains) (s .shield .set) (p .rate) (source (p .time)) i
+-- all that comes after the reference
+unfoldable pub finish : Fixed → Prepared → Reference → TickInput → Ticked
+finish f p wanted i = pick f p (guide (f .gains) (f .set) (p .rate) wanted i) (i .dt)
 
 unfoldable pub ticked : (Float → Reference) → State → TickInput → Ticked
-ticked source s i = finish (prepare s i) (guidance source s i) (i .dt)
+ticked source s i =
+    let p = prepare (s .moving) i in
+    finish (s .fixed) p (source (p .time)) i
 
--- the part of it that comes after the sample: `tick-toward` of proofs/Once.antt
-unfoldable pub toward : Prepared → Reference → TickInput → Ticked
-toward p wanted i = finish p (guide (p .state .gains) (p .state .shield .set) (p .rate) wanted i) (i .dt)
+-- what it is guided to
+unfoldable pub guidance : (Float → Reference) → State → TickInput → Guided
+guidance source s i =
+    let p = prepare (s .moving) i in
+    guide (s .fixed .gains) (s .fixed .set) (p .rate) (source (p .time)) i
 
--- the parts of its outcome that are not as they were prepared, and the state of them and of what was prepared: `steered-tick` of proofs/Once.antt
-abbrev pub steered : Ticked → Steered
-steered t = record { shield = t .state .shield; rate = t .state .rate; answer = t .answer }
-
-abbrev pub steeredState : Prepared → Steered → State
-steeredState p d =
-    let s = p .state in
-    record { gains = s .gains; shield = d .shield; governor = s .governor; segment = s .segment; rate = d .rate; lpf = s .lpf }
-
--- the base's: the stored segment's reference
-unfoldable pub tick : State → TickInput → Ticked
-tick s i = ticked (referenceAt (s .segment)) s i
+-- and the state that it leaves: what is fixed stays; the governor and the filters are as they were prepared
+abbrev pub stateAfter : (Float → Reference) → State → TickInput → State
+stateAfter source s i =
+    let p = prepare (s .moving) i in
+    let t = ticked source s i in
+    record { fixed = s .fixed; moving = record { engaged = t .engaged; governor = p .moving .governor; rate = t .rate; lpf = p .moving .lpf } }

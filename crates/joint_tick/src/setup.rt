@@ -1,5 +1,7 @@
 // Set-up: the first state, by the constructors. They mend what is bad, so every bit pattern is taken.
+use crate::state::Fixed;
 use crate::state::Leg;
+use crate::state::Moving;
 use crate::state::SetUp;
 use crate::state::State;
 use relay_adrc::AdrcRate;
@@ -20,12 +22,21 @@ pub fn set_up(input: SetUp) -> State
     ensures { λ r. ⌜ r ≡ setUp input ⌝ }
 {
     let gains = input.gains;
+    let shield = SimplexShield::new(input.set, input.enter, input.exit);
+    let set = shield.set;
     State {
-        gains,
-        shield: SimplexShield::new(input.set, input.enter, input.exit),
-        governor: RefGovernor::new(input.err_lo, input.err_hi, input.g_min),
-        segment: segment_of(input.leg),
-        rate: AdrcRate::new(input.roll, input.pitch, input.yaw),
-        lpf: GyroLpf::new(input.fc, input.fs),
+        fixed: Fixed {
+            gains,
+            set,
+            enter: shield.enter,
+            exit: shield.exit,
+            segment: segment_of(input.leg),
+        },
+        moving: Moving {
+            engaged: shield.engaged,
+            governor: RefGovernor::new(input.err_lo, input.err_hi, input.g_min),
+            rate: AdrcRate::new(input.roll, input.pitch, input.yaw),
+            lpf: GyroLpf::new(input.fc, input.fs),
+        },
     }
 }

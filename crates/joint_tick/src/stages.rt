@@ -1,8 +1,9 @@
-// The joint tick in stages, in document 01's order: prepare, take a reference, guide, finish. (ADRC's tick is taken in its two halves, the
-// observers' before the guidance.) A route's tick has another reference in place
-// of `reference_at` and nothing else; what is guided to depends on R, R_d and the heading in `guide` alone.
+// The joint tick in stages, in document 01's order: prepare, take a reference, finish, which guides, picks and follows. (ADRC's tick is taken in its two
+// halves, the observers' before the guidance.) A route's tick has another reference in place of `reference_at` and nothing else; what is guided to
+// depends on R, R_d and the heading in `guide` alone.
 use crate::state::Answer;
-use crate::state::State;
+use crate::state::Fixed;
+use crate::state::Moving;
 use crate::state::TickInput;
 use relay_adrc::AdrcRate;
 use relay_adrc::Observed;
@@ -25,12 +26,12 @@ use relay_math::Torque;
 use relay_math::Vec3;
 use relay_traj::Segment3;
 ghost use mathlib.Core.Path.{_≡_};
-ghost use Rattle.joint_tick.specs.Tick.{setFractions, prepare, sampleTime, referenceAt, cleaned, plus, rateSq, psiOf, guide, observe, followOn, finishOn, toward, steered, tick};
+ghost use Rattle.joint_tick.specs.Tick.{prepare, sampleTime, referenceAt, cleaned, plus, rateSq, psiOf, guide, observe, followOn, pickOn, finish};
 
-// The state with its fractions, filters and clock moved on, the filtered rate and the governor's time.
+// What moves, with its fractions, filters and clock moved on, the filtered rate and the governor's time.
 #[repr(C)]
 pub struct Prepared {
-    pub state: State,
+    pub moving: Moving,
     pub rate: BodyRate,
     pub time: f32,
 }
@@ -59,52 +60,31 @@ pub struct Observed3 {
     pub yaw: Observed,
 }
 
+// What comes of a tick after it was prepared. All else stays as it was prepared.
 #[repr(C)]
 pub struct Ticked {
-    pub state: State,
-    pub answer: Answer,
-}
-
-// What a tick makes after its sample. All else of the state stays as it was prepared.
-#[repr(C)]
-pub struct Steered {
-    pub shield: SimplexShield,
+    pub engaged: bool,
     pub rate: AdrcRate,
     pub answer: Answer,
 }
 
 // ---- prepare
 
-// The fractions belong to the torque of the tick before: they are set first, and this tick's torque waits for the next ones.
-pub fn set_fractions(rate: AdrcRate, fraction: Vec3) -> AdrcRate
-    ensures { λ r. ⌜ r ≡ setFractions rate fraction ⌝ }
+// The fractions belong to the torque of the tick before: they are set first, and this tick's torque waits for the next ones. dt goes to the governor as
+// it is given, and later to ADRC: each has its own rule for a bad one.
+pub fn prepare(moving: Moving, input: TickInput) -> Prepared
+    ensures { λ r. ⌜ r ≡ prepare moving input ⌝ }
 {
-    AdrcRate {
-        roll: rate.roll.set_delivered_fraction(fraction.0),
-        pitch: rate.pitch.set_delivered_fraction(fraction.1),
-        yaw: rate.yaw.set_delivered_fraction(fraction.2),
-    }
-}
-
-// dt goes to the governor as it is given, and later to ADRC: each has its own rule for a bad one.
-pub fn prepare(state: State, input: TickInput) -> Prepared
-    ensures { λ r. ⌜ r ≡ prepare state input ⌝ }
-{
-    let rate = set_fractions(state.rate, input.fraction);
-    let filtered = state.lpf.filter(input.gyro);
-    let advanced = state.governor.advance(input.track_err, input.dt);
-    let gains = state.gains;
-    let shield = state.shield;
-    let segment = state.segment;
+    let rate = moving.rate.set_delivered_fraction(input.fraction);
+    let filtered = moving.lpf.filter(input.gyro);
+    let advanced = moving.governor.advance(input.track_err, input.dt);
     let governor = advanced.governor;
     let lpf = filtered.lpf;
     let measured = filtered.rate;
     Prepared {
-        state: State {
-            gains,
-            shield,
+        moving: Moving {
+            engaged: moving.engaged,
             governor,
-            segment,
             rate,
             lpf,
         },
@@ -116,7 +96,7 @@ pub fn prepare(state: State, input: TickInput) -> Prepared
 // ---- sample
 
 // `eval` takes a time that is not finite for 0; a clock that ran to +infinity is past the segment's end, so the tick asks for that.
-pub fn sample_time(segment: Segment3, time: f32) -> f32
+fn sample_time(segment: Segment3, time: f32) -> f32
     ensures { λ r. ⌜ r ≡ sampleTime segment time ⌝ }
 {
     if time == f32::from_bits(0x7f80_0000) {
@@ -138,7 +118,7 @@ pub fn reference_at(segment: Segment3, time: f32) -> Reference
 // ---- guide
 
 // Each number that is not finite made +0.0.
-pub fn clean(wanted: Reference) -> Reference
+fn clean(wanted: Reference) -> Reference
     ensures { λ r. ⌜ r ≡ cleaned wanted ⌝ }
 {
     Reference {
@@ -148,7 +128,7 @@ pub fn clean(wanted: Reference) -> Reference
 }
 
 // The sum, and w itself where there is no feedforward: adding +0.0 would turn a -0.0.
-pub fn plus(w: BodyRate, feedforward: Feedforward) -> BodyRate
+fn plus(w: BodyRate, feedforward: Feedforward) -> BodyRate
     ensures { λ r. ⌜ r ≡ plus w feedforward ⌝ }
 {
     let Feedforward::Rate(f) = feedforward else {
@@ -157,13 +137,13 @@ pub fn plus(w: BodyRate, feedforward: Feedforward) -> BodyRate
     BodyRate(Vec3(w.0.0 + f.0.0, w.0.1 + f.0.1, w.0.2 + f.0.2))
 }
 
-pub fn rate_sq(w: BodyRate) -> f32
+fn rate_sq(w: BodyRate) -> f32
     ensures { λ r. ⌜ r ≡ rateSq w ⌝ }
 {
     dot(w.0, w.0)
 }
 
-pub fn psi_of(r: Mat3, r_d: Attitude) -> f32
+fn psi_of(r: Mat3, r_d: Attitude) -> f32
     ensures { λ x. ⌜ x ≡ psiOf r «r_d» ⌝ }
 {
     match r_d {
@@ -174,7 +154,7 @@ pub fn psi_of(r: Mat3, r_d: Attitude) -> f32
 
 // R and R_d are built once, and the length of g - a is taken once: the fallback, psi and the margin share them, bit for bit as the Rust's
 // own calls have them. With no R_d psi is a NaN, of which the margin is minus infinity.
-pub fn guide(
+fn guide(
     gains: GeoGains,
     set: RecoverableSet,
     rate: BodyRate,
@@ -203,7 +183,7 @@ pub fn guide(
 // ---- finish
 
 // What the three observers see. They need nothing of the guidance, so they go before it.
-pub fn observe(rate: AdrcRate, measured: BodyRate, dt: f32) -> Observed3
+fn observe(rate: AdrcRate, measured: BodyRate, dt: f32) -> Observed3
     ensures { λ r. ⌜ r ≡ observe rate measured dt ⌝ }
 {
     let m = measured.0;
@@ -215,7 +195,7 @@ pub fn observe(rate: AdrcRate, measured: BodyRate, dt: f32) -> Observed3
 }
 
 // Axis by axis: a body rate was observed, a body rate is wanted, and a torque comes out.
-pub fn follow(rate: AdrcRate, observed: Observed3, wanted: BodyRate) -> RateTick
+fn follow(rate: AdrcRate, observed: Observed3, wanted: BodyRate) -> RateTick
     ensures { λ r. ⌜ r ≡ followOn rate observed wanted ⌝ }
 {
     let w = wanted.0;
@@ -235,31 +215,25 @@ pub fn follow(rate: AdrcRate, observed: Observed3, wanted: BodyRate) -> RateTick
     }
 }
 
-pub fn finish(prepared: Prepared, observed: Observed3, guided: Guided) -> Ticked
-    ensures { λ r. ⌜ r ≡ finishOn prepared observed guided ⌝ }
+// The shield picks, and ADRC follows the pick.
+fn pick(fixed: Fixed, prepared: Prepared, observed: Observed3, guided: Guided) -> Ticked
+    ensures { λ r. ⌜ r ≡ pickOn fixed prepared observed guided ⌝ }
 {
-    let state = prepared.state;
-    let picked = state
-        .shield
-        .step(guided.margin, guided.planner, guided.fallback);
+    let set = fixed.set;
+    let shield = SimplexShield {
+        set,
+        engaged: prepared.moving.engaged,
+        enter: fixed.enter,
+        exit: fixed.exit,
+    };
+    let picked = shield.step(guided.margin, guided.planner, guided.fallback);
     let command = picked.command;
-    let followed = follow(state.rate, observed, command);
-    let gains = state.gains;
-    let shield = picked.shield;
-    let governor = state.governor;
-    let segment = state.segment;
+    let followed = follow(prepared.moving.rate, observed, command);
     let rate = followed.rate;
-    let lpf = state.lpf;
     let torque = followed.torque;
     Ticked {
-        state: State {
-            gains,
-            shield,
-            governor,
-            segment,
-            rate,
-            lpf,
-        },
+        engaged: picked.shield.engaged,
+        rate,
         answer: Answer {
             torque,
             command,
@@ -271,39 +245,11 @@ pub fn finish(prepared: Prepared, observed: Observed3, guided: Guided) -> Ticked
     }
 }
 
-// ---- the tick
-
-// All of a tick that comes after its sample, whatever the sample was taken of.
-pub fn tick_toward(prepared: Prepared, wanted: Reference, input: TickInput) -> Ticked
-    ensures { λ r. ⌜ r ≡ toward prepared wanted input ⌝ }
+// All of a tick that comes after its reference, whatever that was taken of.
+pub fn finish(fixed: Fixed, prepared: Prepared, wanted: Reference, input: TickInput) -> Ticked
+    ensures { λ r. ⌜ r ≡ finish fixed prepared wanted input ⌝ }
 {
-    let state = prepared.state;
-    let observed = observe(state.rate, prepared.rate, input.dt);
-    let shield = state.shield;
-    let guided = guide(state.gains, shield.set, prepared.rate, wanted, input);
-    finish(prepared, observed, guided)
-}
-
-// The same without what stays as it was prepared: who has that still needs no second copy of it on the stack.
-pub fn steer(prepared: Prepared, wanted: Reference, input: TickInput) -> Steered
-    ensures { λ r. ⌜ r ≡ steered (toward prepared wanted input) ⌝ }
-{
-    let done = tick_toward(prepared, wanted, input);
-    let state = done.state;
-    let shield = state.shield;
-    let rate = state.rate;
-    let answer = done.answer;
-    Steered {
-        shield,
-        rate,
-        answer,
-    }
-}
-
-pub fn tick(state: State, input: TickInput) -> Ticked
-    ensures { λ r. ⌜ r ≡ tick state input ⌝ }
-{
-    let prepared = prepare(state, input);
-    let wanted = reference_at(state.segment, prepared.time);
-    tick_toward(prepared, wanted, input)
+    let observed = observe(prepared.moving.rate, prepared.rate, input.dt);
+    let guided = guide(fixed.gains, fixed.set, prepared.rate, wanted, input);
+    pick(fixed, prepared, observed, guided)
 }

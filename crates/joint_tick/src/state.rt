@@ -5,22 +5,36 @@ use relay_adrc::GyroLpf;
 use relay_geo::GeoGains;
 use relay_geo::Quat;
 use relay_geo::RecoverableSet;
-use relay_geo::SimplexShield;
 use relay_math::BodyRate;
 use relay_math::Torque;
 use relay_math::Vec3;
 use relay_traj::RefGovernor;
 use relay_traj::Segment3;
 
+// What ticks never change.
+#[repr(C)]
+pub struct Fixed {
+    pub gains: GeoGains,
+    pub set: RecoverableSet,
+    pub enter: f32,
+    pub exit: f32,
+    pub segment: Segment3,
+}
+
+// What every tick moves on.
+#[repr(C)]
+pub struct Moving {
+    pub engaged: bool,
+    pub governor: RefGovernor,
+    pub rate: AdrcRate,
+    pub lpf: GyroLpf,
+}
+
 // Everything that goes from tick to tick.
 #[repr(C)]
 pub struct State {
-    pub gains: GeoGains,
-    pub shield: SimplexShield,
-    pub governor: RefGovernor,
-    pub segment: Segment3,
-    pub rate: AdrcRate,
-    pub lpf: GyroLpf,
+    pub fixed: Fixed,
+    pub moving: Moving,
 }
 
 // One leg as it is given: start, end and duration, before mending.

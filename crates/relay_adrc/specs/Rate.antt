@@ -20,7 +20,6 @@ falconQuad =
     (withTau (f32 0x41f0_0000) 3·0 (f32 0x4190_0000) (f32 0x3ccc_cccd))
 
 unfoldable pub rateTick : AdrcRate → BodyRate → BodyRate → Float → RateTick
-unfolding axisTick
 rateTick r omegaMeas omegaD dt =
     let roll = axisTick (r .roll) (omegaMeas .0 .0) (omegaD .0 .0) dt in
     let pitch = axisTick (r .pitch) (omegaMeas .0 .1) (omegaD .0 .1) dt in

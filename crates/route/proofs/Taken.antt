@@ -4,28 +4,18 @@ use mathlib.Core.Bool.{Bool, true, false, not, cond, _&&_, _||_}
 use mathlib.Core.List.{List}
 use Prim.Native.Nat.{ℕ, _+_, _*_, _≤_, _<_}
 use native.Mathlib.Omega.{arith}
-use borrow.Author.Tests.{ltb-false, eqb-true, eqb-false, not-true, not-false}
+use borrow.Author.Tests.{ltb-false, eqb-true, eqb-false, not-false}
 use lib.Dec.{eqb, ltb}
 use lib.ListN.{length}
 use Rattle.laws.proofs.Tests.{no}
-use Rattle.joint_tick.specs.declared.state.TickInput.{TickInput}
-use Rattle.joint_tick.specs.declared.stages.Prepared.{Prepared}
-use Rattle.joint_tick.specs.declared.stages.Reference.{Reference}
-use Rattle.joint_tick.specs.declared.stages.Steered.{Steered}
-use Rattle.joint_tick.specs.Tick.{prepare, toward, steered, steeredState}
-use Rattle.joint_tick.proofs.Once.{steered-tick}
-use Rattle.image.specs.Image.{stateAt, imageOf}
-use Rattle.image.specs.Calls.{inputAt, answerOf}
 use Rattle.image.specs.Layout.{IMAGE-BYTES, INPUT-BYTES, ANSWER-BYTES}
 use Rattle.outcome.specs.declared.Outcome.{Outcome}
 use Rattle.outcome.specs.declared.Outcome.the-variants.{Done, LegCount, RouteLength, LegsApart}
 use Rattle.outcome.specs.Outcomes.{isDone, called}
-use Rattle.calls.specs.Entry.{tickRefusal}
-use Rattle.calls.specs.Ticks.{tickFrom}
+use Rattle.calls.specs.Entry.{tickRefusal, tickFrom}
 use Rattle.calls.proofs.Flown.{sized}
 use Rattle.route.specs.Form.{LEG-BYTES, TRAILER-BYTES, MOST-LEGS, countOf, backOf, allMeet, formRefusal}
-use Rattle.route.specs.Legs.{referenceOn}
-use Rattle.route.specs.Entry.{routeRefusal, onRoute, routeCall}
+use Rattle.route.specs.Entry.{routeRefusal, routeCall}
 
 pub record Taken (image : List ℕ) (inputLen answerLen : ℕ) (route : List ℕ) : Type 0 where
   pub image-length : length image ≡ IMAGE-BYTES
@@ -76,26 +66,9 @@ pub taken-here : (image : List ℕ) (inputLen answerLen : ℕ) (route : List ℕ
     → Taken image inputLen answerLen route
 taken-here image inputLen answerLen route {o} {t} e d n = taken image inputLen answerLen route (rw (← e, ← d) (not-false t n))
 
-module _ (image input route answer : List ℕ) {o : Outcome} {t : Bool} (e : o ≡ routeRefusal image (length input) (length answer) route) (d : t ≡ isDone o) where
-  pub refused : not t ≡ true → called o image answer ≡ routeCall image input route answer
-  unfolding routeCall
-  refused n = rw (← e, ← d, not-true t n)
-
-  pub flew : not t ≡ false → {given : TickInput} {p : Prepared} {wanted : Reference} {s : Steered} {later answered : List ℕ}
-      → given ≡ inputAt input → p ≡ prepare (stateAt image) given → wanted ≡ referenceOn route (countOf route) (p .time) → s ≡ steered (toward p wanted given)
-      → later ≡ imageOf (steeredState p s) → answered ≡ answerOf (s .answer) → called Done later answered ≡ routeCall image input route answer
-  unfolding routeCall onRoute
-  flew n {given} i p w s k l = rw (← e, ← d, not-false t n, ← i, ← steered-tick (onRoute route) (stateAt image) given p w s, k, l)
-
 -- ---- of the call's definition
-
--- for runs: it is a tick from a source of references
-pub route-call : (image input route answer : List ℕ)
-    → routeCall image input route answer ≡ tickFrom (onRoute route) (routeRefusal image (length input) (length answer) route) image input answer
-unfolding routeCall
-route-call image input route answer = refl
 
 pub refused-changes-nothing : (image input route answer : List ℕ) → isDone (routeRefusal image (length input) (length answer) route) ≡ false
     → routeCall image input route answer ≡ called (routeRefusal image (length input) (length answer) route) image answer
-unfolding routeCall
+unfolding routeCall tickFrom
 refused-changes-nothing image input route answer e = rw e

@@ -5,13 +5,9 @@ use mathlib.Core.List.{List}
 use lib.Ieee.{Float}
 use lib.ListN.{length}
 use Rattle.joint_tick.specs.declared.stages.Reference.{Reference}
-use Rattle.joint_tick.specs.Tick.{ticked}
-use Rattle.image.specs.Image.{stateAt, imageOf}
-use Rattle.image.specs.Calls.{inputAt, answerOf}
 use Rattle.outcome.specs.declared.Outcome.{Outcome}
-use Rattle.outcome.specs.declared.Outcome.the-variants.{Done}
-use Rattle.outcome.specs.Outcomes.{isDone, Called, called, calledUnless}
-use Rattle.calls.specs.Entry.{tickRefusal}
+use Rattle.outcome.specs.Outcomes.{isDone, Called}
+use Rattle.calls.specs.Entry.{tickRefusal, tickFrom}
 use Rattle.route.specs.Form.{countOf, formRefusal}
 use Rattle.route.specs.Legs.{referenceOn}
 
@@ -27,7 +23,5 @@ onRoute route time = referenceOn route (countOf route) time
 
 -- the tick of document 01 with the route's sample in place of the segment's
 unfoldable pub routeCall : List ℕ → List ℕ → List ℕ → List ℕ → Called
-unfolding routeRefusal onRoute
-routeCall image input route answer =
-    let t = ticked (onRoute route) (stateAt image) (inputAt input) in
-    calledUnless (routeRefusal image (length input) (length answer) route) (called Done (imageOf (t .state)) (answerOf (t .answer))) image answer
+unfolding routeRefusal onRoute tickFrom
+routeCall image input route answer = tickFrom (onRoute route) (routeRefusal image (length input) (length answer) route) image input answer

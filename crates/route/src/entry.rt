@@ -2,11 +2,8 @@
 use super::form::form_refusal;
 use super::form::leg_count;
 use super::legs::reference_on;
+use image::fixed_at;
 use image::input_at;
-use image::prepared_at;
-use image::put_answer;
-use image::put_steered;
-use joint_tick::steer;
 use outcome::Outcome;
 use outcome::is_done;
 ghost use mathlib.Core.Path.{_≡_};
@@ -24,7 +21,7 @@ pub fn route_refusal(image: &[u8], input_len: usize, answer_len: usize, route: &
     form_refusal(route)
 }
 
-// The base's stages, toward the sample of the leg flown. The image's segment is not looked at.
+// The base's tick, toward the sample of the leg flown. The image's segment is kept and not looked at.
 pub fn route_tick(image: &mut [u8], input: &[u8], route: &[u8], answer: &mut [u8]) -> Outcome
     ensures { λ r. ⌜ called r (now (image .exit)) (now (answer .exit)) ≡ routeCall (now (image .entry)) (now (input .entry)) (now (route .entry)) (now (answer .entry)) ⌝ }
 {
@@ -33,10 +30,10 @@ pub fn route_tick(image: &mut [u8], input: &[u8], route: &[u8], answer: &mut [u8
         return refusal;
     }
     let given = input_at(input);
-    let prepared = prepared_at(image, given);
+    let fixed = fixed_at(image);
+    let prepared = calls::begin(image, given);
     let wanted = reference_on(route, leg_count(route), prepared.time);
-    let done = steer(prepared, wanted, given);
-    put_steered(image, prepared, done);
-    put_answer(answer, done.answer);
+    let done = joint_tick::finish(fixed, prepared, wanted, given);
+    calls::leave(image, answer, fixed, prepared, done);
     Outcome::Done
 }

@@ -15,8 +15,8 @@ use Rattle.joint_tick.proofs.Shielding.{tick-latch}
 use Rattle.outcome.specs.declared.Outcome.the-variants.{Done}
 use Rattle.outcome.specs.Outcomes.{left, Called}
 use Rattle.image.specs.Layout.{ENTER, EXIT, IMAGE-BYTES, SETUP-BYTES}
-use Rattle.image.specs.Image.{shieldAt, stateAt}
-use Rattle.image.specs.Calls.{setupAt, inputAt}
+use Rattle.image.specs.Image.{fixedAt, stateAt}
+use Rattle.image.specs.Inputs.{setupAt, inputAt}
 use Rattle.image.proofs.Decoded.{decode-encode}
 use Rattle.calls.specs.Entry.{setUpRefusal, setUpCall}
 use Rattle.calls.specs.Ticks.{Accepted, marginsIf, shieldOf, stepped, Steps}
@@ -74,10 +74,10 @@ module _ (setup : List ℕ) where
   unfolding start setUp
   start-engaged =
       let i = setupAt setup in
-      ap (λ (s : State). s .shield .engaged) (decode-encode (setUp i) (set-up-fits setup)) ∙ starts-engaged (i .set) (i .enter) (i .exit)
+      ap (λ (s : State). s .moving .engaged) (decode-encode (setUp i) (set-up-fits setup)) ∙ starts-engaged (i .set) (i .enter) (i .exit)
 
   pub thresholds-in-order : lt (enterOf setup) (exitOf setup) ≡ true
-  unfolding stateAt shieldAt
+  unfolding fixedAt
   thresholds-in-order = in-order (start setup) start-accepted
 
   module _ (calls : List Call) where
@@ -89,20 +89,20 @@ module _ (setup : List ℕ) where
 
     -- every later image keeps the thresholds
     pub thresholds-kept : (float image ENTER ≡ enterOf setup) × (float image EXIT ≡ exitOf setup)
-    unfolding stateAt shieldAt
+    unfolding fixedAt
     thresholds-kept = (ap (λ (h : SimplexShield). h .enter) (ran .shield), ap (λ (h : SimplexShield). h .exit) (ran .shield))
 
     module _ (t : Tick) where
       -- the flag at a tick then: the latch of its margin, by whoever had control before ..
       pub latched : done image t .answer .fallback ≡ latch (enterOf setup) (exitOf setup) (shieldOf image .engaged) (guided image t .margin)
-      unfolding guided stateAt shieldAt
+      unfolding guided fixedAt
       latched =
           tick-latch (sourceOn (t .course) image) (stateAt image) (inputAt (t .input))
           ∙ rw (thresholds-kept .0, thresholds-kept .1)
 
       -- .. and so by the margins of the whole run
       pub latched-along : done image t .answer .fallback ≡ engagedAfter (enterOf setup) (exitOf setup) (marginsAlong (start setup) calls ++ guided image t .margin ∷ [])
-      unfolding after stateAt shieldAt
+      unfolding after fixedAt
       latched-along =
           latched
           ∙ rw (ap (λ (h : SimplexShield). h .engaged) (ran .shield), start-engaged)

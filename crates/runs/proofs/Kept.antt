@@ -8,13 +8,12 @@ use lib.ListN.{length, take, drop}
 use lib.Ieee.{Float, le, isNan}
 use Rattle.words.specs.Words.{float}
 use Rattle.relay_math.proofs.Order.{le-trans, le-refl-of}
-use Rattle.relay_geo.specs.Shield.{step}
 use Rattle.relay_traj.specs.Governor.{advance}
 use Rattle.relay_traj.proofs.Clock.{never-nan}
 use Rattle.joint_tick.specs.declared.state.State.{State}
 use Rattle.joint_tick.specs.declared.state.TickInput.{TickInput}
 use Rattle.joint_tick.specs.declared.stages.Reference.{Reference}
-use Rattle.joint_tick.specs.Tick.{prepare, finish, ticked}
+use Rattle.joint_tick.specs.Tick.{prepare, stateAfter}
 use Rattle.image.specs.Layout.{GOVERNOR}
 use Rattle.image.specs.Image.{wordsOfState}
 use Rattle.outcome.specs.Outcomes.{Called}
@@ -42,7 +41,7 @@ clock-over-any-run image (t ∷ more) a =
 
 -- "words 0 to 14 and 17 to 40 are kept": the gains, the set, the thresholds, the governor's band and the segment, whatever a tick flies
 pub words-kept : (source : Float → Reference) (s : State) (i : TickInput)
-    → let t = ticked source s i .state in
+    → let t = stateAfter source s i in
     (take 15 (wordsOfState t) ≡ take 15 (wordsOfState s)) × (take 24 (drop 17 (wordsOfState t)) ≡ take 24 (drop 17 (wordsOfState s)))
-unfolding ticked prepare finish advance step
+unfolding prepare advance
 words-kept source s i = (refl, refl)

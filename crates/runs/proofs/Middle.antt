@@ -8,10 +8,11 @@ use Rattle.words.specs.Words.{word, flag}
 use Rattle.latch.specs.Latch.{releases, engages, latch}
 use Rattle.relay_geo.specs.declared.shield.SimplexShield.{SimplexShield}
 use Rattle.relay_geo.proofs.Steps.{released-only-above-exit, above-exit-releases, engaged-by, released-stays-in-band, engaged-stays-in-band}
-use Rattle.joint_tick.proofs.Shielding.{tick-keeps-shield}
+use Rattle.joint_tick.specs.Tick.{stateAfter}
+use Rattle.joint_tick.proofs.Shielding.{tick-keeps-flag}
 use Rattle.image.specs.Layout.{ENGAGED}
 use Rattle.image.specs.Image.{stateAt}
-use Rattle.image.specs.Calls.{inputAt}
+use Rattle.image.specs.Inputs.{inputAt}
 use Rattle.image.proofs.Decoded.{engaged-written}
 use Rattle.calls.specs.Ticks.{shieldOf}
 use Rattle.calls.proofs.Going.{flag-of-image}
@@ -66,8 +67,8 @@ module _ (setup : List ℕ) where
     -- The image keeps the flag for the next tick.
     pub flag-kept : word (tickOf image t .image) ENGAGED ≡ flagOf image t
     flag-kept =
-        rw (tick-done image t (ran setup calls .accepted) r) (engaged-written (done image t .state))
-        ∙ ap (λ (h : SimplexShield). flag (h .engaged)) (tick-keeps-shield (sourceOn (t .course) image) (stateAt image) (inputAt (t .input)))
+        rw (tick-done image t (ran setup calls .accepted) r) (engaged-written (stateAfter (sourceOn (t .course) image) (stateAt image) (inputAt (t .input))))
+        ∙ ap flag (tick-keeps-flag (sourceOn (t .course) image) (stateAt image) (inputAt (t .input)))
         ∙ sym (flag-shown image t (ran setup calls .accepted) r)
 
   -- at the first tick the fallback's command goes on

@@ -18,22 +18,20 @@ use Rattle.joint_tick.specs.declared.state.TickInput.{TickInput}
 use Rattle.joint_tick.specs.declared.state.State.{State}
 use Rattle.joint_tick.specs.declared.stages.Reference.{Reference}
 use Rattle.joint_tick.specs.declared.stages.Ticked.{Ticked}
-use Rattle.joint_tick.specs.Tick.{guidance, ticked}
+use Rattle.joint_tick.specs.Tick.{guidance, ticked, stateAfter}
 use Rattle.joint_tick.proofs.Shielding.{tick-margin, tick-planner, tick-fallback, planner-is}
 use Rattle.image.specs.Layout.{FLAG, MARGIN, INPUT-BYTES, ANSWER-BYTES}
 use Rattle.image.specs.Image.{stateAt, imageOf}
-use Rattle.image.specs.Calls.{inputAt, answerOf}
+use Rattle.image.specs.Inputs.{inputAt, answerOf}
 use Rattle.image.specs.Fits.{F32}
 use Rattle.image.proofs.Answered.{flag-answered, margin-answered, margin-word, command-words}
 use Rattle.image.proofs.AnswerFits.{margin-fits, command-fits}
 use Rattle.outcome.specs.declared.Outcome.{Outcome}
 use Rattle.outcome.specs.declared.Outcome.the-variants.{Done}
 use Rattle.outcome.specs.Outcomes.{called}
-use Rattle.calls.specs.Entry.{tickRefusal}
-use Rattle.calls.specs.Ticks.{Accepted, tickFrom}
-use Rattle.calls.proofs.Steps.{tick-call}
-use Rattle.route.specs.Entry.{routeRefusal}
-use Rattle.route.proofs.Taken.{route-call}
+use Rattle.calls.specs.Entry.{tickRefusal, tickFrom, tickCall}
+use Rattle.calls.specs.Ticks.{Accepted}
+use Rattle.route.specs.Entry.{routeRefusal, routeCall}
 use Rattle.runs.specs.Runs.{Course, Segment, Route, Tick, flying, tickOf, sourceOn, guided, RightCourse, Right}
 use Rattle.runs.specs.DemandThree.{cleanWord, plannerWords, fallbackWords, commandWords, flagOf, Shows}
 
@@ -79,9 +77,9 @@ refusalOn (Route route) image inputLen answerLen = routeRefusal image inputLen a
 
 pub flying-is : (c : Course) (image input answer : List ℕ)
     → flying c image input answer ≡ tickFrom (sourceOn c image) (refusalOn c image (length input) (length answer)) image input answer
-unfolding flying
-flying-is Segment image input answer = tick-call image input answer
-flying-is (Route route) image input answer = route-call image input route answer
+unfolding flying tickCall routeCall
+flying-is Segment image input answer = refl
+flying-is (Route route) image input answer = refl
 
 not-refused : (c : Course) (image : List ℕ) → Accepted image → RightCourse c → refusalOn c image INPUT-BYTES ANSWER-BYTES ≡ Done
 unfolding routeRefusal
@@ -128,7 +126,8 @@ module _ (image : List ℕ) (t : Tick) where
       (margin-word (done .answer) f ∙ ap bits e, margin-answered (done .answer) f ∙ e)
 
   module _ (a : Accepted image) (r : Right t) where
-    pub tick-done : tickOf image t ≡ called Done (imageOf (done .state)) answers
+    pub tick-done : tickOf image t ≡ called Done (imageOf (stateAfter source s i)) answers
+    unfolding tickFrom
     tick-done = flying-is (t .course) image (t .input) (t .answer) ∙ rw (r .0, r .1, not-refused (t .course) image a (r .2))
 
     pub flag-shown : flagOf image t ≡ flag (done .answer .fallback)

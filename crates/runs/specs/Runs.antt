@@ -10,11 +10,11 @@ use Rattle.joint_tick.specs.SetUp.{setUp}
 use Rattle.joint_tick.specs.Tick.{guidance}
 use Rattle.image.specs.Layout.{INPUT-BYTES, ANSWER-BYTES}
 use Rattle.image.specs.Image.{stateAt, imageOf}
-use Rattle.image.specs.Calls.{setupAt, inputAt}
+use Rattle.image.specs.Inputs.{setupAt, inputAt}
 use Rattle.outcome.specs.declared.Outcome.the-variants.{Done}
 use Rattle.outcome.specs.Outcomes.{Called}
-use Rattle.calls.specs.Entry.{tickCall}
-use Rattle.calls.specs.Ticks.{onSegment, marginsIf}
+use Rattle.calls.specs.Entry.{onSegment, tickCall}
+use Rattle.calls.specs.Ticks.{marginsIf}
 use Rattle.route.specs.Form.{formRefusal}
 use Rattle.route.specs.Entry.{onRoute, routeCall}
 

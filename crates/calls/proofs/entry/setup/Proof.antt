@@ -21,8 +21,8 @@ setup-spec =
     (λ c. search needs)
     (λ c. simp (
       c .before .before .put-state .ensures,
-      c .before .before .before .set-up .ensures,
-      ← c .before .before .before .before .setup-at .ensures,
+      c .before .before .before .before .set-up .ensures,
+      ← c .before .before .before .before .before .setup-at .ensures,
       eq-eqb _ _ (c .before .before .before .before .before .before .if2 .left),
       eq-eqb _ _ (c .before .before .before .before .before .before .before .if1 .left),
     )))

@@ -8,4 +8,4 @@ unfolding setUp
 set-up-spec =
     tie.close
     (tie.spec (λ c κs. search needs) (λ c κs. search needs) (λ c κs. search needs) (λ c κs. search needs) (λ c κs. search needs)
-    (λ c. simp (c .new4 .ensures, c .before .new3 .ensures, c .before .before .segment-of .ensures, c .before .before .before .new2 .ensures, c .before .before .before .before .new .ensures)))
+    (λ c. simp (c .new4 .ensures, c .before .new3 .ensures, c .before .before .new2 .ensures, c .before .before .before .segment-of .ensures, c .before .before .before .before .before .new .ensures)))

@@ -1,8 +1,8 @@
 use borrow.Author.Needs.{needs}
 use native.Mathlib.Omega.{arith}
-use Rattle.image.specs.Calls.{setupAt}
-use Rattle.image.proofs.calls.setup_at.Statement.{statement}
-use Rattle.image.proofs.calls.setup_at.Tie as tie
+use Rattle.image.specs.Inputs.{setupAt}
+use Rattle.image.proofs.inputs.setup_at.Statement.{statement}
+use Rattle.image.proofs.inputs.setup_at.Tie as tie
 
 pub setup-at-spec : {M : Type 1} → statement M
 unfolding setupAt

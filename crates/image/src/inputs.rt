@@ -40,7 +40,7 @@ use words::vec_at;
 ghost use mathlib.Core.Path.{_≡_};
 ghost use lib.ListN.{length};
 ghost use Rattle.image.specs.Layout.{SETUP-BYTES, INPUT-BYTES, ANSWER-BYTES};
-ghost use Rattle.image.specs.Calls.{setupAt, inputAt, answerOf};
+ghost use Rattle.image.specs.Inputs.{setupAt, inputAt, answerOf};
 
 // Every bit pattern is taken: what is bad is mended later, by the constructors.
 pub fn setup_at(input: &[u8]) -> SetUp

@@ -1,9 +1,9 @@
 use borrow.Author.Needs.{needs}
 use mathlib.Core.Path.{refl}
 use Rattle.words.proofs.Written.{then, whole}
-use Rattle.image.specs.Calls.{answerOf}
-use Rattle.image.proofs.calls.put_answer.Statement.{statement}
-use Rattle.image.proofs.calls.put_answer.Tie as tie
+use Rattle.image.specs.Inputs.{answerOf}
+use Rattle.image.proofs.inputs.put_answer.Statement.{statement}
+use Rattle.image.proofs.inputs.put_answer.Tie as tie
 
 pub put-answer-spec : {M : Type 1} → statement M
 unfolding answerOf

@@ -1,7 +1,7 @@
 use borrow.Author.Needs.{needs}
-use Rattle.image.specs.Calls.{inputAt}
-use Rattle.image.proofs.calls.input_at.Statement.{statement}
-use Rattle.image.proofs.calls.input_at.Tie as tie
+use Rattle.image.specs.Inputs.{inputAt}
+use Rattle.image.proofs.inputs.input_at.Statement.{statement}
+use Rattle.image.proofs.inputs.input_at.Tie as tie
 
 pub input-at-spec : {M : Type 1} → statement M
 unfolding inputAt

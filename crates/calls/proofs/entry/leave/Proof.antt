@@ -1,0 +1,14 @@
+use borrow.Author.Needs.{needs}
+use Rattle.calls.proofs.entry.leave.Statement.{statement}
+use Rattle.calls.proofs.entry.leave.Tie as tie
+
+returns : tie.Need-returns
+returns c =
+    let answered = c .before .before in
+    let written = answered .before .before .before .before in
+    record { image = written .put-state .ensures; answer = answered .put-answer .ensures }
+
+pub leave-spec : {M : Type 1} → statement M
+leave-spec =
+    tie.close
+    (tie.spec (λ c κs. search needs) (λ c κs. search needs) (λ c. search needs) (λ c. search needs) returns)

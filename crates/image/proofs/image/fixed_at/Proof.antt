@@ -1,0 +1,17 @@
+use borrow.Author.Needs.{needs}
+use Rattle.image.specs.Image.{fixedAt}
+use Rattle.image.proofs.image.fixed_at.Statement.{statement}
+use Rattle.image.proofs.image.fixed_at.Tie as tie
+
+pub fixed-at-spec : {M : Type 1} → statement M
+unfolding fixedAt
+fixed-at-spec =
+    tie.close
+    (tie.spec (λ c κs. search needs) (λ c κs. search needs) (λ c κs. search needs) (λ c κs. search needs) (λ c κs. search needs)
+    (λ c. simp (
+      c .segment-at .ensures,
+      c .before .float-at2 .ensures,
+      c .before .before .float-at .ensures,
+      c .before .before .before .set-at .ensures,
+      c .before .before .before .before .gains-at .ensures,
+    )))

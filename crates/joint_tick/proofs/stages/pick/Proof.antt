@@ -1,0 +1,11 @@
+use borrow.Author.Needs.{needs}
+use Rattle.joint_tick.specs.Tick.{pickOn}
+use Rattle.joint_tick.proofs.stages.pick.Statement.{statement}
+use Rattle.joint_tick.proofs.stages.pick.Tie as tie
+
+pub pick-spec : {M : Type 1} → statement M
+unfolding pickOn
+pick-spec =
+    tie.close
+    (tie.spec (λ c κs. search needs) (λ c κs. search needs)
+    (λ c. let f = c .before .before in simp (f .follow .ensures, f .before .before .step .ensures)))

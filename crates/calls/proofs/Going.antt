@@ -1,12 +1,11 @@
 -- Runs exist and go on for ever: the image that set-up writes is never refused, nor the one that an accepted tick writes. Assumes nothing.
-use mathlib.Core.Path.{_≡_, refl}
-use mathlib.Core.Bool.{Bool, true, false, _||_, _&&_, cond}
+use mathlib.Core.Path.{_≡_, refl, ap}
+use mathlib.Core.Bool.{Bool, true, false, _||_, _&&_}
 use mathlib.Core.List.{List}
 use Prim.Native.Nat.{ℕ}
 use lib.Dec.{T, eqb}
-use borrow.Author.Tests.{eqb-true}
+use borrow.Author.Tests.{eqb-true, not-false}
 use lib.Ieee.{Float, binary32, fits, lt}
-use lib.ListN.{length}
 use Rattle.words.specs.Words.{word, vec, flag}
 use Rattle.words.proofs.Back.{float-fits}
 use Rattle.relay_math.specs.F32.{0·0, isFinite}
@@ -18,12 +17,13 @@ use Rattle.joint_tick.specs.SetUp.{setUp, segmentOf}
 use Rattle.joint_tick.specs.Tick.{ticked, prepare, pick, finish, stateAfter}
 use Rattle.joint_tick.specs.Good.{thresholdsOk, good}
 use Rattle.joint_tick.proofs.Kept.{Good, good-parts, set-up-good, tick-good}
-use Rattle.outcome.specs.declared.Outcome.the-variants.{Done, ImageLength, BrokenImage}
-use Rattle.image.specs.Layout.{COUNT, ENGAGED, IMAGE-WORDS, IMAGE-BYTES, SETUP-ENTER}
+use Rattle.outcome.specs.Outcomes.{isDone}
+use Rattle.outcome.proofs.Tables.{done-none}
+use Rattle.image.specs.Layout.{COUNT, ENGAGED, IMAGE-WORDS, INPUT-BYTES, ANSWER-BYTES, SETUP-ENTER}
 use Rattle.image.specs.Parts.{gainsAt, setAt, legAt, adrcGainsAt}
 use Rattle.image.specs.Image.{fixedAt, movingAt, stateAt, imageOf}
 use Rattle.image.specs.Inputs.{setupAt, inputAt}
-use Rattle.calls.specs.Entry.{intact, tickRefusal}
+use Rattle.calls.specs.Entry.{intact, tickTable, tickRefusal}
 use Rattle.calls.specs.Ticks.{Accepted}
 use Rattle.image.specs.Fits.{Fits}
 use Rattle.image.proofs.Decoded.{image-length, count-written, engaged-written, decode-encode, state-fits}
@@ -82,10 +82,9 @@ set-up-never-refused b = taken (setUp (setupAt b)) (set-up-fits b) (set-up-good 
 
 -- ---- what an accepted image has
 
-accepted : (a b : Bool) → cond a (cond b Done BrokenImage) ImageLength ≡ Done → b ≡ true
-accepted true true e = refl
-accepted true false e = cc
-accepted false b e = cc
+sound : (image : List ℕ) → Accepted image → intact image ≡ true
+unfolding tickRefusal
+sound image e = not-false (intact image) (done-none (tickTable image INPUT-BYTES ANSWER-BYTES) refl (ap isDone e) 3)
 
 last : (x y z : Bool) → (x && y && z) ≡ true → z ≡ true
 last true true true e = refl
@@ -95,12 +94,12 @@ last false y z e = no e
 
 pub good-image : (image : List ℕ) → Accepted image → Good (stateAt image)
 unfolding tickRefusal intact
-good-image image e = record { holds = state-fits image .governor .0; ok = last (eqb (word image COUNT) IMAGE-WORDS) (eqb (word image ENGAGED) 0 || eqb (word image ENGAGED) 1) (good (stateAt image)) (accepted (eqb (length image) IMAGE-BYTES) (intact image) e) }
+good-image image e = record { holds = state-fits image .governor .0; ok = last (eqb (word image COUNT) IMAGE-WORDS) (eqb (word image ENGAGED) 0 || eqb (word image ENGAGED) 1) (good (stateAt image)) (sound image e) }
 
 -- its flag is in its word
 pub flag-of-image : (image : List ℕ) → Accepted image → word image ENGAGED ≡ flag (movingAt image .engaged)
 unfolding tickRefusal intact movingAt
-flag-of-image image e = bit (word image ENGAGED) (middle (eqb (word image COUNT) IMAGE-WORDS) (eqb (word image ENGAGED) 0 || eqb (word image ENGAGED) 1) (good (stateAt image)) (accepted (eqb (length image) IMAGE-BYTES) (intact image) e))
+flag-of-image image e = bit (word image ENGAGED) (middle (eqb (word image COUNT) IMAGE-WORDS) (eqb (word image ENGAGED) 0 || eqb (word image ENGAGED) 1) (good (stateAt image)) (sound image e))
   where
     middle : (x y z : Bool) → (x && y && z) ≡ true → y ≡ true
     middle true true z e = refl

@@ -1,7 +1,7 @@
 -- Of each public function here: no second answer fits its promise. Assumes nothing.
 use mathlib.Core.Path.{refl, ap}
 use Rattle.laws.proofs.Determined.{OneAnswer, no-second, both}
-use Rattle.outcome.specs.Outcomes.{Left, Called}
+use Rattle.outcome.specs.Outcomes.{Filled, Called}
 use Rattle.calls.proofs.entry
 
 pub tick-refusal-once : OneAnswer entry.tick_refusal.ended entry.tick_refusal.Reads.Post
@@ -10,7 +10,7 @@ tick-refusal-once κs a x y v w p q = (no-second p q, refl)
 pub setup-once : OneAnswer entry.setup.ended entry.setup.Reads.Post
 setup-once κs a x y v w p q =
     let e = no-second p q in
-    (ap (λ (l : Left). l .outcome) e, both (ap (λ (l : Left). l .buffer) e) refl)
+    (ap (λ (l : Filled). l .outcome) e, both (ap (λ (l : Filled). l .later) e) refl)
 
 pub begin-once : OneAnswer entry.begin.ended entry.begin.Reads.Post
 begin-once κs a x y v w p q = (no-second p q, refl)
@@ -21,4 +21,4 @@ leave-once κs a x y v w p q = (refl, both (no-second (p .image) (q .image)) (bo
 pub tick-once : OneAnswer entry.tick.ended entry.tick.Reads.Post
 tick-once κs a x y v w p q =
     let e = no-second p q in
-    (ap (λ (c : Called). c .outcome) e, both (ap (λ (c : Called). c .image) e) (both refl (both (ap (λ (c : Called). c .answer) e) refl)))
+    (ap (λ (c : Called). c .outcome) e, both (ap (λ (c : Called). c .later .image) e) (both refl (both (ap (λ (c : Called). c .later .answer) e) refl)))

@@ -17,7 +17,7 @@ use Rattle.joint_tick.specs.Tick.{referenceAt, ticked, stateAfter}
 use Rattle.joint_tick.proofs.Shielding.{tick-keeps-flag}
 use Rattle.joint_tick.proofs.NoAttitude.{nan-heading-tick}
 use Rattle.outcome.specs.declared.Outcome.the-variants.{Done}
-use Rattle.outcome.specs.Outcomes.{Left, left, Called, called}
+use Rattle.outcome.specs.Outcomes.{left, Filled, lent, Called}
 use Rattle.image.specs.Layout.{COUNT, ENGAGED, FLAG, SETUP-BYTES, INPUT-BYTES}
 use Rattle.image.specs.Image.{stateAt, imageOf}
 use Rattle.image.specs.Inputs.{setupAt, inputAt, answerOf}
@@ -43,7 +43,7 @@ unfolding setUpCall setUpRefusal
 set-up-accepted b e = rw e
 
 tick-accepted : (image input : List ℕ) → Accepted image → length input ≡ INPUT-BYTES
-    → tickCall image input blankAnswer ≡ called Done (leaves image input) (answerOf (tick image input .answer))
+    → tickCall image input blankAnswer ≡ left Done (lent (leaves image input) (answerOf (tick image input .answer)))
 unfolding tickCall tickFrom leaves
 tick-accepted image input a e = rw (e, a)
 
@@ -102,17 +102,17 @@ module _ (p : Program) (k : Keeps p) where
   sets-up = k .setUp blankImage levelSetUp ∙ set-up-accepted levelSetUp refl
 
   ticks : (image input : List ℕ) → Accepted image → length input ≡ INPUT-BYTES
-      → p .tick image input blankAnswer ≡ called Done (leaves image input) (answerOf (tick image input .answer))
+      → p .tick image input blankAnswer ≡ left Done (lent (leaves image input) (answerOf (tick image input .answer)))
   ticks image input a e = k .tick image input blankAnswer ∙ tick-accepted image input a e
 
   flag-is : (image input : List ℕ) → Accepted image → length input ≡ INPUT-BYTES → word (answered p image input) FLAG ≡ flag (flagOf image input)
   flag-is image input a e =
-      ap (λ (c : Called). word (c .answer) FLAG) (ticks image input a e)
+      ap (λ (c : Called). word (c .later .answer) FLAG) (ticks image input a e)
       ∙ flag-answered (tick image input .answer)
 
   -- "refusing all calls": demand 2, the table says when
   pub not-refusing-set-ups : ¬ (RefusesSetUps p)
-  not-refusing-set-ups r = r .never blankImage levelSetUp (ap (λ (l : Left). l .outcome) sets-up)
+  not-refusing-set-ups r = r .never blankImage levelSetUp (ap (λ (l : Filled). l .outcome) sets-up)
 
   pub not-refusing-ticks : ¬ (RefusesTicks p)
   not-refusing-ticks r = r .never fresh levelInput blankAnswer (ap (λ (c : Called). c .outcome) (ticks fresh levelInput fresh-taken refl))
@@ -135,28 +135,28 @@ module _ (p : Program) (k : Keeps p) where
 
   -- "the image untouched": demand 2, set-up writes its count, and a tick that releases the shield writes that
   pub not-leaving-set-up : ¬ (LeavesSetUp p)
-  not-leaving-set-up r = counted (sym (r .always blankImage levelSetUp) ∙ ap (λ (l : Left). l .buffer) sets-up)
+  not-leaving-set-up r = counted (sym (r .always blankImage levelSetUp) ∙ ap (λ (l : Filled). l .later) sets-up)
 
   pub not-leaving-ticked : ¬ (LeavesTicked p)
   not-leaving-ticked r =
-      let same : leaves fresh levelInput ≡ fresh = sym (ap (λ (c : Called). c .image) (ticks fresh levelInput fresh-taken refl)) ∙ r .always fresh levelInput blankAnswer in
+      let same : leaves fresh levelInput ≡ fresh = sym (ap (λ (c : Called). c .later .image) (ticks fresh levelInput fresh-taken refl)) ∙ r .always fresh levelInput blankAnswer in
       suc-ne-zero 0 (sym engaged-before ∙ ap (λ (b : List ℕ). word b ENGAGED) (sym same) ∙ released-after)
 
   -- "works at the first tick and echoes it later": demand 3, however late
   taken-on : (n : ℕ) (image : List ℕ) → Accepted image → Accepted (ran p image (replicate n levelInput))
   unfolding leaves
   taken-on zero image a = a
-  taken-on (suc n) image a = taken-on n (p .tick image levelInput blankAnswer .image)
-      (subst Accepted (sym (ap (λ (c : Called). c .image) (ticks image levelInput a refl))) (tick-never-refused (onSegment image) image levelInput a))
+  taken-on (suc n) image a = taken-on n (p .tick image levelInput blankAnswer .later .image)
+      (subst Accepted (sym (ap (λ (c : Called). c .later .image) (ticks image levelInput a refl))) (tick-never-refused (onSegment image) image levelInput a))
 
   pub not-echoing : (n : ℕ) → ¬ (EchoesAfter p n)
   not-echoing n r = suc-ne-zero 0 (sym lost ∙ ap (λ (b : List ℕ). word b FLAG) (r .again levelSetUp levelInput lostInput refl refl refl) ∙ flown)
     where
       start : List ℕ
-      start = p .setUp blankImage levelSetUp .buffer
+      start = p .setUp blankImage levelSetUp .later
 
       is-fresh : start ≡ fresh
-      is-fresh = ap (λ (l : Left). l .buffer) sets-up
+      is-fresh = ap (λ (l : Filled). l .later) sets-up
 
       start-taken : Accepted start
       start-taken = subst Accepted (sym is-fresh) fresh-taken

@@ -1,7 +1,6 @@
 -- What a tick on bytes does in a run, from any source of references and refused for anything: it steps the shield by its margin, or keeps it, and its
 -- clock does not go back. A call that is such a tick needs no other lemma about runs. Assumes nothing.
 use mathlib.Core.Path.{_≡_, refl, ap, _∙_}
-use mathlib.Core.Bool.{Bool, true, false, cond}
 use mathlib.Core.List.{List, [], _∷_}
 use Prim.Native.Nat.{ℕ}
 use lib.Dec.{T}
@@ -14,18 +13,18 @@ use Rattle.relay_traj.proofs.Clock.{never-nan}
 use Rattle.joint_tick.specs.declared.state.State.{State}
 use Rattle.joint_tick.specs.declared.state.TickInput.{TickInput}
 use Rattle.joint_tick.specs.declared.stages.Reference.{Reference}
-use Rattle.joint_tick.specs.Tick.{guidance, ticked, stateAfter}
+use Rattle.joint_tick.specs.Tick.{guidance, stateAfter}
 use Rattle.joint_tick.specs.Tick.{shieldOf as shieldOfState}
 use Rattle.joint_tick.proofs.Shielding.{tick-latch, tick-keeps-flag}
 use Rattle.joint_tick.proofs.Kept.{good-runs}
 use Rattle.joint_tick.proofs.Clock.{time-never-back}
 use Rattle.outcome.specs.declared.Outcome.{Outcome}
-use Rattle.outcome.specs.declared.Outcome.the-variants.{Done}
-use Rattle.outcome.specs.Outcomes.{isDone, Called, called, calledUnless}
+use Rattle.outcome.specs.Outcomes.{Called}
+use Rattle.outcome.proofs.Tables.{either}
 use Rattle.image.specs.Layout.{GOVERNOR}
 use Rattle.image.specs.Parts.{governorAt}
 use Rattle.image.specs.Image.{movingAt, stateAt, imageOf}
-use Rattle.image.specs.Inputs.{inputAt, answerOf}
+use Rattle.image.specs.Inputs.{inputAt}
 use Rattle.image.proofs.Decoded.{decode-encode, time-written, state-fits}
 use Rattle.calls.specs.Entry.{tickFrom}
 use Rattle.calls.specs.Ticks.{Accepted, marginsIf, shieldOf, stepped, Steps}
@@ -35,15 +34,6 @@ use Rattle.calls.proofs.Going.{tick-fits, good-image, tick-never-refuse
 pub image-runs : (image : List ℕ) → Accepted image → Running (float image GOVERNOR)
 unfolding movingAt governorAt
 image-runs image a = good-runs (good-image image a)
-
--- what holds of an accepted call and of a refused one holds of a call
-either-way : (P : Called → Type 0) (o : Outcome) (accepted : Called) (image answer : List ℕ) → P accepted → (isDone o ≡ false → P (called o image answer))
-    → P (calledUnless o accepted image answer)
-either-way P o accepted image answer d r = go (isDone o) refl
-  where
-    go : (t : Bool) → isDone o ≡ t → P (cond t accepted (called o image answer))
-    go true e = d
-    go false e = r e
 
 module _ (source : Float → Reference) (o : Outcome) (image input answer : List ℕ) (a : Accepted image) where
   abbrev s : State
@@ -55,29 +45,26 @@ module _ (source : Float → Reference) (o : Outcome) (image input answer : List
   abbrev next : State
   next = stateAfter source s i
 
-  abbrev done : Called
-  done = called Done (imageOf next) (answerOf (ticked source s i .answer))
-
   abbrev m : Float
   m = guidance source s i .margin
 
-  shield-left : shieldOf (done .image) ≡ stepped (shieldOf image) (m ∷ [])
+  shield-left : shieldOf (imageOf next) ≡ stepped (shieldOf image) (m ∷ [])
   unfolding after
   shield-left =
       ap shieldOfState (decode-encode next (tick-fits source s input (state-fits image)))
       ∙ rw (tick-keeps-flag source s i, tick-latch source s i)
 
-  pub tick-steps : Steps (marginsIf (tickFrom source o image input answer) m) image (tickFrom source o image input answer .image)
+  pub tick-steps : Steps (marginsIf (tickFrom source o image input answer) m) image (tickFrom source o image input answer .later .image)
   unfolding after tickFrom
   tick-steps =
-      either-way (λ (c : Called). Steps (marginsIf c m) image (c .image)) o done image answer
-      record { accepted = tick-never-refused source image input a; shield = shield-left }
+      either (λ (c : Called). Steps (marginsIf c m) image (c .later .image)) o
+      (λ e. record { accepted = tick-never-refused source image input a; shield = shield-left })
       (λ e. rw e record { accepted = a; shield = refl })
 
-  pub tick-clock : T (le (float image GOVERNOR) (float (tickFrom source o image input answer .image) GOVERNOR))
+  pub tick-clock : T (le (float image GOVERNOR) (float (tickFrom source o image input answer .later .image) GOVERNOR))
   unfolding movingAt governorAt tickFrom
   tick-clock =
       let written = time-written next (tick-fits source s input (state-fits image) .governor .0) in
-      either-way (λ (c : Called). T (le (float image GOVERNOR) (float (c .image) GOVERNOR))) o done image answer
-      (rw written (time-never-back source s i (good-runs (good-image image a)) .0))
+      either (λ (c : Called). T (le (float image GOVERNOR) (float (c .later .image) GOVERNOR))) o
+      (λ e. rw written (time-never-back source s i (good-runs (good-image image a)) .0))
       (λ e. le-refl-of _ (never-nan (image-runs image a)))

@@ -1,8 +1,8 @@
 -- Set-up and tick on lent bytes: what is refused, and what each call leaves (document 01's table). Definitions only.
 use Prim.Native.Nat.{ℕ}
 use mathlib.Core.Path.{_≡_}
-use mathlib.Core.Bool.{Bool, _&&_, _||_, cond}
-use mathlib.Core.List.{List}
+use mathlib.Core.Bool.{Bool, not, _&&_, _||_}
+use mathlib.Core.List.{List, [], _∷_}
 use lib.Dec.{eqb}
 use lib.Ieee.{Float}
 use lib.ListN.{length}
@@ -18,44 +18,54 @@ use Rattle.image.specs.Layout.{COUNT, ENGAGED, IMAGE-WORDS, IMAGE-BYTES, SETUP-
 use Rattle.image.specs.Image.{fixedAt, stateAt, imageOf}
 use Rattle.image.specs.Inputs.{setupAt, inputAt, answerOf}
 use Rattle.outcome.specs.declared.Outcome.{Outcome}
-use Rattle.outcome.specs.declared.Outcome.the-variants.{Done, ImageLength, InputLength, AnswerLength, BrokenImage}
-use Rattle.outcome.specs.Outcomes.{Left, left, leftUnless, Called, called, calledUnless}
+use Rattle.outcome.specs.declared.Outcome.the-variants.{ImageLength, InputLength, AnswerLength, BrokenImage}
+use Rattle.outcome.specs.Outcomes.{Table, firstOf, differs, leftUnless, Filled, lent, Called}
 
--- ---- what is refused: the lowest number that applies
+-- ---- what is refused: the first row that holds, and so the lowest number
 
 -- row 4's tests: its count is its own, its flag is 0 or 1, and a tick takes its state
 unfoldable pub intact : List ℕ → Bool
 intact b = eqb (word b COUNT) IMAGE-WORDS && (eqb (word b ENGAGED) 0 || eqb (word b ENGAGED) 1) && good (stateAt b)
 
-unfoldable pub setUpRefusal : ℕ → ℕ → Outcome
-setUpRefusal imageLen inputLen = cond (eqb imageLen IMAGE-BYTES) (cond (eqb inputLen SETUP-BYTES) Done InputLength) ImageLength
+-- of set-up, which does not look at the image's bytes
+abbrev pub setUpTable : ℕ → List ℕ → Table
+setUpTable imageLen input = (differs imageLen IMAGE-BYTES, ImageLength) ∷ (differs (length input) SETUP-BYTES, InputLength) ∷ []
+
+-- of a tick, which is refused whatever its input's bytes are
+abbrev pub tickTable : List ℕ → ℕ → ℕ → Table
+tickTable image inputLen answerLen =
+    (differs (length image) IMAGE-BYTES, ImageLength)
+    ∷ (differs inputLen INPUT-BYTES, InputLength)
+    ∷ (differs answerLen ANSWER-BYTES, AnswerLength)
+    ∷ (not (intact image), BrokenImage)
+    ∷ []
+
+unfoldable pub setUpRefusal : ℕ → List ℕ → Outcome
+setUpRefusal imageLen input = firstOf (setUpTable imageLen input)
 
 unfoldable pub tickRefusal : List ℕ → ℕ → ℕ → Outcome
 unfolding intact
-tickRefusal image inputLen answerLen =
-    cond (eqb (length image) IMAGE-BYTES)
-    (cond (eqb inputLen INPUT-BYTES) (cond (eqb answerLen ANSWER-BYTES) (cond (intact image) Done BrokenImage) AnswerLength) InputLength)
-    ImageLength
+tickRefusal image inputLen answerLen = firstOf (tickTable image inputLen answerLen)
 
 -- ---- what a call leaves
 
-unfoldable pub setUpCall : List ℕ → List ℕ → Left
+unfoldable pub setUpCall : List ℕ → List ℕ → Filled
 unfolding setUpRefusal
-setUpCall image input = leftUnless (setUpRefusal (length image) (length input)) (left Done (imageOf (setUp (setupAt input)))) image
-
--- the references of a plain tick: those of the image's own segment
-abbrev pub onSegment : List ℕ → Float → Reference
-onSegment image time = referenceAt (fixedAt image .segment) time
+setUpCall image input = leftUnless (setUpRefusal (length image) input) (imageOf (setUp (setupAt input))) image
 
 -- A tick by references from a source, refused for o or else done: plain ticks and route ticks differ in these two alone.
 unfoldable pub tickFrom : (Float → Reference) → Outcome → List ℕ → List ℕ → List ℕ → Called
 tickFrom source o image input answer =
     let s = stateAt image in
     let i = inputAt input in
-    calledUnless o (called Done (imageOf (stateAfter source s i)) (answerOf (ticked source s i .answer))) image answer
+    leftUnless o (lent (imageOf (stateAfter source s i)) (answerOf (ticked source s i .answer))) (lent image answer)
+
+-- the base's: by the image's own segment
+abbrev pub onSegment : List ℕ → Float → Reference
+onSegment image time = referenceAt (fixedAt image .segment) time
 
 unfoldable pub tickCall : List ℕ → List ℕ → List ℕ → Called
-unfolding tickFrom tickRefusal
+unfolding tickFrom
 tickCall image input answer = tickFrom (onSegment image) (tickRefusal image (length input) (length answer)) image input answer
 
 -- ---- what is written of what was fixed, prepared and done

@@ -6,12 +6,12 @@ use lib.ListN.{length, replicate}
 use Rattle.words.specs.Words.{bytesOf}
 use Rattle.image.specs.Layout.{IMAGE-BYTES, ANSWER-BYTES, INPUT-BYTES, SETUP-BYTES}
 use Rattle.outcome.specs.declared.Outcome.the-variants.{Done}
-use Rattle.outcome.specs.Outcomes.{Left, Called}
+use Rattle.outcome.specs.Outcomes.{Filled, Called}
 use Rattle.calls.specs.Entry.{setUpCall, tickCall}
 
 -- Any program, by what its two calls leave: set-up of an image and an input, a tick of an image, an input and an answer.
 pub record Program : Type 0 where
-  pub setUp : List ℕ → List ℕ → Left
+  pub setUp : List ℕ → List ℕ → Filled
   pub tick : List ℕ → List ℕ → List ℕ → Called
 
 -- It keeps the promises of `setup` and `tick`, at every call.
@@ -30,15 +30,15 @@ pub record RefusesTicks (p : Program) : Type 0 where
 -- ---- "one with one constant answer"
 
 pub record AnswersOnly (p : Program) (c : List ℕ) : Type 0 where
-  pub always : (image input answer : List ℕ) → p .tick image input answer .outcome ≡ Done → p .tick image input answer .answer ≡ c
+  pub always : (image input answer : List ℕ) → p .tick image input answer .outcome ≡ Done → p .tick image input answer .later .answer ≡ c
 
 -- ---- "one that returns the image untouched"
 
 pub record LeavesSetUp (p : Program) : Type 0 where
-  pub always : (image input : List ℕ) → p .setUp image input .buffer ≡ image
+  pub always : (image input : List ℕ) → p .setUp image input .later ≡ image
 
 pub record LeavesTicked (p : Program) : Type 0 where
-  pub always : (image input answer : List ℕ) → p .tick image input answer .image ≡ image
+  pub always : (image input answer : List ℕ) → p .tick image input answer .later .image ≡ image
 
 -- ---- "one that works at the first tick and echoes it later"
 
@@ -52,15 +52,15 @@ blankImage = replicate IMAGE-BYTES 0
 -- the image after a run of ticks, each on the image that the last one left
 abbrev pub ran : Program → List ℕ → List (List ℕ) → List ℕ
 ran p image [] = image
-ran p image (input ∷ more) = ran p (p .tick image input blankAnswer .image) more
+ran p image (input ∷ more) = ran p (p .tick image input blankAnswer .later .image) more
 
 abbrev pub answered : Program → List ℕ → List ℕ → List ℕ
-answered p image input = p .tick image input blankAnswer .answer
+answered p image input = p .tick image input blankAnswer .later .answer
 
 -- from set-up: after a first tick and n more, one more tick answers as the first did, whatever its input. An echo does so for every n; one n is enough.
 pub record EchoesAfter (p : Program) (n : ℕ) : Type 0 where
   pub again : (b first later : List ℕ) → length b ≡ SETUP-BYTES → length first ≡ INPUT-BYTES → length later ≡ INPUT-BYTES →
-      answered p (ran p (p .setUp blankImage b .buffer) (replicate (suc n) first)) later ≡ answered p (p .setUp blankImage b .buffer) first
+      answered p (ran p (p .setUp blankImage b .later) (replicate (suc n) first)) later ≡ answered p (p .setUp blankImage b .later) first
 
 -- ---- a run in which the planner is given control and then loses it
 

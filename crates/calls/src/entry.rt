@@ -33,7 +33,7 @@ ghost use Rattle.joint_tick.specs.Tick.{prepare};
 ghost use Rattle.image.specs.Layout.{SEGMENT, IMAGE-BYTES, ANSWER-BYTES};
 ghost use Rattle.image.specs.Parts.{segmentAt};
 ghost use Rattle.image.specs.Image.{movingAt, stateAt};
-ghost use Rattle.outcome.specs.Outcomes.{left, called};
+ghost use Rattle.outcome.specs.Outcomes.{left, lent};
 ghost use Rattle.calls.specs.Entry.{intact, tickRefusal, Leaves, setUpCall, tickCall};
 
 // By the t_end of each axis of the segment.
@@ -153,7 +153,7 @@ pub fn leave(image: &mut [u8], answer: &mut [u8], fixed: Fixed, prepared: Prepar
 }
 
 pub fn tick(image: &mut [u8], input: &[u8], answer: &mut [u8]) -> Outcome
-    ensures { λ r. ⌜ called r (now (image .exit)) (now (answer .exit)) ≡ tickCall (now (image .entry)) (now (input .entry)) (now (answer .entry)) ⌝ }
+    ensures { λ r. ⌜ left r (lent (now (image .exit)) (now (answer .exit))) ≡ tickCall (now (image .entry)) (now (input .entry)) (now (answer .entry)) ⌝ }
 {
     let refusal = tick_refusal(image, input.len(), answer.len());
     if !is_done(refusal) {

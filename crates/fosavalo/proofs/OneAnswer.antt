@@ -1,7 +1,9 @@
 -- Of each public function here: no second answer fits its promise. Assumes nothing.
 use mathlib.Core.Path.{refl, ap}
+use mathlib.Core.List.{List}
+use Prim.Native.Nat.{ℕ}
+use Rattle.outcome.specs.Outcomes.{Left, Lent}
 use Rattle.laws.proofs.Determined.{OneAnswer, no-second, both}
-use Rattle.fosavalo.specs.Numbers.{Filled, Numbered}
 use Rattle.fosavalo.proofs.fosavalo_sinf
 use Rattle.fosavalo.proofs.fosavalo_cosf
 use Rattle.fosavalo.proofs.fosavalo_setup
@@ -21,12 +23,12 @@ fosavalo-cosf-once κs a x y v w p q = (no-second p q, refl)
 pub fosavalo-setup-once : OneAnswer fosavalo_setup.ended fosavalo_setup.Reads.Post
 fosavalo-setup-once κs a x y v w p q =
     let e = no-second p q in
-    (ap (λ (f : Filled). f .returned) e, both (ap (λ (f : Filled). f .buffer) e) refl)
+    (ap (λ (f : Left ℕ (List ℕ)). f .outcome) e, both (ap (λ (f : Left ℕ (List ℕ)). f .later) e) refl)
 
 pub fosavalo-tick-once : OneAnswer fosavalo_tick.ended fosavalo_tick.Reads.Post
 fosavalo-tick-once κs a x y v w p q =
     let e = no-second p q in
-    (ap (λ (c : Numbered). c .returned) e, both (ap (λ (c : Numbered). c .image) e) (both refl (both (ap (λ (c : Numbered). c .answer) e) refl)))
+    (ap (λ (c : Left ℕ Lent). c .outcome) e, both (ap (λ (c : Left ℕ Lent). c .later .image) e) (both refl (both (ap (λ (c : Left ℕ Lent). c .later .answer) e) refl)))
 
 pub fosavalo-tick-refusal-once : OneAnswer fosavalo_tick_refusal.ended fosavalo_tick_refusal.Reads.Post
 fosavalo-tick-refusal-once κs a x y v w p q = (no-second p q, refl)
@@ -34,19 +36,19 @@ fosavalo-tick-refusal-once κs a x y v w p q = (no-second p q, refl)
 pub fosavalo-route-tick-once : OneAnswer fosavalo_route_tick.ended fosavalo_route_tick.Reads.Post
 fosavalo-route-tick-once κs a x y v w p q =
     let e = no-second p q in
-    (ap (λ (c : Numbered). c .returned) e, both (ap (λ (c : Numbered). c .image) e) (both refl (both refl (both (ap (λ (c : Numbered). c .answer) e) refl))))
+    (ap (λ (c : Left ℕ Lent). c .outcome) e, both (ap (λ (c : Left ℕ Lent). c .later .image) e) (both refl (both refl (both (ap (λ (c : Left ℕ Lent). c .later .answer) e) refl))))
 
 pub fosavalo-log-append-once : OneAnswer fosavalo_log_append.ended fosavalo_log_append.Reads.Post
 fosavalo-log-append-once κs a x y v w p q =
     let e = no-second p q in
-    (ap (λ (f : Filled). f .returned) e, both (ap (λ (f : Filled). f .buffer) e) refl)
+    (ap (λ (f : Left ℕ (List ℕ)). f .outcome) e, both (ap (λ (f : Left ℕ (List ℕ)). f .later) e) refl)
 
 pub fosavalo-log-count-once : OneAnswer fosavalo_log_count.ended fosavalo_log_count.Reads.Post
 fosavalo-log-count-once κs a x y v w p q =
     let e = no-second p q in
-    (ap (λ (f : Filled). f .returned) e, both refl (both (ap (λ (f : Filled). f .buffer) e) refl))
+    (ap (λ (f : Left ℕ (List ℕ)). f .outcome) e, both refl (both (ap (λ (f : Left ℕ (List ℕ)). f .later) e) refl))
 
 pub fosavalo-log-record-once : OneAnswer fosavalo_log_record.ended fosavalo_log_record.Reads.Post
 fosavalo-log-record-once κs a x y v w p q =
     let e = no-second p q in
-    (ap (λ (f : Filled). f .returned) e, both refl (both refl (both (ap (λ (f : Filled). f .buffer) e) refl)))
+    (ap (λ (f : Left ℕ (List ℕ)). f .outcome) e, both refl (both refl (both (ap (λ (f : Left ℕ (List ℕ)). f .later) e) refl)))

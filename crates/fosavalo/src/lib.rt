@@ -1,11 +1,10 @@
 // The C face: what a simulator links. Exported wrappers over the proved crates, and nothing else; include/fosavalo.h declares them.
 ghost use mathlib.Core.Path.{_≡_};
 ghost use Rattle.relay_math.specs.Steps.{sinf, cosf};
-ghost use Rattle.outcome.specs.Outcomes.{number};
+ghost use Rattle.outcome.specs.Outcomes.{left, lent, number, numbered};
 ghost use Rattle.calls.specs.Entry.{tickRefusal, setUpCall, tickCall};
 ghost use Rattle.route.specs.Entry.{routeCall};
 ghost use Rattle.log.specs.Entry.{appendCall, countCall, recordCall};
-ghost use Rattle.fosavalo.specs.Numbers.{filled, asFilled, numbered, asNumbered};
 
 #[no_mangle]
 pub extern "C" fn fosavalo_sinf(x: f32) -> f32
@@ -24,7 +23,7 @@ pub extern "C" fn fosavalo_cosf(x: f32) -> f32
 // Set-up: the number of its outcome, and the image as `calls::setup` leaves it.
 #[no_mangle]
 pub extern "C" fn fosavalo_setup(image: &mut [u8], input: &[u8]) -> u32
-    ensures { λ r. ⌜ filled r (now (image .exit)) ≡ asFilled (setUpCall (now (image .entry)) (now (input .entry))) ⌝ }
+    ensures { λ r. ⌜ left r (now (image .exit)) ≡ numbered (setUpCall (now (image .entry)) (now (input .entry))) ⌝ }
 {
     outcome::number(calls::setup(image, input))
 }
@@ -32,7 +31,7 @@ pub extern "C" fn fosavalo_setup(image: &mut [u8], input: &[u8]) -> u32
 // A tick: the number of its outcome, and the image and the answer as `calls::tick` leaves them.
 #[no_mangle]
 pub extern "C" fn fosavalo_tick(image: &mut [u8], input: &[u8], answer: &mut [u8]) -> u32
-    ensures { λ r. ⌜ numbered r (now (image .exit)) (now (answer .exit)) ≡ asNumbered (tickCall (now (image .entry)) (now (input .entry)) (now (answer .entry))) ⌝ }
+    ensures { λ r. ⌜ left r (lent (now (image .exit)) (now (answer .exit))) ≡ numbered (tickCall (now (image .entry)) (now (input .entry)) (now (answer .entry))) ⌝ }
 {
     outcome::number(calls::tick(image, input, answer))
 }
@@ -53,7 +52,7 @@ pub extern "C" fn fosavalo_route_tick(
     route: &[u8],
     answer: &mut [u8],
 ) -> u32
-    ensures { λ r. ⌜ numbered r (now (image .exit)) (now (answer .exit)) ≡ asNumbered (routeCall (now (image .entry)) (now (input .entry)) (now (route .entry)) (now (answer .entry))) ⌝ }
+    ensures { λ r. ⌜ left r (lent (now (image .exit)) (now (answer .exit))) ≡ numbered (routeCall (now (image .entry)) (now (input .entry)) (now (route .entry)) (now (answer .entry))) ⌝ }
 {
     outcome::number(route::route_tick(image, input, route, answer))
 }
@@ -66,7 +65,7 @@ pub extern "C" fn fosavalo_log_append(
     input: &[u8],
     answer: &[u8],
 ) -> u32
-    ensures { λ r. ⌜ filled r (now (buffer .exit)) ≡ asFilled (appendCall (now (buffer .entry)) «log_len» (now (input .entry)) (now (answer .entry))) ⌝ }
+    ensures { λ r. ⌜ left r (now (buffer .exit)) ≡ numbered (appendCall (now (buffer .entry)) «log_len» (now (input .entry)) (now (answer .entry))) ⌝ }
 {
     outcome::number(log::append(buffer, log_len as usize, input, answer))
 }
@@ -74,7 +73,7 @@ pub extern "C" fn fosavalo_log_append(
 // How many records a log has, as a word: the number of the outcome, and the count's buffer as `log::count_into` leaves it.
 #[no_mangle]
 pub extern "C" fn fosavalo_log_count(log: &[u8], count: &mut [u8]) -> u32
-    ensures { λ r. ⌜ filled r (now (count .exit)) ≡ asFilled (countCall (now (log .entry)) (now (count .entry))) ⌝ }
+    ensures { λ r. ⌜ left r (now (count .exit)) ≡ numbered (countCall (now (log .entry)) (now (count .entry))) ⌝ }
 {
     outcome::number(log::count_into(log, count))
 }
@@ -82,7 +81,7 @@ pub extern "C" fn fosavalo_log_count(log: &[u8], count: &mut [u8]) -> u32
 // The record at a place of a log: the number of the outcome, and the record's buffer as `log::record_into` leaves it.
 #[no_mangle]
 pub extern "C" fn fosavalo_log_record(log: &[u8], place: u64, into: &mut [u8]) -> u32
-    ensures { λ r. ⌜ filled r (now (into .exit)) ≡ asFilled (recordCall (now (log .entry)) place (now (into .entry))) ⌝ }
+    ensures { λ r. ⌜ left r (now (into .exit)) ≡ numbered (recordCall (now (log .entry)) place (now (into .entry))) ⌝ }
 {
     outcome::number(log::record_into(log, place as usize, into))
 }

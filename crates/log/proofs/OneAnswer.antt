@@ -8,23 +8,20 @@ use denote.Ref.{RefT, now}
 use denote.Triple.Entry.{Args, Res}
 use denote.Triple.Clauses.{Ended, Lasts, atExit}
 use Rattle.laws.proofs.Determined.{Promise, OneAnswer, no-second, both}
-use Rattle.outcome.specs.Outcomes.{Left}
+use Rattle.outcome.specs.Outcomes.{Filled}
 use Rattle.log.specs.declared.reader.Reader.{Reader}
 use Rattle.log.specs.Records.{hasRecord, recordAt, placeAfter}
 use Rattle.log.proofs.form
 use Rattle.log.proofs.record
 use Rattle.log.proofs.reader
 use Rattle.log.proofs.entry
-use Rattle.log.proofs.calls
+use Rattle.log.proofs.into
 
 pub record-count-once : OneAnswer form.record_count.ended form.record_count.Reads.Post
 record-count-once κs a x y v w p q = (no-second p q, refl)
 
 pub is-log-once : OneAnswer form.is_log.ended form.is_log.Reads.Post
 is-log-once κs a x y v w p q = (no-second p q, refl)
-
-pub log-refusal-once : OneAnswer form.log_refusal.ended form.log_refusal.Reads.Post
-log-refusal-once κs a x y v w p q = (no-second p q, refl)
 
 pub has-record-once : OneAnswer record.has_record.ended record.has_record.Reads.Post
 has-record-once κs a x y v w p q = (no-second p q, refl)
@@ -38,17 +35,17 @@ append-refusal-once κs a x y v w p q = (no-second p q, refl)
 pub append-once : OneAnswer entry.append.ended entry.append.Reads.Post
 append-once κs a x y v w p q =
     let e = no-second p q in
-    (ap (λ (l : Left). l .outcome) e, both (ap (λ (l : Left). l .buffer) e) refl)
+    (ap (λ (l : Filled). l .outcome) e, both (ap (λ (l : Filled). l .later) e) refl)
 
-pub count-into-once : OneAnswer calls.count_into.ended calls.count_into.Reads.Post
+pub count-into-once : OneAnswer into.count_into.ended into.count_into.Reads.Post
 count-into-once κs a x y v w p q =
     let e = no-second p q in
-    (ap (λ (l : Left). l .outcome) e, both refl (both (ap (λ (l : Left). l .buffer) e) refl))
+    (ap (λ (l : Filled). l .outcome) e, both refl (both (ap (λ (l : Filled). l .later) e) refl))
 
-pub record-into-once : OneAnswer calls.record_into.ended calls.record_into.Reads.Post
+pub record-into-once : OneAnswer into.record_into.ended into.record_into.Reads.Post
 record-into-once κs a x y v w p q =
     let e = no-second p q in
-    (ap (λ (l : Left). l .outcome) e, both refl (both refl (both (ap (λ (l : Left). l .buffer) e) refl)))
+    (ap (λ (l : Filled). l .outcome) e, both refl (both refl (both (ap (λ (l : Filled). l .later) e) refl)))
 
 -- ---- answers that are a part of the lent log: what it holds is fixed; where it lies no promise says, and no code of the language can ask
 

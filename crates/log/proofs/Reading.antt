@@ -1,19 +1,19 @@
 -- Over any sequence of appends from the empty log: what is read back, and that none of it is refused. Assumes nothing.
 use mathlib.Core.Path.{_≡_, refl, sym, ap, _∙_}
-use mathlib.Core.Bool.{Bool, true, false, cond}
+use mathlib.Core.Bool.{true, false, cond}
 use mathlib.Core.List.{List, [], _∷_, _++_, append-assoc, append-nil}
-use Prim.Native.Nat.{ℕ, zero, suc, _+_, _-_, _<_}
+use Prim.Native.Nat.{ℕ, zero, suc, _+_, _<_}
 use native.Mathlib.Nat.{zero-add, add-zero}
 use native.Mathlib.Numerals.{add-one}
 use native.Mathlib.Omega.{arith}
 use borrow.Author.Tests.{lt-ltb, le-ltb}
 use lib.ListN.{length, take, getD, replicate}
-use Rattle.outcome.specs.declared.Outcome.the-variants.{Done}
-use Rattle.outcome.specs.Outcomes.{isDone, left}
-use Rattle.log.specs.Form.{RECORD-BYTES, TRAILER-BYTES, emptyLog, fromEnd, countOf, isLog, logRefusal}
+use Rattle.outcome.specs.Outcomes.{isDone, Filled}
+use Rattle.outcome.proofs.Tables.{either}
+use Rattle.log.specs.Form.{RECORD-BYTES, emptyLog, fromEnd, countOf, isLog}
 use Rattle.log.specs.Records.{bytesAt, recordsFrom, records, hasRecord, recordAt, placeAfter, handedOut}
-use Rattle.log.specs.Entry.{withRecord, appendCall}
-use Rattle.log.specs.Runs.{Held, logIn, Given, refusalOf, afterOne, keptBy, afterAll, keptAlong, Accepted, recordsOf, atFirst}
+use Rattle.log.specs.Entry.{appendRefusal, appendCall}
+use Rattle.log.specs.Runs.{Held, logIn, Given, afterOne, keptBy, afterAll, keptAlong, Accepted, recordsOf, atFirst}
 use Rattle.log.proofs.Taken.{taken}
 use Rattle.log.proofs.Made.{records-of, one-more-record}
 
@@ -25,13 +25,12 @@ Keeps log rs = (isLog log ≡ true) × (records log ≡ rs)
 
 one : (h : Held) (g : Given) → isLog (logIn h) ≡ true → Keeps (logIn (afterOne h g)) (records (logIn h) ++ keptBy h g)
 unfolding appendCall
-one h g e = go (isDone (refusalOf h g)) refl
-  where
-    go : (t : Bool) → isDone (refusalOf h g) ≡ t
-        → Keeps (take (cond t (h .len + RECORD-BYTES) (h .len)) (cond t (left Done (withRecord (h .buffer) (h .len - TRAILER-BYTES) (countOf (logIn h) + 1) (g .input) (g .answer))) (left (refusalOf h g) (h .buffer)) .buffer))
-        (records (logIn h) ++ cond t ((g .input ++ g .answer) ∷ []) [])
-    go true d = one-more-record (h .buffer) (h .len) (g .input) (g .answer) (taken (h .buffer) (h .len) (length (g .input)) (length (g .answer)) d)
-    go false d = (e, sym (append-nil (records (logIn h))))
+one h g e =
+    either
+    (λ (l : Filled). Keeps (take (cond (isDone (l .outcome)) (h .len + RECORD-BYTES) (h .len)) (l .later)) (records (logIn h) ++ cond (isDone (l .outcome)) ((g .input ++ g .answer) ∷ []) []))
+    (appendRefusal (h .buffer) (h .len) (length (g .input)) (length (g .answer)))
+    (λ d. one-more-record (h .buffer) (h .len) (g .input) (g .answer) (taken (h .buffer) (h .len) (length (g .input)) (length (g .answer)) d))
+    (λ d. rw d (e, sym (append-nil (records (logIn h)))))
 
 -- after any appends on a log: a log, with the old records and then those kept
 pub after-appends : (h : Held) (appends : List Given) → isLog (logIn h) ≡ true → Keeps (logIn (afterAll h appends)) (records (logIn h) ++ keptAlong h appends)
@@ -101,9 +100,9 @@ module _ (beyond : List ℕ) (appends : List Given) where
   made : Keeps log kept
   made = let a = after-appends (atFirst beyond) appends (empty-is .0) in (a .0, a .1 ∙ ap (λ (rs : List (List ℕ)). rs ++ kept) (empty-is .1))
 
-  -- a log that append made is never refused
-  pub never-refused : logRefusal log ≡ Done
-  never-refused = rw (made .0)
+  -- what append made is a log, so neither append nor the reader refuses it for its bytes
+  pub never-refused : isLog log ≡ true
+  never-refused = made .0
 
   pub records-kept : records log ≡ kept
   records-kept = made .1

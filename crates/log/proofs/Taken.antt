@@ -1,23 +1,24 @@
 -- What bytes that are a log have, and what an append that is not refused has. Assumes nothing.
 use mathlib.Core.Path.{_≡_, refl, sym, _∙_}
-use mathlib.Core.Bool.{Bool, true, false, not, cond, _&&_, _||_}
+use mathlib.Core.Bool.{Bool, true, false, not, _&&_}
 use mathlib.Core.List.{List, _++_}
 use Prim.Native.Nat.{ℕ, _+_, _-_, _*_, _/_, _≤_, _<_}
 use native.Mathlib.Omega.{arith}
-use borrow.Author.Tests.{leb-true, ltb-true, ltb-false, eqb-true, eqb-false, not-true, not-false}
+use borrow.Author.Tests.{leb-true, ltb-true, ltb-false, eqb-true, eqb-false, not-false}
 use lib.Dec.{eqb, leb, ltb}
 use lib.ListN.{length, take, drop, length-append, length-drop}
 use lib.Seq.{sets, length-take-le}
 use Rattle.words.specs.Words.{Put}
 use Rattle.words.proofs.Written.{sets-append}
-use Rattle.laws.proofs.Tests.{no, both}
+use Rattle.laws.proofs.Tests.{both}
 use Rattle.image.specs.Layout.{INPUT-BYTES, ANSWER-BYTES}
 use Rattle.outcome.specs.declared.Outcome.{Outcome}
-use Rattle.outcome.specs.declared.Outcome.the-variants.{Done, InputLength, AnswerLength}
+use Rattle.outcome.specs.declared.Outcome.the-variants.{Done}
 use Rattle.outcome.specs.Outcomes.{isDone, left}
+use Rattle.outcome.proofs.Tables.{done-none, same, accepted}
 use Rattle.log.specs.Form.{RECORD-BYTES, TRAILER-BYTES, MOST-RECORDS, trailerWords, trailer, fromEnd, countOf, isLog}
 use Rattle.log.specs.Records.{hasRecord, recordAt}
-use Rattle.log.specs.Entry.{brokenOrFull, appendRefusal, withRecord, appendCall, recordCall}
+use Rattle.log.specs.Entry.{appendTable, appendRefusal, withRecord, appendCall, recordCall}
 
 pub record Log (b : List ℕ) : Type 0 where
   pub trailer : TRAILER-BYTES ≤ length b
@@ -62,67 +63,37 @@ pub record Taken (buffer : List ℕ) (len inputLen answerLen : ℕ) : Type 0 whe
   pub room : RECORD-BYTES * countOf (take len buffer) + RECORD-BYTES + TRAILER-BYTES ≤ length buffer
   pub one-more : countOf (take len buffer) < MOST-RECORDS
 
-lengths : (x y : Bool) (o : Outcome) → isDone (cond (not x) InputLength (cond (not y) AnswerLength o)) ≡ true → (x ≡ true) × (y ≡ true) × (isDone o ≡ true)
-lengths true true o e = (refl, refl, e)
-lengths true false o e = no e
-lengths false y o e = no e
-
-fine : (b f : Bool) → isDone (brokenOrFull b f) ≡ true → (b ≡ false) × (f ≡ false)
-fine false false e = (refl, refl)
-fine false true e = no e
-fine true false e = no e
-fine true true e = no e
-
-neither : (a b : Bool) → (a || b) ≡ false → (a ≡ false) × (b ≡ false)
-neither false b e = (refl, e)
-neither true b e = no (sym e)
-
 pub taken : (buffer : List ℕ) (len inputLen answerLen : ℕ) → isDone (appendRefusal buffer len inputLen answerLen) ≡ true → Taken buffer len inputLen answerLen
 unfolding appendRefusal
 taken buffer len inputLen answerLen e =
     let log = take len buffer in
     let n = countOf log in
-    let over = ltb (length buffer) len in
-    let scarce = ltb (length buffer - len) RECORD-BYTES in
-    let full = eqb n MOST-RECORDS in
-    let t = lengths (eqb inputLen INPUT-BYTES) (eqb answerLen ANSWER-BYTES) (brokenOrFull (over || not (isLog log)) (scarce || full)) e in
-    let f = fine (over || not (isLog log)) (scarce || full) (t .2) in
-    let b = neither over (not (isLog log)) (f .0) in
-    let r = neither scarce full (f .1) in
-    let h = ltb-false (length buffer) len (b .0) in
-    let is = not-false (isLog log) (b .1) in
+    let t = done-none (appendTable buffer len inputLen answerLen) refl e in
+    let h = ltb-false (length buffer) len (t 2) in
+    let is = not-false (isLog log) (t 3) in
     let l = is-a-log log is in
-    let m = eqb-false n MOST-RECORDS (r .1) in
+    let m = eqb-false n MOST-RECORDS (t 5) in
     let e : len ≡ RECORD-BYTES * n + TRAILER-BYTES = sym (length-take-le len buffer h) ∙ l .whole in
     record {
-      input-length = eqb-true inputLen INPUT-BYTES (t .0);
-      answer-length = eqb-true answerLen ANSWER-BYTES (t .1);
+      input-length = same inputLen INPUT-BYTES (t 0);
+      answer-length = same answerLen ANSWER-BYTES (t 1);
       within = h;
       log = is;
       len-is = e;
-      room = omega (arith, ltb-false (length buffer - len) RECORD-BYTES (r .0));
+      room = omega (arith, ltb-false (length buffer - len) RECORD-BYTES (t 4));
       one-more = below n (l .few) m;
     }
   where
     below : (n : ℕ) → n ≤ MOST-RECORDS → (n ≡ MOST-RECORDS → ⊥) → n < MOST-RECORDS
     below n h m = omega (arith, m)
 
--- ---- the two ways that an append can go, by what it was told
-
-pub taken-here : (buffer : List ℕ) (len inputLen answerLen : ℕ) {o : Outcome} {t : Bool} → o ≡ appendRefusal buffer len inputLen answerLen → t ≡ isDone o → not t ≡ false
-    → Taken buffer len inputLen answerLen
-taken-here buffer len inputLen answerLen {o} {t} e d n = taken buffer len inputLen answerLen (rw (← e, ← d) (not-false t n))
-
-module _ (buffer : List ℕ) (len : ℕ) (input answer : List ℕ) {o : Outcome} {t : Bool} (e : o ≡ appendRefusal buffer len (length input) (length answer)) (d : t ≡ isDone o) where
-  pub refused : not t ≡ true → left o buffer ≡ appendCall buffer len input answer
-  unfolding appendCall
-  refused n = rw (← e, ← d, not-true t n)
-
-  pub written : not t ≡ false → {n : ℕ} {later : List ℕ} → n ≡ countOf (take len buffer) → later ≡ withRecord buffer (RECORD-BYTES * n) (n + 1) input answer → left Done later ≡ appendCall buffer len input answer
-  unfolding appendCall
-  written f c p =
-      let at : len - TRAILER-BYTES ≡ RECORD-BYTES * countOf (take len buffer) = omega (arith, taken-here buffer len (length input) (length answer) e d f .len-is) in
-      rw (← e, ← d, not-false t f, at, p, c)
+-- what an append leaves that asked a function, which said o, and was not refused (t is whether o is done)
+pub written : (buffer : List ℕ) (len : ℕ) (input answer : List ℕ) {o : Outcome} {t : Bool} → o ≡ appendRefusal buffer len (length input) (length answer) → t ≡ isDone o → not t ≡ false
+    → {n : ℕ} {later : List ℕ} → n ≡ countOf (take len buffer) → later ≡ withRecord buffer (RECORD-BYTES * n) (n + 1) input answer → left Done later ≡ appendCall buffer len input answer
+unfolding appendCall
+written buffer len input answer {o} {t} e d f c p =
+    let at : len - TRAILER-BYTES ≡ RECORD-BYTES * countOf (take len buffer) = omega (arith, taken buffer len (length input) (length answer) (accepted e d f) .len-is) in
+    rw (← e, ← d, not-false t f, at, p, c)
 
 -- ---- the input, the answer and the trailer, written one after another, are one run
 

@@ -1,6 +1,6 @@
 -- The calls on a log: what is refused, and what a call leaves in the buffer that it may write. Definitions only.
 use Prim.Native.Nat.{ℕ, _+_, _-_}
-use mathlib.Core.Bool.{Bool, not, _||_, cond}
+use mathlib.Core.Bool.{not}
 use mathlib.Core.List.{List, [], _∷_, _++_}
 use lib.Dec.{eqb, ltb}
 use lib.ListN.{length, take}
@@ -8,38 +8,45 @@ use lib.Seq.{sets}
 use Rattle.words.specs.Words.{bytesOf}
 use Rattle.image.specs.Layout.{INPUT-BYTES, ANSWER-BYTES}
 use Rattle.outcome.specs.declared.Outcome.{Outcome}
-use Rattle.outcome.specs.declared.Outcome.the-variants.{Done, InputLength, AnswerLength, BrokenLog, NoRoom, NoRecord, RecordLength}
-use Rattle.outcome.specs.Outcomes.{Left, left, leftUnless}
+use Rattle.outcome.specs.declared.Outcome.the-variants.{InputLength, AnswerLength, BrokenLog, NoRoom, NoRecord, RecordLength}
+use Rattle.outcome.specs.Outcomes.{Table, firstOf, differs, leftUnless, Filled}
 use Rattle.log.specs.Form.{RECORD-BYTES, TRAILER-BYTES, MOST-RECORDS, trailer, countOf, isLog}
 use Rattle.log.specs.Records.{hasRecord, recordAt}
 
--- 8, and only then 9
-abbrev pub brokenOrFull : Bool → Bool → Outcome
-brokenOrFull broken full = cond broken BrokenLog (cond full NoRoom Done)
-
 -- "2 and 3 for a wrong input or answer length; then 8 if the log's length exceeds the buffer" or the bytes of that length are no log; "then 9 if the
 -- buffer has under 108 bytes beyond the log or the count is 65,535"
+abbrev pub appendTable : List ℕ → ℕ → ℕ → ℕ → Table
+appendTable buffer len inputLen answerLen =
+    (differs inputLen INPUT-BYTES, InputLength)
+    ∷ (differs answerLen ANSWER-BYTES, AnswerLength)
+    ∷ (ltb (length buffer) len, BrokenLog)
+    ∷ (not (isLog (take len buffer)), BrokenLog)
+    ∷ (ltb (length buffer - len) RECORD-BYTES, NoRoom)
+    ∷ (eqb (countOf (take len buffer)) MOST-RECORDS, NoRoom)
+    ∷ []
+
 unfoldable pub appendRefusal : List ℕ → ℕ → ℕ → ℕ → Outcome
-appendRefusal buffer len inputLen answerLen =
-    let log = take len buffer in
-    cond (not (eqb inputLen INPUT-BYTES)) InputLength
-    (cond (not (eqb answerLen ANSWER-BYTES)) AnswerLength
-    (brokenOrFull (ltb (length buffer) len || not (isLog log)) (ltb (length buffer - len) RECORD-BYTES || eqb (countOf log) MOST-RECORDS)))
+appendRefusal buffer len inputLen answerLen = firstOf (appendTable buffer len inputLen answerLen)
 
 -- from byte `at` on a record, and after it the trailer of n records; every other byte as it was
 abbrev pub withRecord : List ℕ → ℕ → ℕ → List ℕ → List ℕ → List ℕ
 withRecord buffer at n input answer = sets buffer at (input ++ answer ++ trailer n)
 
 -- "It overwrites the old trailer with the record, writes a new one after it and changes no other byte."
-unfoldable pub appendCall : List ℕ → ℕ → List ℕ → List ℕ → Left
+unfoldable pub appendCall : List ℕ → ℕ → List ℕ → List ℕ → Filled
 appendCall buffer len input answer =
-    leftUnless (appendRefusal buffer len (length input) (length answer)) (left Done (withRecord buffer (len - TRAILER-BYTES) (countOf (take len buffer) + 1) input answer)) buffer
+    leftUnless (appendRefusal buffer len (length input) (length answer)) (withRecord buffer (len - TRAILER-BYTES) (countOf (take len buffer) + 1) input answer) buffer
 
 -- the count as a word, into 4 bytes
-unfoldable pub countCall : List ℕ → List ℕ → Left
-countCall log count = leftUnless (cond (eqb (length count) 4) (cond (isLog log) Done BrokenLog) InputLength) (left Done (bytesOf (countOf log ∷ []))) count
+abbrev pub countTable : List ℕ → ℕ → Table
+countTable log countLen = (differs countLen 4, InputLength) ∷ (not (isLog log), BrokenLog) ∷ []
+
+unfoldable pub countCall : List ℕ → List ℕ → Filled
+countCall log count = leftUnless (firstOf (countTable log (length count))) (bytesOf (countOf log ∷ [])) count
 
 -- the record at a place, into as many bytes
-unfoldable pub recordCall : List ℕ → ℕ → List ℕ → Left
-recordCall log place buffer =
-    leftUnless (cond (eqb (length buffer) RECORD-BYTES) (cond (isLog log) (cond (hasRecord log place) Done NoRecord) BrokenLog) RecordLength) (left Done (recordAt log place)) buffer
+abbrev pub recordTable : List ℕ → ℕ → ℕ → Table
+recordTable log place bufferLen = (differs bufferLen RECORD-BYTES, RecordLength) ∷ (not (isLog log), BrokenLog) ∷ (not (hasRecord log place), NoRecord) ∷ []
+
+unfoldable pub recordCall : List ℕ → ℕ → List ℕ → Filled
+recordCall log place buffer = leftUnless (firstOf (recordTable log place (length buffer))) (recordAt log place) buffer

@@ -1,14 +1,12 @@
 -- A log in bytes (request Two of document 02): "records of 108 bytes (tick input, then answer) and a trailer of three words: count, bytes back to the
 -- first record, and 108. An empty log is the trailer 0, 0, 108." Definitions only.
 use Prim.Native.Nat.{ℕ, _+_, _-_, _*_}
-use mathlib.Core.Bool.{Bool, _&&_, cond}
+use mathlib.Core.Bool.{Bool, _&&_}
 use mathlib.Core.List.{List, [], _∷_}
 use lib.Dec.{eqb, leb}
 use lib.ListN.{length}
 use Rattle.words.specs.Words.{fourBytes, bytesOf}
 use Rattle.image.specs.Layout.{INPUT-BYTES, ANSWER-BYTES}
-use Rattle.outcome.specs.declared.Outcome.{Outcome}
-use Rattle.outcome.specs.declared.Outcome.the-variants.{Done, BrokenLog}
 
 abbrev pub RECORD-BYTES : ℕ
 RECORD-BYTES = INPUT-BYTES + ANSWER-BYTES
@@ -47,6 +45,3 @@ isLog b =
     let n = countOf b in
     leb TRAILER-BYTES (length b) && eqb (fromEnd b 4) RECORD-BYTES && leb n MOST-RECORDS && eqb (fromEnd b 8) (RECORD-BYTES * n)
     && eqb (length b) (RECORD-BYTES * n + TRAILER-BYTES)
-
-abbrev pub logRefusal : List ℕ → Outcome
-logRefusal b = cond (isLog b) Done BrokenLog

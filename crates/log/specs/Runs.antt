@@ -3,11 +3,10 @@ use Prim.Native.Nat.{ℕ, _+_}
 use mathlib.Core.Path.{_≡_}
 use mathlib.Core.Bool.{true, cond}
 use mathlib.Core.List.{List, [], _∷_, _++_}
-use lib.ListN.{length, take}
-use Rattle.outcome.specs.declared.Outcome.{Outcome}
-use Rattle.outcome.specs.Outcomes.{isDone}
+use lib.ListN.{take}
+use Rattle.outcome.specs.Outcomes.{isDone, Filled}
 use Rattle.log.specs.Form.{RECORD-BYTES, TRAILER-BYTES, emptyLog}
-use Rattle.log.specs.Entry.{appendRefusal, appendCall}
+use Rattle.log.specs.Entry.{appendCall}
 
 -- a buffer, and the length of the log at its start
 pub record Held : Type 0 where
@@ -25,15 +24,15 @@ pub record Given : Type 0 where
   pub input : List ℕ
   pub answer : List ℕ
 
-abbrev pub refusalOf : Held → Given → Outcome
-refusalOf h g = appendRefusal (h .buffer) (h .len) (length (g .input)) (length (g .answer))
+abbrev pub appended : Held → Given → Filled
+appended h g = appendCall (h .buffer) (h .len) (g .input) (g .answer)
 
 -- what an append leaves, and the record that it kept: none if it was refused
 abbrev pub afterOne : Held → Given → Held
-afterOne h g = held (appendCall (h .buffer) (h .len) (g .input) (g .answer) .buffer) (cond (isDone (refusalOf h g)) (h .len + RECORD-BYTES) (h .len))
+afterOne h g = held (appended h g .later) (cond (isDone (appended h g .outcome)) (h .len + RECORD-BYTES) (h .len))
 
 abbrev pub keptBy : Held → Given → List (List ℕ)
-keptBy h g = cond (isDone (refusalOf h g)) ((g .input ++ g .answer) ∷ []) []
+keptBy h g = cond (isDone (appended h g .outcome)) ((g .input ++ g .answer) ∷ []) []
 
 unfoldable pub afterAll : Held → List Given → Held
 afterAll h [] = h
@@ -46,7 +45,7 @@ keptAlong h (g ∷ more) = keptBy h g ++ keptAlong (afterOne h g) more
 -- "each accepted tick kept": none of the appends is refused
 unfoldable pub Accepted : Held → List Given → Type 0
 Accepted h [] = Unit
-Accepted h (g ∷ more) = (isDone (refusalOf h g) ≡ true) × Accepted (afterOne h g) more
+Accepted h (g ∷ more) = (isDone (appended h g .outcome) ≡ true) × Accepted (afterOne h g) more
 
 -- the records of what was given
 unfoldable pub recordsOf : List Given → List (List ℕ)

@@ -2,12 +2,11 @@
 // starts, and the bytes of a record.
 use image::ANSWER_BYTES;
 use image::INPUT_BYTES;
-use outcome::Outcome;
 use words::four_bytes;
 ghost use mathlib.Core.Path.{_≡_};
 ghost use Prim.Native.Nat.{_≤_};
 ghost use lib.ListN.{length};
-ghost use Rattle.log.specs.Form.{TRAILER-BYTES, fromEnd, countOf, isLog, logRefusal};
+ghost use Rattle.log.specs.Form.{TRAILER-BYTES, fromEnd, countOf, isLog};
 
 pub const RECORD_BYTES: usize = INPUT_BYTES + ANSWER_BYTES;
 
@@ -49,15 +48,4 @@ pub fn is_log(log: &[u8]) -> bool
         return false;
     }
     length == RECORD_BYTES * count + TRAILER_BYTES
-}
-
-// What a log is refused for, by append and by the reader alike.
-pub fn log_refusal(log: &[u8]) -> Outcome
-    ensures { λ r. ⌜ r ≡ logRefusal (now (log .entry)) ⌝ }
-{
-    if is_log(log) {
-        Outcome::Done
-    } else {
-        Outcome::BrokenLog
-    }
 }

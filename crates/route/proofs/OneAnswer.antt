@@ -36,4 +36,4 @@ route-refusal-once κs a x y v w p q = (no-second p q, refl)
 pub route-tick-once : OneAnswer entry.route_tick.ended entry.route_tick.Reads.Post
 route-tick-once κs a x y v w p q =
     let e = no-second p q in
-    (ap (λ (c : Called). c .outcome) e, both (ap (λ (c : Called). c .image) e) (both refl (both refl (both (ap (λ (c : Called). c .answer) e) refl))))
+    (ap (λ (c : Called). c .outcome) e, both (ap (λ (c : Called). c .later .image) e) (both refl (both refl (both (ap (λ (c : Called). c .later .answer) e) refl))))

@@ -1,20 +1,16 @@
 -- What a route tick that is not refused has. Assumes nothing.
-use mathlib.Core.Path.{_≡_, refl, sym, _∙_}
-use mathlib.Core.Bool.{Bool, true, false, not, cond, _&&_, _||_}
-use mathlib.Core.List.{List}
+use mathlib.Core.Path.{_≡_, refl}
+use mathlib.Core.Bool.{true, false, cond}
+use mathlib.Core.List.{List, _++_}
 use Prim.Native.Nat.{ℕ, _+_, _*_, _≤_, _<_}
 use native.Mathlib.Omega.{arith}
-use borrow.Author.Tests.{ltb-false, eqb-true, eqb-false, not-false}
-use lib.Dec.{eqb, ltb}
+use borrow.Author.Tests.{ltb-false, eqb-false}
 use lib.ListN.{length}
-use Rattle.laws.proofs.Tests.{no}
 use Rattle.image.specs.Layout.{IMAGE-BYTES, INPUT-BYTES, ANSWER-BYTES}
-use Rattle.outcome.specs.declared.Outcome.{Outcome}
-use Rattle.outcome.specs.declared.Outcome.the-variants.{Done, LegCount, RouteLength, LegsApart}
-use Rattle.outcome.specs.Outcomes.{isDone, called}
-use Rattle.calls.specs.Entry.{tickRefusal, tickFrom}
-use Rattle.calls.proofs.Flown.{sized}
-use Rattle.route.specs.Form.{LEG-BYTES, TRAILER-BYTES, MOST-LEGS, countOf, backOf, allMeet, formRefusal}
+use Rattle.outcome.specs.Outcomes.{isDone, left, lent}
+use Rattle.outcome.proofs.Tables.{done-none, in-turn, same, refused-keeps}
+use Rattle.calls.specs.Entry.{tickTable, tickRefusal, tickFrom}
+use Rattle.route.specs.Form.{LEG-BYTES, TRAILER-BYTES, countOf, formTable, formRefusal}
 use Rattle.route.specs.Entry.{routeRefusal, routeCall}
 
 pub record Taken (image : List ℕ) (inputLen answerLen : ℕ) (route : List ℕ) : Type 0 where
@@ -25,50 +21,32 @@ pub record Taken (image : List ℕ) (inputLen answerLen : ℕ) (route : List ℕ
   pub some : 0 < countOf route
   pub whole : LEG-BYTES * countOf route ≤ length route
 
-both-done : (o r : Outcome) → isDone (cond (isDone o) r o) ≡ true → (isDone o ≡ true) × (isDone r ≡ true)
-both-done o r e = go (isDone o) refl e
-  where
-    go : (t : Bool) → isDone o ≡ t → isDone (cond t r o) ≡ true → (isDone o ≡ true) × (isDone r ≡ true)
-    go true d e = (d, e)
-    go false d e = no (sym d ∙ e)
-
-tests : (x y u v z w : Bool) → isDone (cond x RouteLength (cond (y || u) LegCount (cond (z && v) (cond w Done LegsApart) RouteLength))) ≡ true
-    → (x ≡ false) × (y ≡ false) × (v ≡ true)
-tests true y u v z w e = no e
-tests false true u v z w e = no e
-tests false false true v z w e = no e
-tests false false false true true w e = (refl, refl, refl)
-tests false false false false true w e = no e
-tests false false false v false w e = no e
+-- a tick's rows, then the route's own
+pub in-their-turn : (image : List ℕ) (inputLen answerLen : ℕ) (route : List ℕ)
+    → let t = tickRefusal image inputLen answerLen in routeRefusal image inputLen answerLen route ≡ cond (isDone t) (formRefusal route) t
+unfolding routeRefusal tickRefusal formRefusal
+in-their-turn image inputLen answerLen route = in-turn (tickTable image inputLen answerLen) (formTable route) refl
 
 pub taken : (image : List ℕ) (inputLen answerLen : ℕ) (route : List ℕ) → isDone (routeRefusal image inputLen answerLen route) ≡ true → Taken image inputLen answerLen route
-unfolding routeRefusal formRefusal
+unfolding routeRefusal
 taken image inputLen answerLen route e =
-    let d = both-done (tickRefusal image inputLen answerLen) (formRefusal route) e in
-    let t = sized image inputLen answerLen (d .0) in
+    let t = done-none (tickTable image inputLen answerLen ++ formTable route) refl e in
     let n = countOf route in
-    let f = tests (ltb (length route) TRAILER-BYTES) (eqb n 0) (ltb MOST-LEGS n) (eqb (length route) (LEG-BYTES * n + TRAILER-BYTES)) (eqb (backOf route) (LEG-BYTES * n)) (allMeet route n) (d .1) in
     record {
-      image-length = t .0;
-      input-length = t .1;
-      answer-length = t .2;
-      trailer = ltb-false (length route) TRAILER-BYTES (f .0);
-      some = pos n (eqb-false n 0 (f .1));
-      whole = omega (arith, eqb-true (length route) (LEG-BYTES * n + TRAILER-BYTES) (f .2));
+      image-length = same (length image) IMAGE-BYTES (t 0);
+      input-length = same inputLen INPUT-BYTES (t 1);
+      answer-length = same answerLen ANSWER-BYTES (t 2);
+      trailer = ltb-false (length route) TRAILER-BYTES (t 4);
+      some = pos n (eqb-false n 0 (t 5));
+      whole = omega (arith, same (length route) (LEG-BYTES * n + TRAILER-BYTES) (t 8));
     }
   where
     pos : (n : ℕ) → (n ≡ 0 → ⊥) → 0 < n
     pos n h = omega (arith, h)
 
--- ---- the two ways that a call can go, by what it was told
+-- ---- a refused call changes no byte
 
-pub taken-here : (image : List ℕ) (inputLen answerLen : ℕ) (route : List ℕ) {o : Outcome} {t : Bool} → o ≡ routeRefusal image inputLen answerLen route → t ≡ isDone o → not t ≡ false
-    → Taken image inputLen answerLen route
-taken-here image inputLen answerLen route {o} {t} e d n = taken image inputLen answerLen route (rw (← e, ← d) (not-false t n))
-
--- ---- of the call's definition
-
-pub refused-changes-nothing : (image input route answer : List ℕ) → isDone (routeRefusal image (length input) (length answer) route) ≡ false
-    → routeCall image input route answer ≡ called (routeRefusal image (length input) (length answer) route) image answer
+pub refused-changes-nothing : (image input route answer : List ℕ) → let o = routeRefusal image (length input) (length answer) route in
+    isDone o ≡ false → routeCall image input route answer ≡ left o (lent image answer)
 unfolding routeCall tickFrom
-refused-changes-nothing image input route answer e = rw e
+refused-changes-nothing image input route answer e = refused-keeps (routeRefusal image (length input) (length answer) route) _ _ e

@@ -1,20 +1,18 @@
 -- The route tick on lent bytes: what is refused, and what a call leaves (request One of document 02). Definitions only.
 use Prim.Native.Nat.{ℕ}
-use mathlib.Core.Bool.{cond}
-use mathlib.Core.List.{List}
+use mathlib.Core.List.{List, _++_}
 use lib.Ieee.{Float}
 use lib.ListN.{length}
 use Rattle.joint_tick.specs.declared.stages.Reference.{Reference}
 use Rattle.outcome.specs.declared.Outcome.{Outcome}
-use Rattle.outcome.specs.Outcomes.{isDone, Called}
-use Rattle.calls.specs.Entry.{tickRefusal, tickFrom}
-use Rattle.route.specs.Form.{countOf, formRefusal}
+use Rattle.outcome.specs.Outcomes.{firstOf, Called}
+use Rattle.calls.specs.Entry.{tickTable, tickFrom}
+use Rattle.route.specs.Form.{countOf, formTable}
 use Rattle.route.specs.Legs.{referenceOn}
 
 -- 1, 2, 3, 4 as at a tick, and then the route's own
 unfoldable pub routeRefusal : List ℕ → ℕ → ℕ → List ℕ → Outcome
-unfolding formRefusal
-routeRefusal image inputLen answerLen route = let t = tickRefusal image inputLen answerLen in cond (isDone t) (formRefusal route) t
+routeRefusal image inputLen answerLen route = firstOf (tickTable image inputLen answerLen ++ formTable route)
 
 -- where a route tick's references come from: the leg flown at each time
 unfoldable pub onRoute : List ℕ → Float → Reference
@@ -23,5 +21,5 @@ onRoute route time = referenceOn route (countOf route) time
 
 -- the tick of document 01 with the route's sample in place of the segment's
 unfoldable pub routeCall : List ℕ → List ℕ → List ℕ → List ℕ → Called
-unfolding routeRefusal onRoute tickFrom
+unfolding onRoute tickFrom
 routeCall image input route answer = tickFrom (onRoute route) (routeRefusal image (length input) (length answer) route) image input answer

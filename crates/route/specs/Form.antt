@@ -1,8 +1,8 @@
 -- A route in bytes (request One of document 02): legs of 19 words each, then a trailer of two words, the count and how many bytes back the first leg
 -- starts. Definitions only.
 use Prim.Native.Nat.{ℕ, zero, suc, _+_, _-_, _*_}
-use mathlib.Core.Bool.{Bool, true, _&&_, _||_, cond}
-use mathlib.Core.List.{List}
+use mathlib.Core.Bool.{Bool, true, not, _&&_}
+use mathlib.Core.List.{List, [], _∷_}
 use lib.Dec.{eqb, ltb}
 use lib.Ieee.{eq}
 use lib.ListN.{length}
@@ -12,7 +12,8 @@ use Rattle.joint_tick.specs.declared.state.Leg.{Leg}
 use Rattle.image.specs.Layout.{LEG-WORDS}
 use Rattle.image.specs.Parts.{legAt}
 use Rattle.outcome.specs.declared.Outcome.{Outcome}
-use Rattle.outcome.specs.declared.Outcome.the-variants.{Done, LegCount, RouteLength, LegsApart}
+use Rattle.outcome.specs.declared.Outcome.the-variants.{LegCount, RouteLength, LegsApart}
+use Rattle.outcome.specs.Outcomes.{Table, firstOf, differs}
 
 -- the limit: everything but the check is over any count
 abbrev pub MOST-LEGS : ℕ
@@ -59,10 +60,16 @@ allMeet b n = meetFrom b (n - 1) 1
 
 -- ---- "6 a route below 8 bytes; 5 count 0 or above 8; 6 distance back not 76 times the count, or length not 8 more; 7 legs don't meet"
 
+abbrev pub formTable : List ℕ → Table
+formTable b =
+    (ltb (length b) TRAILER-BYTES, RouteLength)
+    ∷ (eqb (countOf b) 0, LegCount)
+    ∷ (ltb MOST-LEGS (countOf b), LegCount)
+    ∷ (differs (backOf b) (LEG-BYTES * countOf b), RouteLength)
+    ∷ (differs (length b) (LEG-BYTES * countOf b + TRAILER-BYTES), RouteLength)
+    ∷ (not (allMeet b (countOf b)), LegsApart)
+    ∷ []
+
 unfoldable pub formRefusal : List ℕ → Outcome
 unfolding countOf backOf allMeet
-formRefusal b =
-    let n = countOf b in
-    cond (ltb (length b) TRAILER-BYTES) RouteLength
-    (cond (eqb n 0 || ltb MOST-LEGS n) LegCount
-    (cond (eqb (backOf b) (LEG-BYTES * n) && eqb (length b) (LEG-BYTES * n + TRAILER-BYTES)) (cond (allMeet b n) Done LegsApart) RouteLength))
+formRefusal b = firstOf (formTable b)

@@ -7,7 +7,7 @@ use image::input_at;
 use outcome::Outcome;
 use outcome::is_done;
 ghost use mathlib.Core.Path.{_≡_};
-ghost use Rattle.outcome.specs.Outcomes.{called};
+ghost use Rattle.outcome.specs.Outcomes.{left, lent};
 ghost use Rattle.route.specs.Entry.{routeRefusal, routeCall};
 
 // What a route tick would be refused for.
@@ -23,7 +23,7 @@ pub fn route_refusal(image: &[u8], input_len: usize, answer_len: usize, route: &
 
 // The base's tick, toward the sample of the leg flown. The image's segment is kept and not looked at.
 pub fn route_tick(image: &mut [u8], input: &[u8], route: &[u8], answer: &mut [u8]) -> Outcome
-    ensures { λ r. ⌜ called r (now (image .exit)) (now (answer .exit)) ≡ routeCall (now (image .entry)) (now (input .entry)) (now (route .entry)) (now (answer .entry)) ⌝ }
+    ensures { λ r. ⌜ left r (lent (now (image .exit)) (now (answer .exit))) ≡ routeCall (now (image .entry)) (now (input .entry)) (now (route .entry)) (now (answer .entry)) ⌝ }
 {
     let refusal = route_refusal(image, input.len(), answer.len(), route);
     if !is_done(refusal) {

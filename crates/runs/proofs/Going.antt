@@ -31,7 +31,7 @@ use Rattle.runs.proofs.Shown.{refusalOn, flying-is, done}
 pub call-steps : (image : List ℕ) (c : Call) → Accepted image → Steps (marginsOf image c) image (leftBy image c)
 unfolding marginsOf leftBy guided
 call-steps image (Ticks t) a =
-    subst (λ (c : Called). Steps (marginsIf c (guided image t .margin)) image (c .image)) (sym (flying-is (t .course) image (t .input) (t .answer)))
+    subst (λ (c : Called). Steps (marginsIf c (guided image t .margin)) image (c .later .image)) (sym (flying-is (t .course) image (t .input) (t .answer)))
     (tick-steps (sourceOn (t .course) image) (refusalOn (t .course) image (length (t .input)) (length (t .answer))) image (t .input) (t .answer) a)
 
 -- ---- one after another

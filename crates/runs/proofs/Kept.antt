@@ -26,7 +26,7 @@ use Rattle.runs.proofs.Going.{call-steps}
 one : (image : List ℕ) (t : Tick) → Accepted image → T (le (float image GOVERNOR) (float (leftBy image (Ticks t)) GOVERNOR))
 unfolding leftBy
 one image t a =
-    subst (λ (c : Called). T (le (float image GOVERNOR) (float (c .image) GOVERNOR))) (sym (flying-is (t .course) image (t .input) (t .answer)))
+    subst (λ (c : Called). T (le (float image GOVERNOR) (float (c .later .image) GOVERNOR))) (sym (flying-is (t .course) image (t .input) (t .answer)))
     (tick-clock (sourceOn (t .course) image) (refusalOn (t .course) image (length (t .input)) (length (t .answer))) image (t .input) (t .answer) a)
 
 -- "the governor's time word never decreases and is never NaN along any run": over any number of ticks of both kinds, with any inputs

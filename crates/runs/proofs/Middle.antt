@@ -25,7 +25,7 @@ in-band : (enter exit m : Float) → InBand enter exit m → (b : Bool) → latc
 in-band enter exit m i true = engaged-stays-in-band enter exit m (i .not-above)
 in-band enter exit m i false = released-stays-in-band enter exit m (i .finite) (i .not-below)
 
-one-more : (image : List ℕ) (calls : List Call) (t : Tick) → imageAfter image (calls ++ Ticks t ∷ []) ≡ tickOf (imageAfter image calls) t .image
+one-more : (image : List ℕ) (calls : List Call) (t : Tick) → imageAfter image (calls ++ Ticks t ∷ []) ≡ tickOf (imageAfter image calls) t .later .image
 unfolding imageAfter leftBy
 one-more image [] t = refl
 one-more image (c ∷ calls) t = one-more (leftBy image c) calls t
@@ -65,7 +65,7 @@ module _ (setup : List ℕ) where
         released-only-above-exit (enterOf setup) (exitOf setup) m (subst (λ (x : Bool). latch (enterOf setup) (exitOf setup) x m ≡ false) b l)
 
     -- The image keeps the flag for the next tick.
-    pub flag-kept : word (tickOf image t .image) ENGAGED ≡ flagOf image t
+    pub flag-kept : word (tickOf image t .later .image) ENGAGED ≡ flagOf image t
     flag-kept =
         rw (tick-done image t (ran setup calls .accepted) r) (engaged-written (stateAfter (sourceOn (t .course) image) (stateAt image) (inputAt (t .input))))
         ∙ ap flag (tick-keeps-flag (sourceOn (t .course) image) (stateAt image) (inputAt (t .input)))
@@ -79,7 +79,7 @@ module _ (setup : List ℕ) where
   -- at a tick u right after a tick t, u's flag is t's
   pub next-in-band : (calls : List Call) (t u : Tick) → Right t → Right u
       → let image = imageAfter (start setup) calls in
-      let next = tickOf image t .image in
+      let next = tickOf image t .later .image in
       InBand (enterOf setup) (exitOf setup) (guided next u .margin) → flagOf next u ≡ flagOf image t
   next-in-band calls t u r q i =
       subst (λ (x : List ℕ). InBand (enterOf setup) (exitOf setup) (guided x u .margin) → flagOf x u ≡ word x ENGAGED) (one-more (start setup) calls t)

@@ -28,10 +28,11 @@ use Rattle.image.proofs.Answered.{flag-answered, margin-answered, margin-word, 
 use Rattle.image.proofs.AnswerFits.{margin-fits, command-fits}
 use Rattle.outcome.specs.declared.Outcome.{Outcome}
 use Rattle.outcome.specs.declared.Outcome.the-variants.{Done}
-use Rattle.outcome.specs.Outcomes.{called}
+use Rattle.outcome.specs.Outcomes.{left, lent}
 use Rattle.calls.specs.Entry.{tickRefusal, tickFrom, tickCall}
 use Rattle.calls.specs.Ticks.{Accepted}
 use Rattle.route.specs.Entry.{routeRefusal, routeCall}
+use Rattle.route.proofs.Taken.{in-their-turn}
 use Rattle.runs.specs.Runs.{Course, Segment, Route, Tick, flying, tickOf, sourceOn, guided, RightCourse, Right}
 use Rattle.runs.specs.DemandThree.{cleanWord, plannerWords, fallbackWords, commandWords, flagOf, Shows}
 
@@ -82,9 +83,8 @@ flying-is Segment image input answer = refl
 flying-is (Route route) image input answer = refl
 
 not-refused : (c : Course) (image : List ℕ) → Accepted image → RightCourse c → refusalOn c image INPUT-BYTES ANSWER-BYTES ≡ Done
-unfolding routeRefusal
 not-refused Segment image a r = a
-not-refused (Route route) image a r = rw (a, r)
+not-refused (Route route) image a r = rw (in-their-turn, a, r)
 
 -- ---- what a tick does
 
@@ -126,7 +126,7 @@ module _ (image : List ℕ) (t : Tick) where
       (margin-word (done .answer) f ∙ ap bits e, margin-answered (done .answer) f ∙ e)
 
   module _ (a : Accepted image) (r : Right t) where
-    pub tick-done : tickOf image t ≡ called Done (imageOf (stateAfter source s i)) answers
+    pub tick-done : tickOf image t ≡ left Done (lent (imageOf (stateAfter source s i)) answers)
     unfolding tickFrom
     tick-done = flying-is (t .course) image (t .input) (t .answer) ∙ rw (r .0, r .1, not-refused (t .course) image a (r .2))
 

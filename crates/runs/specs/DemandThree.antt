@@ -36,7 +36,7 @@ commandWords answer = word answer COMMAND ∷ word answer (COMMAND + 1) ∷ word
 
 -- the flag that a tick of the image answers
 abbrev pub flagOf : List ℕ → Tick → ℕ
-flagOf image t = word (tickOf image t .answer) FLAG
+flagOf image t = word (tickOf image t .later .answer) FLAG
 
 -- What a tick of the image shows: it is accepted; its flag is 0 or 1, and 0 exactly if the planner is to fly; the flag names whose command is
 -- passed on; and the margin is shown, so that it can be read off.
@@ -44,10 +44,10 @@ pub record Shows (Flying : Type 0) (image : List ℕ) (t : Tick) : Type 0 where
   pub accepted : number (tickOf image t .outcome) ≡ 0
   pub flag : (flagOf image t ≡ 0) ⊎ (flagOf image t ≡ 1)
   pub flies : (flagOf image t ≡ 0) ↔ Flying
-  pub planner : flagOf image t ≡ 0 → commandWords (tickOf image t .answer) ≡ plannerWords (t .input)
-  pub fallback : flagOf image t ≡ 1 → commandWords (tickOf image t .answer) ≡ fallbackWords (guided image t)
-  pub margin : word (tickOf image t .answer) MARGIN ≡ bits (guided image t .margin)
-  pub margin-read : float (tickOf image t .answer) MARGIN ≡ guided image t .margin
+  pub planner : flagOf image t ≡ 0 → commandWords (tickOf image t .later .answer) ≡ plannerWords (t .input)
+  pub fallback : flagOf image t ≡ 1 → commandWords (tickOf image t .later .answer) ≡ fallbackWords (guided image t)
+  pub margin : word (tickOf image t .later .answer) MARGIN ≡ bits (guided image t .margin)
+  pub margin-read : float (tickOf image t .later .answer) MARGIN ≡ guided image t .margin
 
 -- the user's middle: finite, not above exit and not below enter, each of them included
 pub record InBand (enter exit m : Float) : Type 0 where

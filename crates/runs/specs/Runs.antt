@@ -47,7 +47,7 @@ tickOf image t = flying (t .course) image (t .input) (t .answer)
 -- the image that a call leaves; a refused one leaves it as it was
 unfoldable pub leftBy : List ℕ → Call → List ℕ
 unfolding flying
-leftBy image (Ticks t) = tickOf image t .image
+leftBy image (Ticks t) = tickOf image t .later .image
 
 -- ---- the margins
 

@@ -1,13 +1,14 @@
 -- `calls::entry::tick`: refused as it stands, or flown and written. Assumes nothing.
 use borrow.Author.Needs.{needs}
-use Rattle.calls.specs.Entry.{tickCall}
-use Rattle.calls.proofs.Flown.{sized-here, refused, flown}
+use Rattle.outcome.proofs.Tables.{accepted, refused}
+use Rattle.calls.specs.Entry.{tickFrom, tickCall}
+use Rattle.calls.proofs.Flown.{sized, flown}
 use Rattle.calls.proofs.entry.tick.Statement.{statement}
 use Rattle.calls.proofs.entry.tick.Tie as tie
 
 refuses : tie.Need-returns
-unfolding tickCall
-refuses c = refused _ _ _ _ (c .before .before .tick-refusal .ensures) (c .before .is-done .ensures) (c .if1 .taken)
+unfolding tickCall tickFrom
+refuses c = refused (c .before .before .tick-refusal .ensures) (c .before .is-done .ensures) (c .if1 .taken) _
 
 flies : tie.Need-returns-2
 unfolding tickCall
@@ -26,12 +27,12 @@ pub tick-spec : {M : Type 1} → statement M
 tick-spec =
     tie.close
     (tie.spec (λ c κs. search needs) (λ c κs. search needs) (λ c. search needs) refuses
-    (λ c κs. let e = c in sized-here _ _ _ (e .before .before .tick-refusal .ensures) (e .before .is-done .ensures) (e .if1 .left) .1)
-    (λ c κs. let e = c .before .before in sized-here _ _ _ (e .before .before .tick-refusal .ensures) (e .before .is-done .ensures) (e .if1 .left) .0)
-    (λ c κs. let e = c .before .before .before .before in sized-here _ _ _ (e .before .before .tick-refusal .ensures) (e .before .is-done .ensures) (e .if1 .left) .0)
+    (λ c κs. let e = c in sized _ _ _ (accepted (e .before .before .tick-refusal .ensures) (e .before .is-done .ensures) (e .if1 .left)) .1)
+    (λ c κs. let e = c .before .before in sized _ _ _ (accepted (e .before .before .tick-refusal .ensures) (e .before .is-done .ensures) (e .if1 .left)) .0)
+    (λ c κs. let e = c .before .before .before .before in sized _ _ _ (accepted (e .before .before .tick-refusal .ensures) (e .before .is-done .ensures) (e .if1 .left)) .0)
     (λ c κs. search needs)
     (λ c κs. search needs)
     (λ c κs. let e = c .before .before .before .before .before .before .before .before .before in
-    let n = sized-here _ _ _ (e .before .before .tick-refusal .ensures) (e .before .is-done .ensures) (e .if1 .left) in (n .0, n .2))
+    let n = sized _ _ _ (accepted (e .before .before .tick-refusal .ensures) (e .before .is-done .ensures) (e .if1 .left)) in (n .0, n .2))
     (λ c. search needs) (λ c. search needs)
     flies)

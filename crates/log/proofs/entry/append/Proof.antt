@@ -2,27 +2,33 @@
 use borrow.Author.Needs.{needs}
 use mathlib.Core.Path.{sym}
 use lib.Seq.{length-take-le}
-use Rattle.log.proofs.Taken.{is-a-log, refused, taken-here, written}
+use Rattle.outcome.proofs.Tables.{accepted, refused}
+use Rattle.log.specs.Entry.{appendCall}
+use Rattle.log.proofs.Taken.{is-a-log, taken, written}
 use Rattle.log.proofs.entry.append.Statement.{statement}
 use Rattle.log.proofs.entry.append.Tie as tie
+
+stays : tie.Need-returns
+unfolding appendCall
+stays c = refused (c .before .before .append-refusal .ensures) (c .before .is-done .ensures) (c .if1 .taken) _
 
 pub append-spec : {M : Type 1} → statement M
 append-spec =
     tie.close
     (tie.spec (λ c κs. search needs) (λ c κs. search needs) (λ c. search needs)
-    (λ c. refused _ _ _ _ (c .before .before .append-refusal .ensures) (c .before .is-done .ensures) (c .if1 .taken))
-    (λ c. taken-here _ _ _ _ (c .before .before .append-refusal .ensures) (c .before .is-done .ensures) (c .if1 .left) .within)
+    stays
+    (λ c. taken _ _ _ _ (accepted (c .before .before .append-refusal .ensures) (c .before .is-done .ensures) (c .if1 .left)) .within)
     (λ c.
     let e = c .before in
-    let t = taken-here _ _ _ _ (e .before .before .append-refusal .ensures) (e .before .is-done .ensures) (e .if1 .left) in
+    let t = taken _ _ _ _ (accepted (e .before .before .append-refusal .ensures) (e .before .is-done .ensures) (e .if1 .left)) in
     sym (length-take-le _ _ (t .within)))
     (λ c κs.
     let e = c .before in
-    let t = taken-here _ _ _ _ (e .before .before .append-refusal .ensures) (e .before .is-done .ensures) (e .if1 .left) in
+    let t = taken _ _ _ _ (accepted (e .before .before .append-refusal .ensures) (e .before .is-done .ensures) (e .if1 .left)) in
     is-a-log _ (t .log) .trailer)
     (λ c κs.
     let e = c .before .before .before in
-    let t = taken-here _ _ _ _ (e .before .before .append-refusal .ensures) (e .before .is-done .ensures) (e .if1 .left) in
+    let t = taken _ _ _ _ (accepted (e .before .before .append-refusal .ensures) (e .before .is-done .ensures) (e .if1 .left)) in
     rw (c .before .record-count .ensures) ((t .input-length, t .answer-length), (t .room, t .one-more)))
     (λ c. search needs)
     (λ c.

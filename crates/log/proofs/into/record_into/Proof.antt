@@ -1,4 +1,4 @@
--- `log::calls::record_into`: the tests in their order, then what the reader hands out. Assumes nothing.
+-- `log::into::record_into`: the tests in their order, then what the reader hands out. Assumes nothing.
 use borrow.Author.Needs.{needs}
 use borrow.Author.Tests.{eq-eqb, ne-eqb, not-true, not-false}
 use mathlib.Core.Path.{_≡_, sym, _∙_, ap}
@@ -7,8 +7,8 @@ use lib.ListN.{length}
 use Rattle.words.proofs.Written.{over-all}
 use Rattle.log.specs.Entry.{recordCall}
 use Rattle.log.proofs.Taken.{record-length, handed}
-use Rattle.log.proofs.calls.record_into.Statement.{statement}
-use Rattle.log.proofs.calls.record_into.Tie as tie
+use Rattle.log.proofs.into.record_into.Statement.{statement}
+use Rattle.log.proofs.into.record_into.Tie as tie
 
 pub record-into-spec : {M : Type 1} → statement M
 unfolding recordCall

@@ -5,8 +5,8 @@ use native.Mathlib.Omega.{arith}
 use Rattle.words.proofs.Written.{whole}
 use Rattle.log.specs.Entry.{countCall}
 use Rattle.log.proofs.Taken.{is-a-log}
-use Rattle.log.proofs.calls.count_into.Statement.{statement}
-use Rattle.log.proofs.calls.count_into.Tie as tie
+use Rattle.log.proofs.into.count_into.Statement.{statement}
+use Rattle.log.proofs.into.count_into.Tie as tie
 
 pub count-into-spec : {M : Type 1} → statement M
 unfolding countCall

@@ -1,0 +1,77 @@
+-- A table of refusals, whatever its rows: when a call is done, which row wins, and what a refused call leaves. Assumes nothing.
+use mathlib.Core.Path.{_≡_, refl, sym, _∙_}
+use mathlib.Core.Logic.{_↔_}
+use mathlib.Core.Bool.{Bool, true, false, not, _&&_, cond}
+use mathlib.Core.List.{[], _∷_, _++_}
+use Prim.Native.Nat.{ℕ, zero, suc, _<_, suc-le-suc}
+use native.Mathlib.Nat.{zero-lt-suc}
+use borrow.Author.Tests.{eqb-true, not-true, not-false}
+use lib.ListN.{getD}
+use Rattle.laws.proofs.Tests.{no, both}
+use Rattle.outcome.specs.declared.Outcome.{Outcome}
+use Rattle.outcome.specs.declared.Outcome.the-variants.{Done}
+use Rattle.outcome.specs.Outcomes.{isDone, Table, firstOf, differs, Left, left, leftUnless}
+
+-- every row refuses: none says that the call is done
+abbrev pub refuses : Table → Bool
+refuses [] = true
+refuses (row ∷ rows) = not (isDone (row .1)) && refuses rows
+
+-- row number k, counted from 0; after the last, one whose test does not hold
+abbrev pub rowAt : Table → ℕ → Bool × Outcome
+rowAt rows k = getD rows k (false, Done)
+
+-- ---- "the lowest number wins": the first row whose test holds
+
+pub first-row-wins : (rows : Table) (k : ℕ) → ((i : ℕ) → i < k → rowAt rows i .0 ≡ false) → rowAt rows k .0 ≡ true → firstOf rows ≡ rowAt rows k .1
+first-row-wins [] k n h = refl
+first-row-wins (row ∷ rows) zero n h = rw h
+first-row-wins (row ∷ rows) (suc k) n h = rw (n 0 (zero-lt-suc k)) (first-row-wins rows k (λ i l. n (suc i) (suc-le-suc l)) h)
+
+-- ---- "0: no row below holds"
+
+pub done-none : (rows : Table) → refuses rows ≡ true → isDone (firstOf rows) ≡ true → (k : ℕ) → rowAt rows k .0 ≡ false
+done-none [] r e k = refl
+done-none ((true, o) ∷ rows) r e k = no (sym (not-true (isDone o) (both (not (isDone o)) (refuses rows) r .0)) ∙ e)
+done-none ((false, o) ∷ rows) r e zero = refl
+done-none ((false, o) ∷ rows) r e (suc k) = done-none rows (both (not (isDone o)) (refuses rows) r .1) e k
+
+none-done : (rows : Table) → ((k : ℕ) → rowAt rows k .0 ≡ false) → isDone (firstOf rows) ≡ true
+none-done [] n = refl
+none-done (row ∷ rows) n = rw (n 0) (none-done rows (λ k. n (suc k)))
+
+pub done-exactly : (rows : Table) → refuses rows ≡ true → (isDone (firstOf rows) ≡ true) ↔ ((k : ℕ) → rowAt rows k .0 ≡ false)
+done-exactly rows r = (done-none rows r, none-done rows)
+
+-- a length that is not refused
+pub same : (x n : ℕ) → differs x n ≡ false → x ≡ n
+same x n e = eqb-true x n (not-false _ e)
+
+-- one table after another
+pub in-turn : (rows more : Table) → refuses rows ≡ true → firstOf (rows ++ more) ≡ cond (isDone (firstOf rows)) (firstOf more) (firstOf rows)
+in-turn [] more r = refl
+in-turn ((true, o) ∷ rows) more r = rw (not-true (isDone o) (both (not (isDone o)) (refuses rows) r .0))
+in-turn ((false, o) ∷ rows) more r = in-turn rows more (both (not (isDone o)) (refuses rows) r .1)
+
+-- ---- "nothing changed"
+
+pub refused-keeps : {B : Type 0} (o : Outcome) (written kept : B) → isDone o ≡ false → leftUnless o written kept ≡ left o kept
+refused-keeps o written kept e = rw e
+
+-- what holds of what an accepted call leaves, and of what a refused one does, holds of what a call leaves
+pub either : {B : Type 0} (P : Left Outcome B → Type 0) (o : Outcome) {written kept : B} → (isDone o ≡ true → P (left Done written)) → (isDone o ≡ false → P (left o kept))
+    → P (leftUnless o written kept)
+either {B} P o {written} {kept} w k = go (isDone o) refl
+  where
+    go : (t : Bool) → isDone o ≡ t → P (cond t (left Done written) (left o kept))
+    go true e = w e
+    go false e = k e
+
+-- ---- a call that asks a function, which says o, whether it is refused: t is whether o is done
+
+module _ {o r : Outcome} {t : Bool} (e : o ≡ r) (d : t ≡ isDone o) where
+  pub accepted : not t ≡ false → isDone r ≡ true
+  accepted n = rw (← e, ← d) (not-false t n)
+
+  pub refused : not t ≡ true → {B : Type 0} {kept : B} (written : B) → left o kept ≡ leftUnless r written kept
+  refused n written = rw (← e, ← d, not-true t n)

@@ -3,7 +3,7 @@ use mathlib.Core.Path.{_≡_, refl, ap, _∙_}
 use mathlib.Core.Bool.{true, false}
 use lib.Ieee.{Float, ofBits, add, sub, mul, div, neg, lt, le, eq}
 use Rattle.words.specs.Words.{word, float, vec}
-use Rattle.relay_math.specs.F32.{f32, 0·0, 0·5, 1·0, isFinite, grains}
+use Rattle.relay_math.specs.F32.{0·0, 0·5, 1·0, 1·75, isFinite, grains}
 use Rattle.relay_math.specs.Sqrt.{sqrtf}
 use Rattle.relay_math.specs.declared.Vec3.{Vec3}
 use Rattle.relay_geo.specs.declared.attitude.Attitude.the-variants.{Matrix}
@@ -30,9 +30,6 @@ use Rattle.joint_tick.proofs.Shielding.{tick-latch}
 use Rattle.image.specs.Parts.{setAt, legAt, quatAt}
 use Rattle.image.specs.Inputs.{setupAt, inputAt}
 use Rattle.calls.specs.Shams.{levelSetUp, levelInput}
-
-abbrev 1·75 : Float
-1·75 = f32 0x3fe0_0000
 
 abbrev zeros : Vec3
 zeros = (0·0, 0·0, 0·0)

@@ -7,7 +7,7 @@ use Rattle.words.specs.Words.{word, float, vec, bits, flag, Holds}
 use Rattle.words.proofs.Back.{word-back, bits-back, float-back, vec-back, flag-lt}
 use Rattle.words.proofs.Written.{length-bytesOf}
 use Rattle.joint_tick.specs.declared.state.Answer.{Answer}
-use Rattle.image.specs.Layout.{TORQUE, COMMAND, FLAG, TIME, PSI, MARGIN, ANSWER-BYTES}
+use Rattle.image.specs.Layout.{COMMAND, FLAG, MARGIN, ANSWER-BYTES}
 use Rattle.image.specs.Inputs.{wordsOfAnswer, answerOf}
 use Rattle.image.specs.Fits.{F32, FitsVec}
 
@@ -18,9 +18,6 @@ answer-is a = record { is = refl }
 pub answer-length : (a : Answer) → length (answerOf a) ≡ ANSWER-BYTES
 answer-length a = ap length (answer-is a .is) ∙ length-bytesOf (wordsOfAnswer a)
 
-pub torque-answered : (a : Answer) → FitsVec (a .torque .0) → vec (answerOf a) TORQUE ≡ a .torque .0
-torque-answered a f = vec-back (answer-is a) TORQUE (a .torque .0) refl f
-
 pub command-answered : (a : Answer) → FitsVec (a .command .0) → vec (answerOf a) COMMAND ≡ a .command .0
 command-answered a f = vec-back (answer-is a) COMMAND (a .command .0) refl f
 
@@ -28,19 +25,10 @@ command-answered a f = vec-back (answer-is a) COMMAND (a .command .0) refl f
 pub flag-answered : (a : Answer) → word (answerOf a) FLAG ≡ flag (a .fallback)
 flag-answered a = word-back (answer-is a) FLAG refl (flag-lt (a .fallback))
 
-pub time-answered : (a : Answer) → F32 (a .time) → float (answerOf a) TIME ≡ a .time
-time-answered a f = float-back (answer-is a) TIME (a .time) refl f
-
-pub psi-answered : (a : Answer) → F32 (a .psi) → float (answerOf a) PSI ≡ a .psi
-psi-answered a f = float-back (answer-is a) PSI (a .psi) refl f
-
 pub margin-answered : (a : Answer) → F32 (a .margin) → float (answerOf a) MARGIN ≡ a .margin
 margin-answered a f = float-back (answer-is a) MARGIN (a .margin) refl f
 
 -- the same by their words, in which a NaN is 0x7fc0_0000
-pub psi-word : (a : Answer) → F32 (a .psi) → word (answerOf a) PSI ≡ bits (a .psi)
-psi-word a f = bits-back (answer-is a) PSI (a .psi) refl f
-
 pub margin-word : (a : Answer) → F32 (a .margin) → word (answerOf a) MARGIN ≡ bits (a .margin)
 margin-word a f = bits-back (answer-is a) MARGIN (a .margin) refl f
 

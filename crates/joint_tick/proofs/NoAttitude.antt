@@ -13,7 +13,7 @@ use Rattle.relay_geo.specs.declared.attitude.Feedforward.the-variants as rate
 use Rattle.relay_geo.specs.declared.controller.GeoGains.{GeoGains}
 use Rattle.relay_geo.specs.declared.set.RecoverableSet.{RecoverableSet}
 use Rattle.relay_geo.specs.Vectors.{norm, sanitise3}
-use Rattle.relay_geo.specs.Attitude.{thrustForce, thrustAttitude, tooWeak, flatnessOmegaFf, feedforwardFrom}
+use Rattle.relay_geo.specs.Attitude.{thrustForce, thrustAttitude, tooWeak, flatnessOmegaFf, feedforwardFrom, thrustOf, feedforwardOn}
 use Rattle.relay_geo.specs.Set.{minusInfinity}
 use Rattle.latch.specs.Latch.{latch}
 use Rattle.relay_geo.proofs.Accepts.{feedforward-shares}
@@ -31,7 +31,7 @@ zeros = record { 0 = (0·0, 0·0, 0·0) }
 
 -- the feedforward "takes an R_d and there is none"
 no-feedforward : (a j : Vec3) (yaw yawRate : Float) → thrustAttitude a yaw ≡ Refused → flatnessOmegaFf a j yaw yawRate ≡ rate.Refused
-unfolding feedforwardFrom
+unfolding feedforwardFrom feedforwardOn thrustOf
 no-feedforward a j yaw yawRate e = rw (feedforward-shares a j yaw yawRate, e) (either (tooWeak (norm (thrustForce a))))
   where
     either : (b : Bool) → _≡_ {A = Feedforward} (cond b rate.Refused rate.Refused) rate.Refused

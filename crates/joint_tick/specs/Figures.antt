@@ -1,7 +1,7 @@
 -- Document 01's worked figures, those marked *: 25 numbers, each beside what the definitions compute. Definitions only.
 use mathlib.Core.Path.{_≡_}
 use lib.Ieee.{Float, nan}
-use Rattle.relay_math.specs.F32.{f32, 0·0, 0·5, 1·0, 2·0, 3·0, ∞}
+use Rattle.relay_math.specs.F32.{f32, 0·0, 0·5, 1·0, 1·75, 2·0, 3·0, ∞}
 use Rattle.relay_math.specs.Sqrt.{sqrtf}
 use Rattle.relay_geo.specs.declared.set.RecoverableSet.{RecoverableSet}
 use Rattle.relay_geo.specs.Set.{newSet, margin}
@@ -59,9 +59,6 @@ abbrev 1·25 : Float
 
 abbrev 1·5 : Float
 1·5 = f32 0x3fc0_0000
-
-abbrev 1·75 : Float
-1·75 = f32 0x3fe0_0000
 
 abbrev 97·5 : Float
 97·5 = f32 0x42c3_0000

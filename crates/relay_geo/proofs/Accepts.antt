@@ -49,7 +49,7 @@ same-axis a w = rw (strong-long (norm (thrustForce a)) w)
 
 -- So the attitude that the feedforward builds is that of the acceleration and the heading, and a caller may build it once.
 pub feedforward-shares : (a j : Vec3) (yaw yawRate : Float) → flatnessOmegaFf a j yaw yawRate ≡ feedforwardFrom a j yawRate (thrustAttitude a yaw)
-unfolding flatnessOmegaFf feedforwardFrom thrustAttitude
+unfolding flatnessOmegaFf feedforwardFrom feedforwardOn thrustOf thrustAttitude
 feedforward-shares a j yaw yawRate = go (tooWeak (norm (thrustForce a))) refl
   where
     go : (w : Bool) → tooWeak (norm (thrustForce a)) ≡ w → flatnessOmegaFf a j yaw yawRate ≡ feedforwardFrom a j yawRate (thrustAttitude a yaw)
@@ -62,7 +62,7 @@ unfolding thrustOf attitudeOn thrustAttitude thrustAxisNed normalize
 shared-attitude a yaw = refl
 
 pub shared-feedforward : (a j : Vec3) (yaw yawRate : Float) → feedforwardOn (thrustOf a) j yawRate (thrustAttitude a yaw) ≡ flatnessOmegaFf a j yaw yawRate
-unfolding thrustOf feedforwardOn feedforwardFrom
+unfolding feedforwardFrom
 shared-feedforward a j yaw yawRate = sym (feedforward-shares a j yaw yawRate)
 
 given : (s : Bool) (c : Float) (b3 j : Vec3) (yawRate : Float) (r : Attitude) → givesRate (cond (not s) rate.Refused (rateFrom c b3 j yawRate r)) ≡ (s && givesMatrix r)
@@ -73,7 +73,7 @@ given false c b3 j yawRate r = refl
 -- Numbers exactly if the norm is finite and above 1e-3, and the attitude exists.
 pub feedforward-accepts : (a j : Vec3) (yaw yawRate : Float)
     → let c = norm (thrustForce a) in givesRate (flatnessOmegaFf a j yaw yawRate) ≡ (finiteAbove 1e-3 c && givesMatrix (thrustAttitude a yaw))
-unfolding feedforwardFrom
+unfolding feedforwardFrom feedforwardOn thrustOf
 feedforward-accepts a j yaw yawRate =
     let c = norm (thrustForce a) in
     rw (feedforward-shares a j yaw yawRate, strong c) (given (finiteAbove 1e-3 c) c (over (thrustForce a) c) j yawRate (thrustAttitude a yaw))

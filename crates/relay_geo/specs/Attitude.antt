@@ -87,13 +87,6 @@ flatnessOmegaFf a j yaw yawRate =
     let b3 = over t c in
     cond (tooWeak c) rate.Refused (rateFrom c b3 j yawRate (desiredAttitude b3 yaw))
 
--- the same, the attitude being there already
-unfoldable pub feedforwardFrom : Vec3 → Vec3 → Float → Attitude → Feedforward
-feedforwardFrom a j yawRate attitude =
-    let t = thrustForce a in
-    let c = norm t in
-    cond (tooWeak c) rate.Refused (rateFrom c (over t c) j yawRate attitude)
-
 -- ---- the thrust's force and its norm, for a caller that wants the attitude and the feedforward of one acceleration
 
 unfoldable pub thrustOf : Vec3 → Thrust
@@ -106,6 +99,10 @@ unfoldable pub feedforwardOn : Thrust → Vec3 → Float → Attitude → Feedfo
 feedforwardOn t j yawRate attitude =
     let c = t .norm in
     cond (tooWeak c) rate.Refused (rateFrom c (over (t .force) c) j yawRate attitude)
+
+-- the same of an acceleration
+unfoldable pub feedforwardFrom : Vec3 → Vec3 → Float → Attitude → Feedforward
+feedforwardFrom a j yawRate attitude = feedforwardOn (thrustOf a) j yawRate attitude
 
 -- ---- for what is proved of them
 

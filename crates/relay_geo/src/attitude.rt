@@ -5,7 +5,6 @@ use super::vectors::Quat;
 use super::vectors::Unit;
 use super::vectors::cross;
 use super::vectors::dot;
-use super::vectors::norm;
 use super::vectors::normalize;
 use super::vectors::sanitise3;
 use super::vectors::transposed_times;
@@ -140,35 +139,7 @@ fn rate_from(c: f32, b3: Vec3, j_cmd: Vec3, yaw_rate: f32, r_d: Attitude) -> Fee
     Feedforward::Rate(BodyRate(sanitise3(Vec3(w_body.0, w_body.1, w_body.2 + yaw_rate))))
 }
 
-// The feedforward for a caller that has the attitude already: with `thrust_attitude(a_cmd, yaw)` it is that of `flatness_omega_ff`
-// (`feedforward-shares` of proofs/Accepts.antt).
-pub fn feedforward_from(a_cmd: Vec3, j_cmd: Vec3, yaw_rate: f32, r_d: Attitude) -> Feedforward
-    ensures { λ r. ⌜ r ≡ feedforwardFrom «a_cmd» «j_cmd» «yaw_rate» «r_d» ⌝ }
-{
-    let tf = thrust_force(a_cmd);
-    let c = norm(tf);
-    if too_weak(c) {
-        return Feedforward::Refused;
-    }
-    let b3 = Vec3(tf.0 / c, tf.1 / c, tf.2 / c);
-    rate_from(c, b3, j_cmd, yaw_rate, r_d)
-}
-
-// The body rate that a flat trajectory demands, from its acceleration, jerk, heading and heading's rate. The Rust's comment has the
-// other sign; its code, and this, have -(b3 x j) / c.
-pub fn flatness_omega_ff(a_cmd: Vec3, j_cmd: Vec3, yaw: f32, yaw_rate: f32) -> Feedforward
-    ensures { λ r. ⌜ r ≡ flatnessOmegaFf «a_cmd» «j_cmd» yaw «yaw_rate» ⌝ }
-{
-    let tf = thrust_force(a_cmd);
-    let c = norm(tf);
-    if too_weak(c) {
-        return Feedforward::Refused;
-    }
-    let b3 = Vec3(tf.0 / c, tf.1 / c, tf.2 / c);
-    rate_from(c, b3, j_cmd, yaw_rate, desired_attitude(b3, yaw))
-}
-
-// Its norm is written out: so the compiled root stays a call on a number, and no vector goes through memory to it.
+// The thrust of an acceleration. Its norm is written out: so the compiled root stays a call on a number, and no vector goes through memory to it.
 pub fn thrust_of(a_cmd: Vec3) -> Thrust
     ensures { λ r. ⌜ r ≡ thrustOf «a_cmd» ⌝ }
 {
@@ -190,7 +161,7 @@ pub fn attitude_on(t: Thrust, yaw: f32) -> Attitude
     }
 }
 
-// `feedforward_from` of the acceleration whose thrust this is (`shared-feedforward`).
+// The feedforward of this thrust for a caller that has the attitude already.
 pub fn feedforward_on(t: Thrust, j_cmd: Vec3, yaw_rate: f32, r_d: Attitude) -> Feedforward
     ensures { λ r. ⌜ r ≡ feedforwardOn t «j_cmd» «yaw_rate» «r_d» ⌝ }
 {
@@ -201,4 +172,20 @@ pub fn feedforward_on(t: Thrust, j_cmd: Vec3, yaw_rate: f32, r_d: Attitude) -> F
     }
     let b3 = Vec3(tf.0 / c, tf.1 / c, tf.2 / c);
     rate_from(c, b3, j_cmd, yaw_rate, r_d)
+}
+
+// The same of an acceleration: with `thrust_attitude(a_cmd, yaw)` it is that of `flatness_omega_ff` (`feedforward-shares` of proofs/Accepts.antt).
+pub fn feedforward_from(a_cmd: Vec3, j_cmd: Vec3, yaw_rate: f32, r_d: Attitude) -> Feedforward
+    ensures { λ r. ⌜ r ≡ feedforwardFrom «a_cmd» «j_cmd» «yaw_rate» «r_d» ⌝ }
+{
+    feedforward_on(thrust_of(a_cmd), j_cmd, yaw_rate, r_d)
+}
+
+// The body rate that a flat trajectory demands, from its acceleration, jerk, heading and heading's rate. The Rust's comment has the
+// other sign; its code, and this, have -(b3 x j) / c. The Rust builds the attitude of b3; that of the thrust is the same where the thrust is not too weak.
+pub fn flatness_omega_ff(a_cmd: Vec3, j_cmd: Vec3, yaw: f32, yaw_rate: f32) -> Feedforward
+    ensures { λ r. ⌜ r ≡ flatnessOmegaFf «a_cmd» «j_cmd» yaw «yaw_rate» ⌝ }
+{
+    let t = thrust_of(a_cmd);
+    feedforward_on(t, j_cmd, yaw_rate, attitude_on(t, yaw))
 }

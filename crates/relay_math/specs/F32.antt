@@ -40,6 +40,9 @@ abbrev pub 0·5 : Float
 abbrev pub 1·0 : Float
 1·0 = f32 0x3f80_0000
 
+abbrev pub 1·75 : Float
+1·75 = f32 0x3fe0_0000
+
 abbrev pub 2·0 : Float
 2·0 = f32 0x4000_0000
 

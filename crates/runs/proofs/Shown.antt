@@ -51,11 +51,6 @@ pub other-word-zero : (w : ℕ) → isFinite (floatOf w) ≡ false → cleanWord
 unfolding ofBits toBits
 other-word-zero w e = rw e
 
--- every word of bytes is one of 32 bits
-pub word-lt : (b : List ℕ) → ((i : ℕ) → getD b i 0 < 256) → (k : ℕ) → word b k < 4294967296
-unfolding word
-word-lt b h k = omega (arith, h (4 * k), h (4 * k + 1), h (4 * k + 2), h (4 * k + 3))
-
 -- ---- a flag's word
 
 pub flag-zero : (b : Bool) → flag b ≡ 0 → b ≡ false

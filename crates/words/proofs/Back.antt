@@ -8,7 +8,7 @@ use native.Mathlib.Omega.{arith}
 use lib.Dec.{T, eqb, ltb, ltb→lt, lit<}
 use lib.ListN.{length, getD, take, drop}
 use lib.Seq.{getD-take, getD-drop, getD-append-add}
-use lib.Ieee.{Float, nan, binary32, isNan, fits, ofBits, toBits}
+use lib.Ieee.{Float, nan, binary32, isNan, fits, ofBits}
 use lib.Ieee.Fits.{nan-fits}
 use lib.Ieee.Bits.{ofBits-toBits, toBits-lt, toBits-ofBits, ofBits-fits}
 use Rattle.relay_math.specs.declared.Vec3.{Vec3}
@@ -60,19 +60,6 @@ float-fits b k = ofBits-fits binary32 (word b k)
 -- a word that is no NaN's pattern is its own canonical word
 pub canon-itself : (w : ℕ) → w < 4294967296 → T (not (isNan (floatOf w))) → canon w ≡ w
 canon-itself w h n = toBits-ofBits binary32 w h n
-
--- every NaN pattern's is 0x7fc0_0000
-pub canon-nan : (w : ℕ) → floatOf w ≡ nan → canon w ≡ 0x7fc00000
-unfolding toBits
-canon-nan w e = rw e
-
-pub canon-canon : (w : ℕ) → canon (canon w) ≡ canon w
-canon-canon w = ap bits (ofBits-toBits binary32 (floatOf w) (ofBits-fits binary32 w))
-
--- writing what was read
-pub bits-float : (b : List ℕ) (k : ℕ) → bits (float b k) ≡ canon (word b k)
-unfolding float
-bits-float b k = refl
 
 -- a flag that was written is read again
 pub flag-back : (b : Bool) → eqb (flag b) 1 ≡ b

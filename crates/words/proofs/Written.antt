@@ -7,7 +7,7 @@ use native.Mathlib.Nat.{add-zero, add-assoc}
 use native.Mathlib.Numerals.{add-one}
 use native.Mathlib.Omega.{arith}
 use lib.ListN.{length, getD, set, take, drop, length-append, drop-of-length-le, List·getD-append}
-use lib.Seq.{sets, sets-eq, length-sets, length-take-le, take-suc, getD-set-other, getD-append-add}
+use lib.Seq.{sets, sets-eq, length-take-le, take-suc, getD-set-other, getD-append-add}
 use Rattle.words.specs.Words.{word, bytesOf, Put}
 use Rattle.words.proofs.Back.{word-bytesOf}
 
@@ -37,9 +37,6 @@ then {b} {s} {t} {k} {j} {u} {v} p q h =
     let e : 4 * j ≡ 4 * k + length (bytesOf u) = omega (arith, length-bytesOf u) in
     record { is = q .is ∙ rw (p .is, e, bytesOf-append u v) (sets-append b (4 * k) (bytesOf u) (bytesOf v)) }
 
-pub put-length : {b t : List ℕ} {k : ℕ} {ws : List ℕ} → Put b k ws t → length t ≡ length b
-put-length {b} {t} {k} {ws} p = ap length (p .is) ∙ length-sets b (4 * k) (bytesOf ws)
-
 -- what stands before, the words, what stands after
 pub put-splits : {b t : List ℕ} {k : ℕ} {ws : List ℕ} → Put b k ws t → 4 * k + 4 * length ws ≤ length b
     → t ≡ take (4 * k) b ++ bytesOf ws ++ drop (4 * k + length (bytesOf ws)) b
@@ -61,23 +58,6 @@ sets-other [] b n i h = refl
 sets-other (v ∷ vs) b n i h =
     sets-other vs (set b n v) (suc n) i (⊎-elim (λ l. inl (omega arith)) (λ r. inr (omega arith)) h)
     ∙ getD-set-other b n i v 0 (λ e. ⊎-elim (λ l. omega arith) (λ r. omega arith) h)
-
--- a byte outside the run stays
-pub put-keeps : {b t : List ℕ} {k : ℕ} {ws : List ℕ} → Put b k ws t → (i : ℕ) → (i < 4 * k) ⊎ (4 * k + 4 * length ws ≤ i) → getD t i 0 ≡ getD b i 0
-put-keeps {b} {t} {k} {ws} p i h =
-    ap (λ (l : List ℕ). getD l i 0) (p .is)
-    ∙ sets-other (bytesOf ws) b (4 * k) i (⊎-elim (λ l. inl l) (λ r. inr (omega (arith, length-bytesOf ws))) h)
-
--- a word outside the run stays
-pub put-keeps-word : {b t : List ℕ} {k : ℕ} {ws : List ℕ} → Put b k ws t → (j : ℕ) → (j < k) ⊎ (k + length ws ≤ j) → word t j ≡ word b j
-unfolding word
-put-keeps-word {b} {t} {k} {ws} p j h =
-    rw (
-      put-keeps p (4 * j) (⊎-elim (λ l. inl (omega arith)) (λ r. inr (omega arith)) h),
-      put-keeps p (4 * j + 1) (⊎-elim (λ l. inl (omega arith)) (λ r. inr (omega arith)) h),
-      put-keeps p (4 * j + 2) (⊎-elim (λ l. inl (omega arith)) (λ r. inr (omega arith)) h),
-      put-keeps p (4 * j + 3) (⊎-elim (λ l. inl (omega arith)) (λ r. inr (omega arith)) h),
-    )
 
 -- byte i of the run is the words'
 put-byte : {b t : List ℕ} {k : ℕ} {ws : List ℕ} → Put b k ws t → 4 * k + 4 * length ws ≤ length b → (i : ℕ) → i < 4 * length ws

@@ -1,11 +1,7 @@
 -- Of each public function here: no second answer fits its promise. Assumes nothing.
 use mathlib.Core.Path.{refl}
 use Rattle.laws.proofs.Determined.{OneAnswer, no-second}
-use Rattle.latch.proofs.engages
 use Rattle.latch.proofs.latch
-
-pub engages-once : OneAnswer engages.ended engages.Reads.Post
-engages-once κs a x y v w p q = (no-second p q, refl)
 
 pub latch-once : OneAnswer latch.ended latch.Reads.Post
 latch-once κs a x y v w p q = (no-second p q, refl)

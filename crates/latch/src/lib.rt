@@ -5,7 +5,7 @@ ghost use mathlib.Core.Path.{_≡_};
 ghost use Rattle.latch.specs.Latch.{engages, latch};
 
 // The margin takes control from the planner.
-pub fn engages(enter: f32, margin: f32) -> bool
+fn engages(enter: f32, margin: f32) -> bool
     ensures { λ r. ⌜ r ≡ engages enter margin ⌝ }
 {
     if !is_finite(margin) {

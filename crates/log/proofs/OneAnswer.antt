@@ -12,25 +12,9 @@ use Rattle.outcome.specs.Outcomes.{Filled}
 use Rattle.log.specs.declared.reader.Reader.{Reader}
 use Rattle.log.specs.Records.{hasRecord, recordAt, placeAfter}
 use Rattle.log.proofs.form
-use Rattle.log.proofs.record
 use Rattle.log.proofs.reader
 use Rattle.log.proofs.entry
 use Rattle.log.proofs.into
-
-pub record-count-once : OneAnswer form.record_count.ended form.record_count.Reads.Post
-record-count-once κs a x y v w p q = (no-second p q, refl)
-
-pub is-log-once : OneAnswer form.is_log.ended form.is_log.Reads.Post
-is-log-once κs a x y v w p q = (no-second p q, refl)
-
-pub has-record-once : OneAnswer record.has_record.ended record.has_record.Reads.Post
-has-record-once κs a x y v w p q = (no-second p q, refl)
-
-pub place-after-once : OneAnswer record.place_after.ended record.place_after.Reads.Post
-place-after-once κs a x y v w p q = (no-second p q, refl)
-
-pub append-refusal-once : OneAnswer entry.append_refusal.ended entry.append_refusal.Reads.Post
-append-refusal-once κs a x y v w p q = (no-second p q, refl)
 
 pub append-once : OneAnswer entry.append.ended entry.append.Reads.Post
 append-once κs a x y v w p q =
@@ -56,9 +40,6 @@ module _ (T : Ended) {X : Type 0} (seen : (κs : Lfts (T .signature .lifetimes))
       → promise κs a x (atExit T κs a v)
       → promise κs a y (atExit T κs a w)
       → (seen κs x ≡ seen κs y) × (v ≡ w)
-
-pub record-at-once : OneSeen record.record_at.ended (λ κs r. now r) record.record_at.Reads.Post
-record-at-once κs a x y v w p q = (no-second p q, refl)
 
 pub read-once : OneSeen reader.read.ended (λ κs r. now r) reader.read.Reads.Post
 read-once κs a x y v w p q = (no-second p q, refl)

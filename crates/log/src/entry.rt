@@ -20,7 +20,7 @@ ghost use Rattle.log.specs.Form.{RECORD-BYTES, TRAILER-BYTES, MOST-RECOR
 ghost use Rattle.log.specs.Entry.{appendRefusal, withRecord, appendCall};
 
 // What an append would be refused for.
-pub fn append_refusal(buffer: &[u8], log_len: usize, input_len: usize, answer_len: usize) -> Outcome
+fn append_refusal(buffer: &[u8], log_len: usize, input_len: usize, answer_len: usize) -> Outcome
     ensures { λ r. ⌜ r ≡ appendRefusal (now (buffer .entry)) «log_len» «input_len» «answer_len» ⌝ }
 {
     if input_len != INPUT_BYTES {

@@ -22,7 +22,7 @@ fn from_end(log: &[u8], back: usize) -> usize
     four_bytes(log, log.len() - back) as usize
 }
 
-pub fn record_count(log: &[u8]) -> usize
+pub(crate) fn record_count(log: &[u8]) -> usize
     requires { ⌜ TRAILER-BYTES ≤ length (now log) ⌝ }
     ensures { λ r. ⌜ r ≡ countOf (now (log .entry)) ⌝ }
 {
@@ -30,7 +30,7 @@ pub fn record_count(log: &[u8]) -> usize
 }
 
 // The count is tested before it is multiplied: 108 times 2^30 is 0 in 32 bits.
-pub fn is_log(log: &[u8]) -> bool
+pub(crate) fn is_log(log: &[u8]) -> bool
     ensures { λ r. ⌜ r ≡ isLog (now (log .entry)) ⌝ }
 {
     let length = log.len();

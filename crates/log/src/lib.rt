@@ -6,12 +6,9 @@ mod reader; // reader.rt: the lent log and a place in it
 mod record; // record.rt: the records of a log, by their place
 
 pub use entry::append;
-pub use entry::append_refusal;
 pub use form::MOST_RECORDS;
 pub use form::RECORD_BYTES;
 pub use form::TRAILER_BYTES;
-pub use form::is_log;
-pub use form::record_count;
 pub use into::count_into;
 pub use into::record_into;
 pub use reader::Reader;
@@ -20,6 +17,3 @@ pub use reader::moved;
 pub use reader::next;
 pub use reader::open;
 pub use reader::read;
-pub use record::has_record;
-pub use record::place_after;
-pub use record::record_at;

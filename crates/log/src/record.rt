@@ -5,7 +5,7 @@ use super::form::record_count;
 ghost use mathlib.Core.Path.{_≡_};
 ghost use Rattle.log.specs.Records.{hasRecord, recordAt, placeAfter};
 
-pub fn has_record(log: &[u8], place: usize) -> bool
+pub(crate) fn has_record(log: &[u8], place: usize) -> bool
     ensures { λ r. ⌜ r ≡ hasRecord (now (log .entry)) place ⌝ }
 {
     if is_log(log) {
@@ -16,7 +16,7 @@ pub fn has_record(log: &[u8], place: usize) -> bool
 }
 
 // A part of the lent log: the record's bytes, or no byte where there is none.
-pub fn record_at(log: &[u8], place: usize) -> &[u8]
+pub(crate) fn record_at(log: &[u8], place: usize) -> &[u8]
     ensures { λ r. ⌜ now r ≡ recordAt (now (log .entry)) place ⌝ }
 {
     if has_record(log, place) {
@@ -28,7 +28,7 @@ pub fn record_at(log: &[u8], place: usize) -> &[u8]
 }
 
 // The next place, or this one where there is no record: so that none is handed out for ever after the last.
-pub fn place_after(log: &[u8], place: usize) -> usize
+pub(crate) fn place_after(log: &[u8], place: usize) -> usize
     ensures { λ r. ⌜ r ≡ placeAfter (now (log .entry)) place ⌝ }
 {
     if has_record(log, place) {

@@ -7,21 +7,6 @@ use Rattle.relay_adrc.proofs.filter
 use Rattle.relay_adrc.proofs.gains
 use Rattle.relay_adrc.proofs.rate
 
-pub mend-dt-once : OneAnswer axis.mend_dt.ended axis.mend_dt.Reads.Post
-mend-dt-once κs a x y v w p q = (no-second p q, refl)
-
-pub positive-or-once : OneAnswer axis.positive_or.ended axis.positive_or.Reads.Post
-positive-or-once κs a x y v w p q = (no-second p q, refl)
-
-pub mend-b0-once : OneAnswer axis.mend_b0.ended axis.mend_b0.Reads.Post
-mend-b0-once κs a x y v w p q = (no-second p q, refl)
-
-pub lag-once : OneAnswer axis.lag.ended axis.lag.Reads.Post
-lag-once κs a x y v w p q = (no-second p q, refl)
-
-pub delivered-fraction-once : OneAnswer axis.delivered_fraction.ended axis.delivered_fraction.Reads.Post
-delivered-fraction-once κs a x y v w p q = (no-second p q, refl)
-
 pub sanitise-once : OneAnswer axis.sanitise.ended axis.sanitise.Reads.Post
 sanitise-once κs a x y v w p q = (no-second p q, refl)
 
@@ -46,9 +31,6 @@ adrc-axis-reset-once κs a x y v w p q = (no-second p q, refl)
 pub adrc-axis-set-delivered-fraction-once : OneAnswer axis.AdrcAxis.set_delivered_fraction.ended axis.AdrcAxis.set_delivered_fraction.Reads.Post
 adrc-axis-set-delivered-fraction-once κs a x y v w p q = (no-second p q, refl)
 
-pub passes-through-once : OneAnswer biquad.passes_through.ended biquad.passes_through.Reads.Post
-passes-through-once κs a x y v w p q = (no-second p q, refl)
-
 pub biquad-lowpass-once : OneAnswer biquad.Biquad.lowpass.ended biquad.Biquad.lowpass.Reads.Post
 biquad-lowpass-once κs a x y v w p q = (no-second p q, refl)
 
@@ -63,9 +45,6 @@ gyro-lpf-new-once κs a x y v w p q = (no-second p q, refl)
 
 pub gyro-lpf-filter-once : OneAnswer biquad.GyroLpf.filter.ended biquad.GyroLpf.filter.Reads.Post
 gyro-lpf-filter-once κs a x y v w p q = (no-second p q, refl)
-
-pub is-nan-once : OneAnswer filter.is_nan.ended filter.is_nan.Reads.Post
-is-nan-once κs a x y v w p q = (no-second p q, refl)
 
 pub clamp-sym-once : OneAnswer filter.clamp_sym.ended filter.clamp_sym.Reads.Post
 clamp-sym-once κs a x y v w p q = (no-second p q, refl)

@@ -29,7 +29,7 @@ pub struct AxisTick {
 }
 
 // The step that ADRC and the command filter take for a given dt.
-pub fn mend_dt(dt: f32) -> f32
+pub(crate) fn mend_dt(dt: f32) -> f32
     ensures { λ r. ⌜ r ≡ mendDt dt ⌝ }
 {
     if relay_math::is_finite(dt) {
@@ -40,7 +40,7 @@ pub fn mend_dt(dt: f32) -> f32
 }
 
 // x if it is finite and above zero, else d.
-pub fn positive_or(x: f32, d: f32) -> f32
+pub(crate) fn positive_or(x: f32, d: f32) -> f32
     ensures { λ r. ⌜ r ≡ positiveOr x d ⌝ }
 {
     if relay_math::finite_above(0.0, x) {
@@ -51,7 +51,7 @@ pub fn positive_or(x: f32, d: f32) -> f32
 }
 
 // The control divides by b0: one of size not above 1e-3, or non-finite, becomes 1.
-pub fn mend_b0(b0: f32) -> f32
+fn mend_b0(b0: f32) -> f32
     ensures { λ r. ⌜ r ≡ mendB0 b0 ⌝ }
 {
     if relay_math::is_finite(b0) && relay_math::fabsf(b0) > 1e-3 {
@@ -62,7 +62,7 @@ pub fn mend_b0(b0: f32) -> f32
 }
 
 // What the actuator delivers after dt: a first-order lag toward u_delivered, or that at once where tau is too small or bad.
-pub fn lag(u_act: f32, u_delivered: f32, tau: f32, dt: f32) -> f32
+fn lag(u_act: f32, u_delivered: f32, tau: f32, dt: f32) -> f32
     ensures { λ r. ⌜ r ≡ lag «u_act» «u_delivered» tau dt ⌝ }
 {
     if relay_math::finite_above(1e-4, tau) {
@@ -73,7 +73,7 @@ pub fn lag(u_act: f32, u_delivered: f32, tau: f32, dt: f32) -> f32
 }
 
 // The fraction kept for a reported one: within 0 to 1, and 1 where the report is non-finite.
-pub fn delivered_fraction(frac: f32) -> f32
+fn delivered_fraction(frac: f32) -> f32
     ensures { λ r. ⌜ r ≡ deliveredFraction frac ⌝ }
 {
     if relay_math::is_finite(frac) {

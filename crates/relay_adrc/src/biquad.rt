@@ -29,7 +29,7 @@ pub struct Filtered {
 }
 
 // Whether `lowpass` makes no filter of fc and fs.
-pub fn passes_through(fc: f32, fs: f32) -> bool
+fn passes_through(fc: f32, fs: f32) -> bool
     ensures { λ r. ⌜ r ≡ passesThrough fc fs ⌝ }
 {
     !(fc > 0.0) || (!(fs > 0.0) || fc >= 0.5 * fs)
@@ -78,6 +78,7 @@ impl Biquad {
         }
     }
 
+    // One step. A non-finite input or output counts as 0.
     pub fn filter(self, x: f32) -> Filtered
         ensures { λ r. ⌜ r ≡ biquadFilter self x ⌝ }
     {

@@ -6,7 +6,7 @@ use crate::axis::mend_dt;
 use crate::axis::positive_or;
 use relay_math::Vec3;
 
-pub fn is_nan(x: f32) -> bool
+fn is_nan(x: f32) -> bool
     ensures { λ r. ⌜ r ≡ isNan x ⌝ }
 {
     x != x
@@ -57,6 +57,7 @@ impl CommandFilter {
         }
     }
 
+    // One step, with the value and the rate held within their limits.
     pub fn step(self, u: f32, dt: f32) -> Stepped
         ensures { λ r. ⌜ r ≡ filterStep self u dt ⌝ }
     {

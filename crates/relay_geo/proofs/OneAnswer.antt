@@ -67,9 +67,6 @@ geo-att-rate-toward-once κs a x y v w p q = (no-second p q, refl)
 pub geo-att-desired-rate-once : OneAnswer controller.GeoAtt.desired_rate.ended controller.GeoAtt.desired_rate.Reads.Post
 geo-att-desired-rate-once κs a x y v w p q = (no-second p q, refl)
 
-pub geo-att-torque-toward-once : OneAnswer controller.GeoAtt.torque_toward.ended controller.GeoAtt.torque_toward.Reads.Post
-geo-att-torque-toward-once κs a x y v w p q = (no-second p q, refl)
-
 pub geo-att-tick-once : OneAnswer controller.GeoAtt.tick.ended controller.GeoAtt.tick.Reads.Post
 geo-att-tick-once κs a x y v w p q = (no-second p q, refl)
 
@@ -81,12 +78,6 @@ recoverable-set-margin-once κs a x y v w p q = (no-second p q, refl)
 
 pub recoverable-set-recoverable-once : OneAnswer set.RecoverableSet.recoverable.ended set.RecoverableSet.recoverable.Reads.Post
 recoverable-set-recoverable-once κs a x y v w p q = (no-second p q, refl)
-
-pub mend-once : OneAnswer shield.mend.ended shield.mend.Reads.Post
-mend-once κs a x y v w p q = (no-second p q, refl)
-
-pub pick-once : OneAnswer shield.pick.ended shield.pick.Reads.Post
-pick-once κs a x y v w p q = (no-second p q, refl)
 
 pub simplex-shield-new-once : OneAnswer shield.SimplexShield.new.ended shield.SimplexShield.new.Reads.Post
 simplex-shield-new-once κs a x y v w p q = (no-second p q, refl)
@@ -109,9 +100,6 @@ dot-once κs a x y v w p q = (no-second p q, refl)
 pub norm-once : OneAnswer vectors.norm.ended vectors.norm.Reads.Post
 norm-once κs a x y v w p q = (no-second p q, refl)
 
-pub unit-of-once : OneAnswer vectors.unit_of.ended vectors.unit_of.Reads.Post
-unit-of-once κs a x y v w p q = (no-second p q, refl)
-
 pub normalize-once : OneAnswer vectors.normalize.ended vectors.normalize.Reads.Post
 normalize-once κs a x y v w p q = (no-second p q, refl)
 
@@ -121,14 +109,8 @@ identity3-once κs a x y v w p q = (no-second p q, refl)
 pub transpose3-once : OneAnswer vectors.transpose3.ended vectors.transpose3.Reads.Post
 transpose3-once κs a x y v w p q = (no-second p q, refl)
 
-pub prod3-once : OneAnswer vectors.prod3.ended vectors.prod3.Reads.Post
-prod3-once κs a x y v w p q = (no-second p q, refl)
-
 pub matmul3-once : OneAnswer vectors.matmul3.ended vectors.matmul3.Reads.Post
 matmul3-once κs a x y v w p q = (no-second p q, refl)
-
-pub transposed-times-once : OneAnswer vectors.transposed_times.ended vectors.transposed_times.Reads.Post
-transposed-times-once κs a x y v w p q = (no-second p q, refl)
 
 pub vee-once : OneAnswer vectors.vee.ended vectors.vee.Reads.Post
 vee-once κs a x y v w p q = (no-second p q, refl)

@@ -30,7 +30,7 @@ impl GeoGains {
         j: Vec3(0.0217, 0.0217, 0.04),
     };
 
-    // The same, with a promise that fixes the bits.
+    // `FALCON_QUAD`, with a promise that fixes the bits.
     pub fn falcon_quad() -> GeoGains
         ensures { λ r. ⌜ r ≡ FALCON-QUAD ⌝ }
     {
@@ -164,7 +164,7 @@ impl GeoAtt {
     }
 
     // The torque toward an attitude that is there already: rate damping alone where there is none.
-    pub fn torque_toward(self, r: Mat3, omega: BodyRate, r_d: Attitude) -> Torque
+    fn torque_toward(self, r: Mat3, omega: BodyRate, r_d: Attitude) -> Torque
         ensures { λ m. ⌜ m ≡ torqueToward (self .gains) r omega «r_d» ⌝ }
     {
         match r_d {

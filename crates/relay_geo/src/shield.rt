@@ -8,8 +8,7 @@ ghost use mathlib.Core.Path.{_≡_};
 ghost use Rattle.relay_geo.specs.Shield.{mendEnter, mendExit, mend, newShield, picked, step, filter};
 
 // Below `enter` the fallback takes over, above `exit` it hands back.
-#[repr(C)]
-pub struct Thresholds {
+struct Thresholds {
     pub enter: f32,
     pub exit: f32,
 }
@@ -47,7 +46,7 @@ fn mend_exit(enter: f32, exit: f32) -> f32
 }
 
 // Thresholds in a safe order, whatever is given.
-pub fn mend(enter: f32, exit: f32) -> Thresholds
+fn mend(enter: f32, exit: f32) -> Thresholds
     ensures { λ r. ⌜ r ≡ mend enter exit ⌝ }
 {
     let enter = mend_enter(enter);
@@ -58,7 +57,7 @@ pub fn mend(enter: f32, exit: f32) -> Thresholds
 }
 
 // The fallback while engaged, else the planner's command; non-finite numbers of either are made +0.0.
-pub fn pick(engaged: bool, agile: BodyRate, fallback: BodyRate) -> BodyRate
+fn pick(engaged: bool, agile: BodyRate, fallback: BodyRate) -> BodyRate
     ensures { λ r. ⌜ r ≡ picked engaged agile fallback ⌝ }
 {
     if engaged {
@@ -96,6 +95,7 @@ impl SimplexShield {
         self.step(set.margin(psi, e_omega_sq), agile, fallback)
     }
 
+    // A step by a margin: who has control by the latch, and the command of that one.
     pub fn step(self, margin: f32, agile: BodyRate, fallback: BodyRate) -> Shielded
         ensures { λ r. ⌜ r ≡ step self margin agile fallback ⌝ }
     {

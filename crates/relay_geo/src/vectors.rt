@@ -47,7 +47,7 @@ pub fn norm(a: Vec3) -> f32
 }
 
 // The direction of a vector whose length n is there already.
-pub fn unit_of(a: Vec3, n: f32) -> Unit
+pub(crate) fn unit_of(a: Vec3, n: f32) -> Unit
     ensures { λ r. ⌜ r ≡ unitOf a n ⌝ }
 {
     if finite_above(1e-9, n) {
@@ -84,7 +84,7 @@ pub fn transpose3(m: Mat3) -> Mat3
 }
 
 // One entry of a product: it starts from 0.0, so it is never a negative zero.
-pub fn prod3(row: Vec3, column: Vec3) -> f32
+fn prod3(row: Vec3, column: Vec3) -> f32
     ensures { λ r. ⌜ r ≡ prod3 row column ⌝ }
 {
     0.0 + row.0 * column.0 + row.1 * column.1 + row.2 * column.2
@@ -102,7 +102,7 @@ pub fn matmul3(a: Mat3, b: Mat3) -> Mat3
 }
 
 // The transposed m times v, where the Rust writes the three sums out: they don't start from 0.0, so a negative zero can come out.
-pub fn transposed_times(m: Mat3, v: Vec3) -> Vec3
+pub(crate) fn transposed_times(m: Mat3, v: Vec3) -> Vec3
     ensures { λ r. ⌜ r ≡ transposedTimes m v ⌝ }
 {
     Vec3(

@@ -9,9 +9,6 @@ use Rattle.relay_math.proofs.finite_above
 use Rattle.relay_math.proofs.clamp
 use Rattle.relay_math.proofs.sqrt
 
-pub part-of-once : OneAnswer angles.part_of.ended angles.part_of.Reads.Post
-part-of-once κs a x y v w p q = (no-second (p .0) (q .0), refl)
-
 pub sincos-once : OneAnswer angles.sincos.ended angles.sincos.Reads.Post
 sincos-once κs a x y v w p q = (no-second p q, refl)
 

@@ -31,7 +31,7 @@ struct Reduced {
 }
 
 // The product of two fractions in units of 2^-32, cut.
-pub fn part_of(z: u64, t: u64) -> u64
+pub(crate) fn part_of(z: u64, t: u64) -> u64
     requires { ⌜ z < 4294967296 ⌝ ∗ ⌜ t ≤ 4294967296 ⌝ }
     ensures is { λ r. ⌜ r ≡ part z t ⌝ }
     ensures small { λ r. ⌜ r < 4294967296 ⌝ }

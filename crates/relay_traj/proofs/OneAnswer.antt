@@ -8,23 +8,11 @@ use Rattle.relay_traj.proofs.governor
 use Rattle.relay_traj.proofs.quintic
 use Rattle.relay_traj.proofs.segment
 
-pub low-end-once : OneAnswer governor.low_end.ended governor.low_end.Reads.Post
-low-end-once κs a x y v w p q = (no-second p q, refl)
-
 pub clamp-to-once : OneAnswer governor.clamp_to.ended governor.clamp_to.Reads.Post
 clamp-to-once κs a x y v w p q = (no-second p q, refl)
 
-pub ramp-once : OneAnswer governor.ramp.ended governor.ramp.Reads.Post
-ramp-once κs a x y v w p q = (no-second p q, refl)
-
-pub no-band-once : OneAnswer governor.no_band.ended governor.no_band.Reads.Post
-no-band-once κs a x y v w p q = (no-second p q, refl)
-
 pub gate-factor-once : OneAnswer governor.gate_factor.ended governor.gate_factor.Reads.Post
 gate-factor-once κs a x y v w p q = (no-second p q, refl)
-
-pub moved-by-once : OneAnswer governor.moved_by.ended governor.moved_by.Reads.Post
-moved-by-once κs a x y v w p q = (no-second p q, refl)
 
 pub ref-governor-new-once : OneAnswer governor.RefGovernor.new.ended governor.RefGovernor.new.Reads.Post
 ref-governor-new-once κs a x y v w p q = (no-second p q, refl)
@@ -47,17 +35,8 @@ fin-once κs a x y v w p q = (no-second p q, refl)
 pub mended-duration-once : OneAnswer quintic.mended_duration.ended quintic.mended_duration.Reads.Post
 mended-duration-once κs a x y v w p q = (no-second p q, refl)
 
-pub mend-once : OneAnswer quintic.mend.ended quintic.mend.Reads.Post
-mend-once κs a x y v w p q = (no-second p q, refl)
-
-pub time-on-once : OneAnswer quintic.time_on.ended quintic.time_on.Reads.Post
-time-on-once κs a x y v w p q = (no-second p q, refl)
-
 pub quintic-new-once : OneAnswer quintic.Quintic.new.ended quintic.Quintic.new.Reads.Post
 quintic-new-once κs a x y v w p q = (no-second p q, refl)
-
-pub quintic-of-mended-once : OneAnswer quintic.Quintic.of_mended.ended quintic.Quintic.of_mended.Reads.Post
-quintic-of-mended-once κs a x y v w p q = (no-second p q, refl)
 
 pub quintic-duration-once : OneAnswer quintic.Quintic.duration.ended quintic.Quintic.duration.Reads.Post
 quintic-duration-once κs a x y v w p q = (no-second p q, refl)

@@ -20,7 +20,7 @@ pub struct Advanced {
 }
 
 // A lower end outside 0..1, or a NaN, counts as 0.
-pub fn low_end(lo: f32) -> f32
+fn low_end(lo: f32) -> f32
     ensures { λ r. ⌜ r ≡ lowEnd lo ⌝ }
 {
     if 0.0 <= lo && lo <= 1.0 { lo } else { 0.0 }
@@ -41,7 +41,7 @@ pub fn clamp_to(x: f32, lo: f32) -> f32
 }
 
 // The gate before it is clamped, for a band that is one: 1 up to lo, g_min from hi on, and a straight line between.
-pub fn ramp(err: f32, lo: f32, hi: f32, g_min: f32) -> f32
+fn ramp(err: f32, lo: f32, hi: f32, g_min: f32) -> f32
     ensures { λ r. ⌜ r ≡ ramp err lo hi «g_min» ⌝ }
 {
     if err <= lo {
@@ -55,7 +55,7 @@ pub fn ramp(err: f32, lo: f32, hi: f32, g_min: f32) -> f32
 }
 
 // An error or an end of the band is not finite, or the band has no width.
-pub fn no_band(err: f32, lo: f32, hi: f32) -> bool
+fn no_band(err: f32, lo: f32, hi: f32) -> bool
     ensures { λ r. ⌜ r ≡ noBand err lo hi ⌝ }
 {
     !relay_math::is_finite(err)
@@ -76,7 +76,7 @@ pub fn gate_factor(err: f32, lo: f32, hi: f32, g_min: f32) -> f32
 }
 
 // A dt that is not finite and above 0 moves nothing.
-pub fn moved_by(dt: f32) -> f32
+fn moved_by(dt: f32) -> f32
     ensures { λ r. ⌜ r ≡ movedBy dt ⌝ }
 {
     if relay_math::finite_above(0.0, dt) {
@@ -98,12 +98,14 @@ impl RefGovernor {
         }
     }
 
+    // Which part of dt the clock moves by, 0 to 1.
     pub fn gate(self, track_err: f32) -> f32
         ensures { λ r. ⌜ r ≡ gate self «track_err» ⌝ }
     {
         gate_factor(track_err, self.err_lo, self.err_hi, self.g_min)
     }
 
+    // The clock after dt, moved by the part that the gate lets through.
     pub fn advance(self, track_err: f32, dt: f32) -> Advanced
         ensures { λ r. ⌜ r ≡ advance self «track_err» dt ⌝ }
     {

@@ -28,8 +28,7 @@ pub struct Sample {
 }
 
 // What `Quintic::new` goes by: the seven numbers of one axis of a leg, mended.
-#[repr(C)]
-pub struct Mended {
+struct Mended {
     pub p0: f32,
     pub v0: f32,
     pub a0: f32,
@@ -64,7 +63,7 @@ pub fn mended_duration(t: f32) -> f32
 }
 
 // A bad end position becomes the start, as that is mended; other bad numbers become 0.
-pub fn mend(p0: f32, v0: f32, a0: f32, pf: f32, vf: f32, af: f32, t: f32) -> Mended
+fn mend(p0: f32, v0: f32, a0: f32, pf: f32, vf: f32, af: f32, t: f32) -> Mended
     ensures { λ r. ⌜ r ≡ mend p0 v0 a0 pf vf af t ⌝ }
 {
     let t = mended_duration(t);
@@ -86,7 +85,7 @@ pub fn mend(p0: f32, v0: f32, a0: f32, pf: f32, vf: f32, af: f32, t: f32) -> Men
 }
 
 // Where on a segment of t_end seconds the time t is: before it its start, past it its end, and its start for a time that is not finite.
-pub fn time_on(t: f32, t_end: f32) -> f32
+fn time_on(t: f32, t_end: f32) -> f32
     ensures { λ r. ⌜ r ≡ timeOn t «t_end» ⌝ }
 {
     if relay_math::is_finite(t) {
@@ -97,6 +96,7 @@ pub fn time_on(t: f32, t_end: f32) -> f32
 }
 
 impl Quintic {
+    // Between two ends whose bad numbers are mended first.
     pub fn new(p0: f32, v0: f32, a0: f32, pf: f32, vf: f32, af: f32, t: f32) -> Quintic
         ensures { λ r. ⌜ r ≡ quintic p0 v0 a0 pf vf af t ⌝ }
     {
@@ -104,7 +104,7 @@ impl Quintic {
     }
 
     // The closed form of Mueller, Hehn and D'Andrea, both ends given.
-    pub fn of_mended(m: Mended) -> Quintic
+    fn of_mended(m: Mended) -> Quintic
         ensures { λ r. ⌜ r ≡ ofMended m ⌝ }
     {
         let p0 = m.p0;
@@ -143,6 +143,7 @@ impl Quintic {
         self.t_end
     }
 
+    // At a time that is held within 0 to t_end.
     pub fn eval(self, t: f32) -> Sample
         ensures { λ r. ⌜ r ≡ eval self t ⌝ }
     {

@@ -14,7 +14,7 @@
 # make bench       times, as ratios to the other side in one run; `make bench BEFORE=../old/libfosavalo.a` has an earlier archive's tick beside ours
 # make stack       the stack that each C call takes, painted and looked at on the compiled archive
 # make docs        the safe crate's pages, host/target/doc/fosavalo/index.html
-# make map         docs/MAP.md anew, from the sources
+# make map         docs/MAP.md and docs/PROMISES.md anew, from the sources
 .PHONY: fly log choices test table archives core exhaustive routines ticks answers bench stack docs map clean
 
 CARGO = cargo

@@ -1,5 +1,9 @@
 //! docs/MAP.md: a line for each routine of the Rust, with our file, its promise and its tests, as the sources have them.
 
+mod functions;
+pub mod promises;
+
+use functions::Function;
 use std::fmt::Write;
 use std::path::{Path, PathBuf};
 
@@ -178,7 +182,7 @@ fn line_of(text: &str, routine: &str) -> Option<usize> {
             inside = None;
         }
         let item = line.trim_start();
-        let item = item.strip_prefix("pub ").unwrap_or(item);
+        let item = item.strip_prefix("pub ").or(item.strip_prefix("pub(crate) ")).unwrap_or(item);
         let item = item.strip_prefix("extern \"C\" ").unwrap_or(item);
         let is_constant = item.strip_prefix("const ").is_some_and(|rest| rest.strip_prefix(name).is_some_and(|rest| rest.starts_with(':')));
         let item = item.strip_prefix("const ").unwrap_or(item);
@@ -191,48 +195,37 @@ fn line_of(text: &str, routine: &str) -> Option<usize> {
     None
 }
 
-/// Our file that has the routine, and its text.
-fn ours(krate: &str, routine: &str) -> Result<(String, String), String> {
-    let folder = format!("crates/{krate}/src");
-    let entries = std::fs::read_dir(root().join(&folder)).map_err(|error| format!("{folder}: {error}"))?;
+/// The names of a folder's files, in order.
+fn entries(folder: &str) -> Result<Vec<String>, String> {
+    let entries = std::fs::read_dir(root().join(folder)).map_err(|error| format!("{folder}: {error}"))?;
     let mut names: Vec<String> = entries.flatten().map(|entry| entry.file_name().to_string_lossy().into_owned()).collect();
     names.sort();
-    for name in names.iter().filter(|name| name.ends_with(".rt")) {
-        let text = text(format!("{folder}/{name}"))?;
-        if line_of(&text, routine).is_some() {
-            return Ok((name.clone(), text));
+    Ok(names)
+}
+
+/// Our file that has the routine.
+fn ours(krate: &str, routine: &str) -> Result<String, String> {
+    let folder = format!("crates/{krate}/src");
+    for name in entries(&folder)? {
+        if line_of(&text(format!("{folder}/{name}"))?, routine).is_some() {
+            return Ok(name);
         }
     }
     Err(format!("no file of {folder} has {routine}"))
 }
 
 /// The promise above a function's body, a clause each; a constant or a struct has none.
-fn promise(text: &str, routine: &str) -> Vec<String> {
-    let Some(line) = line_of(text, routine).filter(|line| text.lines().nth(line - 1).is_some_and(|line| line.contains("fn "))) else {
-        return Vec::new();
-    };
-    let head: Vec<&str> = text.lines().skip(line).map(str::trim).take_while(|line| !line.is_empty() && *line != "{").collect();
-    let head = head.join(" ");
-    let clauses = head.split("ensures").skip(1).filter_map(|clause| clause.split_once('{'));
-    let plain = clauses.map(|(_, said)| {
-        let said = said.trim().trim_end_matches('}').trim();
-        // `λ r.` only names the answer
-        let said = said.split_once(". ").filter(|(head, _)| head.starts_with('λ')).map_or(said, |(_, rest)| rest);
-        said.replace(['⌜', '⌝', '«', '»'], "").split_whitespace().collect::<Vec<_>>().join(" ")
-    });
-    plain.collect()
+fn promise(functions: &[Function], krate: &str, routine: &str) -> Vec<String> {
+    let function = functions.iter().find(|function| function.krate == krate && function.routine == routine);
+    function.map_or(Vec::new(), |function| function.ensures.iter().map(|clause| functions::shown(clause)).collect())
 }
 
 /// The file of definitions that has this name: the crate's own first.
 fn definition(krate: &str, name: &str) -> Result<Option<String>, String> {
-    let crates = std::fs::read_dir(root().join("crates")).map_err(|error| format!("crates: {error}"))?;
-    let mut crates: Vec<String> = crates.flatten().map(|entry| entry.file_name().to_string_lossy().into_owned()).collect();
+    let mut crates = entries("crates")?;
     crates.sort_by_key(|other| (other != krate, other.clone()));
     for folder in crates.iter().map(|krate| format!("crates/{krate}/specs")) {
-        let Ok(entries) = std::fs::read_dir(root().join(&folder)) else { continue };
-        let mut names: Vec<String> = entries.flatten().map(|entry| entry.file_name().to_string_lossy().into_owned()).collect();
-        names.sort();
-        for file in names.iter().filter(|file| file.ends_with(".antt")) {
+        for file in entries(&folder).unwrap_or_default() {
             let text = text(format!("{folder}/{file}"))?;
             let mut heads = text.lines().filter_map(|line| line.split_once(" : ")).map(|(head, _)| head);
             if heads.any(|head| head.split(' ').next_back() == Some(name) && !head.starts_with([' ', '-'])) {
@@ -290,17 +283,18 @@ fn link(label: &str, path: &str) -> String {
 }
 
 /// The whole page.
-pub fn page() -> Result<String, String> {
+fn page() -> Result<String, String> {
     let mut page = String::from(
         "# Map\n\n\
          A line for each routine of the Rust: where it stands there, in which of our files it is under the same name, what it promises, and\n\
-         what tests it. A promise names a definition, whose file stands behind it; it is proved for every argument. `make map` writes this page\n\
-         from the sources, and the gate sees that it is current.\n\n\
+         what tests it. A promise names a definition, whose file stands behind it; it is proved for every argument (`b′` is what a lent `b` holds\n\
+         afterwards). `make map` writes this page from the sources, and the gate sees that it is current.\n\n\
          **Tests.** *Rows* is the routine's row in the host's comparison with the Rust: a million cases in the gate, as many as you like with\n\
          `make routines ROWS=n`. *Figures* are tests of document 01's worked figures and of edges, in\n\
          [host/compare/tests/figures.rs](../host/compare/tests/figures.rs). *Wrong* counts the versions that look right and are not, of which\n\
          the comparison has to catch each ([wrong.rs](../host/compare/src/table/wrong.rs)).\n",
     );
+    let functions = functions::all()?;
     let figures = text("host/compare/tests/figures.rs")?;
     let wrong = text("host/compare/src/table/wrong.rs")?;
     for module in &MODULES {
@@ -313,8 +307,8 @@ pub fn page() -> Result<String, String> {
         for routine in module.routines {
             let there = line_of(&rust, routine)
                 .map_or("written out".to_string(), |line| link(&format!("line {line}"), &format!("{rust_path}#L{line}")));
-            let (file, code) = ours(module.krate, routine)?;
-            let promised = match (promise(&code, routine), routine.starts_with("Sample")) {
+            let file = ours(module.krate, routine)?;
+            let promised = match (promise(&functions, module.krate, routine), routine.starts_with("Sample")) {
                 (clauses, _) if !clauses.is_empty() => promised(module.krate, &clauses)?,
                 (_, false) => "a constant".to_string(),
                 (_, true) => "a struct of floats".to_string(),
@@ -352,9 +346,9 @@ pub fn page() -> Result<String, String> {
         link("routes.rs", "host/compare/tests/routes.rs"),
     );
     for (krate, routine, what) in ADDED {
-        let (file, code) = ours(krate, routine)?;
+        let file = ours(krate, routine)?;
         let path = format!("crates/{krate}/src/{file}");
-        let promised = promised(krate, &promise(&code, routine))?;
+        let promised = promised(krate, &promise(&functions, krate, routine))?;
         let _ = writeln!(page, "| `{routine}` | {} | {promised} | {what} |", link(&format!("{krate}/{file}"), &path));
     }
     page.push_str(
@@ -362,6 +356,11 @@ pub fn page() -> Result<String, String> {
          `remainderf`; of 003 all but `euler_to_quaternion`; 005; the Kani blocks.\n",
     );
     Ok(page)
+}
+
+/// The pages that are written from the sources.
+pub fn pages() -> [(&'static str, Result<String, String>); 2] {
+    [("docs/MAP.md", page()), ("docs/PROMISES.md", promises::page())]
 }
 
 /// The routines on the page.

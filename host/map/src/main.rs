@@ -1,14 +1,14 @@
-//! Writes docs/MAP.md.
+//! Writes docs/MAP.md and docs/PROMISES.md.
 
 use std::process::ExitCode;
 
 fn main() -> ExitCode {
-    let written = map::page().and_then(|page| std::fs::write(map::root().join("docs/MAP.md"), page).map_err(|error| error.to_string()));
-    match written {
-        Ok(()) => ExitCode::SUCCESS,
-        Err(text) => {
-            eprintln!("map: {text}");
-            ExitCode::FAILURE
+    for (file, page) in map::pages() {
+        let written = page.and_then(|page| std::fs::write(map::root().join(file), page).map_err(|error| error.to_string()));
+        if let Err(text) = written {
+            eprintln!("{file}: {text}");
+            return ExitCode::FAILURE;
         }
     }
+    ExitCode::SUCCESS
 }

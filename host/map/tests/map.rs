@@ -1,14 +1,23 @@
-//! docs/MAP.md is what the sources say, and has every routine that is compared.
+//! docs/MAP.md and docs/PROMISES.md are what the sources say; the map has every routine that is compared, and the public face is as promised.
 
 #[test]
-fn the_map_is_current() {
-    let now = map::page().unwrap_or_else(|text| panic!("{text}"));
-    let kept = std::fs::read_to_string(map::root().join("docs/MAP.md")).unwrap_or_default();
-    let differs = now.lines().zip(kept.lines()).find(|(now, kept)| now != kept);
-    assert!(now == kept, "docs/MAP.md is not what the sources say; `make map` writes it anew. First line that differs: {differs:?}");
+fn the_pages_are_current() {
+    for (file, now) in map::pages() {
+        let now = now.unwrap_or_else(|text| panic!("{file}: {text}"));
+        let kept = std::fs::read_to_string(map::root().join(file)).unwrap_or_default();
+        let differs = now.lines().zip(kept.lines()).find(|(now, kept)| now != kept);
+        assert!(now == kept, "{file} is not what the sources say; `make map` writes it anew. First line that differs: {differs:?}");
+    }
 }
 
 #[test]
 fn the_map_has_every_routine() {
     assert_eq!(map::routines().count(), 87);
+}
+
+/// Every public function has a promise, and no second answer fits it.
+#[test]
+fn the_public_face_has_no_fault() {
+    let faults = map::promises::faults().unwrap_or_else(|text| panic!("{text}"));
+    assert!(faults.is_empty(), "{}", faults.join("\n"));
 }

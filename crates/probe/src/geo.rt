@@ -213,8 +213,12 @@ pub extern "C" fn probe_feedforward_from(
 ) -> RateAnswer
     ensures { λ r. ⌜ r ≡ rateAnswer (feedforwardFrom «a_cmd» «j_cmd» «yaw_rate» (thrustAttitude «a_cmd» yaw)) ⌝ }
 {
-    let r_d = relay_geo::thrust_attitude(a_cmd, yaw);
-    rate_answer(relay_geo::feedforward_from(a_cmd, j_cmd, yaw_rate, r_d))
+    rate_answer(relay_geo::feedforward_from(
+        a_cmd,
+        j_cmd,
+        yaw_rate,
+        relay_geo::thrust_attitude(a_cmd, yaw),
+    ))
 }
 
 // ---- the controller

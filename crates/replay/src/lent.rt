@@ -1,107 +1,125 @@
-// Set-up, number 500, and the joint tick, 501, on lent bytes. Each buffer is stored whole, a word longer than the right length, so that a call can be
-// lent too little or too much of it; what was not lent has to stay too.
+// The calls on lent bytes: set-up, number 500, tick, 501, and route tick, 502; append to a log, 503, its count, 504, and a record of it, 505. A buffer
+// is stored with more than the right length, so that a call can be lent too little or too much of it; what was not lent has to stay too.
 use super::Verdict;
 use super::filled;
+use super::filled_to;
 use super::judged;
+use outcome::Outcome;
+use words::word_at;
 
-// No number of document 01: the list lends more than there is.
+// No number of the documents: the list lends more than there is.
 const NO_NUMBER: u32 = 99;
 
-fn setup_lent(image: &mut [u8], image_len: usize, input: &[u8], input_len: usize) -> u32 {
-    if image_len > image.len() {
-        return NO_NUMBER;
-    }
-    if input_len > input.len() {
-        return NO_NUMBER;
-    }
-    outcome::number(calls::setup(&mut image[..image_len], &input[..input_len]))
+// How many words of a buffer are stored, and how many bytes of it are lent.
+struct Size {
+    words: usize,
+    lent: usize,
 }
 
-// Stored: two lengths, the image, the input; the number, the image afterwards.
-pub(crate) fn setup() -> Verdict {
-    let mut lengths = [0u8; 8];
-    let mut image = [0u8; 384];
-    let mut input = [0u8; 204];
-    let mut number = [0u8; 4];
-    let mut after = [0u8; 384];
-    filled(&mut lengths);
-    filled(&mut image);
-    filled(&mut input);
-    filled(&mut number);
-    if !filled(&mut after) {
-        return Verdict::Cut;
+// The next buffer of the list.
+fn next(buffer: &mut [u8]) -> Size {
+    let mut two = [0u8; 8];
+    filled(&mut two);
+    let words = word_at(&two, 0) as usize;
+    filled_to(buffer, words);
+    Size {
+        words: words,
+        lent: word_at(&two, 1) as usize,
     }
-    let image_len = words::word_at(&lengths, 0) as usize;
-    let input_len = words::word_at(&lengths, 1) as usize;
-    let given = setup_lent(&mut image, image_len, &input, input_len);
-    if given != words::word_at(&number, 0) {
-        return Verdict::Differs;
-    }
-    judged(check::same(&image, &after))
 }
 
-fn tick_lent(
-    image: &mut [u8],
-    image_len: usize,
-    input: &[u8],
-    input_len: usize,
-    answer: &mut [u8],
-    answer_len: usize,
+// A call takes those of the four that it has, and `at`, a log's length or a place in it.
+fn called(n: u32, a: &mut [u8], b: &[u8], c: &mut [u8], d: &[u8], at: usize) -> Outcome {
+    match n {
+        500 => calls::setup(a, b),
+        501 => calls::tick(a, b, c),
+        502 => route::route_tick(a, b, d, c),
+        503 => log::append(a, at, b, d),
+        504 => log::count_into(b, c),
+        _ => log::record_into(b, at, c),
+    }
+}
+
+// The same with the first bytes of each.
+fn lent(
+    n: u32,
+    a: &mut [u8],
+    a_len: usize,
+    b: &[u8],
+    b_len: usize,
+    c: &mut [u8],
+    c_len: usize,
+    d: &[u8],
+    d_len: usize,
+    at: usize,
 ) -> u32 {
-    if image_len > image.len() {
+    if a_len > a.len() {
         return NO_NUMBER;
     }
-    if input_len > input.len() {
+    if b_len > b.len() {
         return NO_NUMBER;
     }
-    if answer_len > answer.len() {
+    if c_len > c.len() {
         return NO_NUMBER;
     }
-    outcome::number(calls::tick(
-        &mut image[..image_len],
-        &input[..input_len],
-        &mut answer[..answer_len],
+    if d_len > d.len() {
+        return NO_NUMBER;
+    }
+    outcome::number(called(
+        n,
+        &mut a[..a_len],
+        &b[..b_len],
+        &mut c[..c_len],
+        &d[..d_len],
+        at,
     ))
 }
 
-// Stored: three lengths, the image, the input, the answer; the number, the image and the answer afterwards.
-pub(crate) fn tick() -> Verdict {
-    let mut lengths = [0u8; 12];
-    let mut image = [0u8; 384];
-    let mut input = [0u8; 72];
-    let mut answer = [0u8; 44];
-    filled(&mut lengths);
-    filled(&mut image);
-    filled(&mut input);
-    filled(&mut answer);
-    let image_len = words::word_at(&lengths, 0) as usize;
-    let input_len = words::word_at(&lengths, 1) as usize;
-    let answer_len = words::word_at(&lengths, 2) as usize;
-    let given = tick_lent(
-        &mut image,
-        image_len,
-        &input,
-        input_len,
-        &mut answer,
-        answer_len,
+// Stored: the four buffers and `at`; then the number, and the two buffers that a call may change. None is longer than nine legs and three words.
+pub(crate) fn call(n: u32) -> Verdict {
+    let mut a = [0u8; 704];
+    let mut b = [0u8; 704];
+    let mut c = [0u8; 704];
+    let mut d = [0u8; 704];
+    let mut at = [0u8; 4];
+    let a_is = next(&mut a);
+    let b_is = next(&mut b);
+    let c_is = next(&mut c);
+    let d_is = next(&mut d);
+    filled(&mut at);
+    let number = lent(
+        n,
+        &mut a,
+        a_is.lent,
+        &b,
+        b_is.lent,
+        &mut c,
+        c_is.lent,
+        &d,
+        d_is.lent,
+        word_at(&at, 0) as usize,
     );
-    ticked(given, &image, &answer)
+    answered(number, &a, a_is.words, &c, c_is.words)
 }
 
-fn ticked(given: u32, image: &[u8], answer: &[u8]) -> Verdict {
-    let mut number = [0u8; 4];
-    let mut image_after = [0u8; 384];
-    let mut answer_after = [0u8; 44];
-    filled(&mut number);
-    filled(&mut image_after);
-    if !filled(&mut answer_after) {
+fn answered(number: u32, a: &[u8], a_words: usize, c: &[u8], c_words: usize) -> Verdict {
+    let mut stored = [0u8; 4];
+    let mut a_after = [0u8; 704];
+    let mut c_after = [0u8; 704];
+    if !filled(&mut stored) {
         return Verdict::Cut;
     }
-    if given != words::word_at(&number, 0) {
+    if !filled_to(&mut a_after, a_words) {
+        return Verdict::Cut;
+    }
+    if !filled_to(&mut c_after, c_words) {
+        return Verdict::Cut;
+    }
+    if number != word_at(&stored, 0) {
         return Verdict::Differs;
     }
-    if !check::same(image, &image_after) {
+    if !check::same(a, &a_after) {
         return Verdict::Differs;
     }
-    judged(check::same(answer, &answer_after))
+    judged(check::same(c, &c_after))
 }

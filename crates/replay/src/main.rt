@@ -1,19 +1,15 @@
 // Runs the oracle's stored answers again, from standard input. docs/ORACLE.md has the form of the list and says how it was made.
 // For each section of the list a line: its name, how many answers were compared, how many differ. Before it, a line for each row that differs.
 mod adrc; // adrc.rt: 002
-mod lent; // lent.rt: set-up and the joint tick on lent bytes
 mod geo; // geo.rt: 000
+mod lent; // lent.rt: the calls on lent bytes
 mod numbers; // numbers.rt: 003 and 004
-mod parts; // parts.rt: rows of words, and structs out of them
+mod parts; // parts.rt: a row, and the structs that the image has no place for
 mod traj; // traj.rt: 001
 
 use libc::STDIN_FILENO;
 use libc::STDOUT_FILENO;
 use parts::Row;
-use relay_geo::Mat3;
-use relay_math::Vec3;
-use words::bits_of;
-use words::vec_at;
 use words::word_at;
 ghost use Prim.Native.Nat.{_+_, _<_, _≤_};
 
@@ -54,94 +50,35 @@ fn filled_to(bytes: &mut [u8], n: usize) -> bool {
 
 // ---- an answer of a routine
 
-fn worked_out(n: u32, i: Row) -> Row {
+fn answer(n: u32, i: &Row, o: &mut Row) {
     if n < 100 {
-        return geo::answer(n, i);
+        geo::answer(n, i, o)
+    } else if n < 200 {
+        traj::answer(n, i, o)
+    } else if n < 300 {
+        adrc::answer(n, i, o)
+    } else {
+        numbers::answer(n, i, o)
     }
-    if n < 200 {
-        return traj::answer(n, i);
-    }
-    if n < 300 {
-        return adrc::answer(n, i);
-    }
-    numbers::answer(n, i.0.0)
 }
 
-fn nine_at(bytes: &[u8; 144], k: usize) -> Mat3
-    requires { ⌜ k + 9 ≤ 36 ⌝ }
-{
-    Mat3(vec_at(bytes, k), vec_at(bytes, k + 3), vec_at(bytes, k + 6))
-}
-
-fn row_at(bytes: &[u8; 144]) -> Row {
-    Row(
-        nine_at(bytes, 0),
-        nine_at(bytes, 9),
-        nine_at(bytes, 18),
-        nine_at(bytes, 27),
-    )
-}
-
-// The same bits, all NaNs alike.
-fn same3(a: Vec3, b: Vec3) -> bool {
-    if bits_of(a.0) != bits_of(b.0) {
-        return false;
-    }
-    if bits_of(a.1) != bits_of(b.1) {
-        return false;
-    }
-    bits_of(a.2) == bits_of(b.2)
-}
-
-fn same9(a: Mat3, b: Mat3) -> bool {
-    if !same3(a.0, b.0) {
-        return false;
-    }
-    if !same3(a.1, b.1) {
-        return false;
-    }
-    same3(a.2, b.2)
-}
-
-fn same_row(a: Row, b: Row) -> bool {
-    if !same9(a.0, b.0) {
-        return false;
-    }
-    if !same9(a.1, b.1) {
-        return false;
-    }
-    if !same9(a.2, b.2) {
-        return false;
-    }
-    same9(a.3, b.3)
-}
-
-struct Stored {
-    row: Row,
-    whole: bool,
-}
-
-// The next n words of the list, and zeros after them.
-fn words_left(n: usize) -> Stored {
-    let mut bytes = [0u8; 144];
-    let whole = filled_to(&mut bytes, n);
-    Stored {
-        row: row_at(&bytes),
-        whole: whole,
-    }
+fn same(a: &Row, b: &Row) -> bool {
+    check::same(a, b)
 }
 
 // All 36 words are compared, so that an answer of more words than are stored is seen.
 fn routine(n: u32, given: usize, answered: usize) -> Verdict {
-    let i = words_left(given);
-    if !i.whole {
+    let mut i = [0u8; 144];
+    let mut o = [0u8; 144];
+    let mut stored = [0u8; 144];
+    if !filled_to(&mut i, given) {
         return Verdict::Cut;
     }
-    let e = words_left(answered);
-    if !e.whole {
+    if !filled_to(&mut stored, answered) {
         return Verdict::Cut;
     }
-    judged(same_row(worked_out(n, i.row), e.row))
+    answer(n, &i, &mut o);
+    judged(same(&o, &stored))
 }
 
 // ---- sections
@@ -155,13 +92,11 @@ struct Head {
 }
 
 fn one(h: Head) -> Verdict {
-    if h.number == 500 {
-        return lent::setup();
+    if h.number < 500 {
+        routine(h.number, h.given, h.answered)
+    } else {
+        lent::call(h.number)
     }
-    if h.number == 501 {
-        return lent::tick();
-    }
-    routine(h.number, h.given, h.answered)
 }
 
 struct Tally {

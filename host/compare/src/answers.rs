@@ -1,12 +1,15 @@
 //! The list that the program `replay` runs again: rows of input with the oracle's answers. docs/ORACLE.md has its form.
 //!
-//! Every answer is the Rust's own, or for the joint tick that of the Rust's calls in document 01's order. Inputs come of the
-//! generator alone, which asks nothing of the machine's mathematical library, so the list is the same wherever it is made.
+//! Every answer is the Rust's own, or for the joint tick that of the Rust's calls in the documents' order, or for a log that of its
+//! model. Inputs come of the generator alone, which asks nothing of the machine's mathematical library, so the list is the same wherever
+//! it is made.
 
 use crate::generate::{self, Kind, Part, Rng};
-use crate::joint::bytes::{canonical, put, word, ANSWER, IMAGE, SETUP, TICK};
+use crate::joint::bytes::{canonical, put, word, ANSWER, IMAGE, LEG, SETUP, TICK};
 use crate::joint::model::Flight;
 use crate::joint::refusal;
+use crate::joint::route::Route;
+use crate::log::{self, RECORD};
 use crate::routine::Routine;
 use crate::table;
 use std::path::PathBuf;
@@ -23,16 +26,19 @@ const STRIDE: u64 = 479;
 const SETUPS: u64 = 320;
 const RUNS: u64 = 40;
 const TICKS: u64 = 30;
+const ROUTE_TICKS: u64 = 8;
+const LOGS: u64 = 40;
 
 /// Where the list stands.
 pub fn path() -> PathBuf {
     [env!("CARGO_MANIFEST_DIR"), "../../crates/replay/stdin"].iter().collect()
 }
 
-/// Rows of one routine, or one of document 01's figures.
+/// Rows of one routine or call, or one of document 01's figures.
 pub struct Section {
     pub name: String,
     pub number: u32,
+    /// The words of each row; 0 of a call, whose rows say it themselves.
     given: usize,
     answered: usize,
     pub rows: Vec<Row>,
@@ -49,6 +55,10 @@ impl Section {
         let (given, answered) = rows.first().map_or((0, 0), |row| (row.given.len(), row.answer.len()));
         assert!(rows.iter().all(|row| row.given.len() == given && row.answer.len() == answered), "{name}: rows of one form");
         Section { name: name.to_string(), number, given, answered, rows }
+    }
+
+    fn calls(name: &str, number: u32, rows: Vec<Row>) -> Self {
+        Section { name: name.to_string(), number, given: 0, answered: 0, rows }
     }
 
     fn bytes(&self) -> Vec<u8> {
@@ -70,7 +80,10 @@ fn words_of(bytes: &[u8]) -> Vec<u32> {
 
 /// The whole list.
 pub fn list() -> Vec<u8> {
-    let sections = sections();
+    list_of(&sections())
+}
+
+pub fn list_of(sections: &[Section]) -> Vec<u8> {
     let rows = sections.iter().map(|section| section.rows.len() as u32).sum();
     let head = bytes_of(&[MAGIC, sections.len() as u32, rows]);
     std::iter::once(head).chain(sections.iter().map(Section::bytes)).flatten().collect()
@@ -83,7 +96,8 @@ pub fn sections() -> Vec<Section> {
         let (number, routine) = routines.iter().find(|(_, routine)| routine.name == *name).expect("a routine of the table");
         Section::new(figure, *number, vec![row(routine, words)])
     }));
-    all.extend([setups(), ticks()]);
+    all.extend([setups(), ticks(), route_ticks()]);
+    all.extend(logs());
     all
 }
 
@@ -132,22 +146,64 @@ const FIGURES: [(&str, &str, &[f32]); 5] = [
     ("01: low-pass 1e38, 3e38: the angle overflows", "Biquad::lowpass", &[1e38, 3e38]),
 ];
 
-/// A buffer is stored with one word more than the right length, so that a call can be lent too much of it.
+/// A buffer is stored with a word more than the right length, so that a call can be lent too much of it.
 const MORE: usize = 4;
+
+/// A buffer, and how many bytes of it a call is lent.
+struct Lent {
+    bytes: Vec<u8>,
+    len: usize,
+}
+
+/// What a call is lent: `a` and `c` it may change. And the length of a log in `a`, or a place in a log.
+struct Call {
+    a: Lent,
+    b: Lent,
+    c: Lent,
+    d: Lent,
+    at: u32,
+}
+
+impl Lent {
+    const NONE: Lent = Lent { bytes: Vec::new(), len: 0 };
+
+    /// How many words are stored and how many bytes lent, then the words.
+    fn stored(&self) -> Vec<u32> {
+        [vec![self.bytes.len() as u32 / 4, self.len as u32], words_of(&self.bytes)].concat()
+    }
+
+    fn lent(&self) -> &[u8] {
+        &self.bytes[..self.len]
+    }
+
+    fn lent_mut(&mut self) -> &mut [u8] {
+        &mut self.bytes[..self.len]
+    }
+}
+
+impl Call {
+    /// Given all that is lent; answered the number, and what the call may change.
+    fn row(&mut self, oracle: impl FnOnce(&mut [u8], &[u8], &mut [u8], &[u8], u64) -> u32) -> Row {
+        let given = [self.a.stored(), self.b.stored(), self.c.stored(), self.d.stored(), vec![self.at]].concat();
+        let number = oracle(self.a.lent_mut(), self.b.lent(), self.c.lent_mut(), self.d.lent(), self.at.into());
+        Row { given, answer: [vec![number], words_of(&self.a.bytes), words_of(&self.c.bytes)].concat() }
+    }
+}
 
 /// omega_o, omega_c, b0, tau of an axis.
 const ADRC: [Part; 4] = [Part::Above(60.0), Part::Above(20.0), Part::Number(80.0), Part::Above(0.05)];
 
-/// Position, velocity, acceleration at an end of the leg.
-const LEG_END: [Part; 3] = [Part::Vector(5.0), Part::Vector(1.0), Part::Vector(2.0)];
+/// Position, velocity, acceleration at both ends of a leg, and its duration.
+const LEG_PARTS: [Part; 7] =
+    [Part::Vector(5.0), Part::Vector(1.0), Part::Vector(2.0), Part::Vector(5.0), Part::Vector(1.0), Part::Vector(2.0), Part::Above(10.0)];
 
-/// Set-up's words as in flight: gains; set, enter and exit; the governor's; both ends and the duration; ADRC; fc and fs.
+/// Set-up's words as in flight: gains; set, enter and exit; the governor's; the leg; ADRC; fc and fs.
 fn set_up_parts() -> Vec<Part> {
     let gains = [Part::Gains(2.0), Part::Gains(1.0), Part::Gains(0.1)];
     let shield = [Part::Above(2.0), Part::Above(0.1), Part::Above(2.0), Part::Above(0.3), Part::Above(1.0)];
     let governor = [Part::Above(1.0), Part::Above(3.0), Part::Above(1.0)];
     let lpf = [Part::Above(120.0), Part::Above(1000.0)];
-    [&gains[..], &shield, &governor, &LEG_END, &LEG_END, &[Part::Above(10.0)], &ADRC, &ADRC, &ADRC, &lpf].concat()
+    [&gains[..], &shield, &governor, &LEG_PARTS, &ADRC, &ADRC, &ADRC, &lpf].concat()
 }
 
 /// A tick's: gyro, quaternion, tracking error, yaw, yaw rate, dt, agile, fractions.
@@ -171,11 +227,16 @@ fn filled<const N: usize>(kind: Kind, parts: &[Part], rng: &mut Rng) -> [f32; N]
     words
 }
 
-/// Bytes that stood in a buffer before, these at its beginning.
-fn buffer<const N: usize>(rng: &mut Rng, words: &[u32]) -> [u8; N] {
-    let mut bytes = std::array::from_fn(|_| rng.bits() as u8);
+/// So many bytes that stood in a buffer before, these words at its beginning.
+fn buffer(rng: &mut Rng, size: usize, words: &[u32]) -> Vec<u8> {
+    let mut bytes: Vec<u8> = (0..size).map(|_| rng.bits() as u8).collect();
     words.iter().enumerate().for_each(|(at, word)| put(&mut bytes, at, *word));
     bytes
+}
+
+/// The same with a word more than the right length, lent with that length or now and then with one near it.
+fn lent(rng: &mut Rng, right: usize, words: &[u32]) -> Lent {
+    Lent { bytes: buffer(rng, right + MORE, words), len: length(rng, right) }
 }
 
 fn bits<const N: usize>(words: [f32; N]) -> [u32; N] {
@@ -195,32 +256,33 @@ fn setups() -> Section {
         let mut rng = Rng::new("stored set-ups", n);
         let kind = KINDS[(n % 4) as usize];
         let input = bits(filled::<{ SETUP / 4 }>(kind, &set_up_parts(), &mut rng));
-        let (image, input) = (buffer(&mut rng, &[]), buffer(&mut rng, &input));
-        set_up(length(&mut rng, IMAGE), length(&mut rng, SETUP), image, input)
+        let (a, b) = (lent(&mut rng, IMAGE, &[]), lent(&mut rng, SETUP, &input));
+        Call { a, b, c: Lent::NONE, d: Lent::NONE, at: 0 }.row(|image, input, _, _, _| set_up(image, input))
     });
-    Section::new("set-up", 500, rows.collect())
+    Section::calls("set-up", 500, rows.collect())
 }
 
-/// Given the two lengths, the image, the input; answered the number, the image.
-fn set_up(image_len: usize, input_len: usize, image: [u8; IMAGE + MORE], input: [u8; SETUP + MORE]) -> Row {
-    let number = refusal::of_setup(image_len, input_len);
-    let mut after = image;
+fn set_up(image: &mut [u8], input: &[u8]) -> u32 {
+    let number = refusal::of_setup(image.len(), input.len());
     if number == 0 {
-        Flight::set_up(&input[..SETUP]).write(&mut after[..IMAGE]);
+        Flight::set_up(input).write(image);
     }
-    let lengths = [image_len as u32, input_len as u32];
-    Row { given: [&lengths[..], &words_of(&image), &words_of(&input)].concat(), answer: [&[number][..], &words_of(&after)].concat() }
+    number
 }
 
 fn ticks() -> Section {
-    Section::new("tick", 501, (0..RUNS).flat_map(run).collect())
+    Section::calls("tick", 501, (0..RUNS).flat_map(|number| run("stored ticks", number, TICKS, false)).collect())
+}
+
+fn route_ticks() -> Section {
+    Section::calls("route tick", 502, (0..RUNS).flat_map(|number| run("stored route ticks", number, ROUTE_TICKS, true)).collect())
 }
 
 /// Ticks from a set-up, the image handed on. Every other run is level, at rest and with no filter, and its rate goes about
 /// those at which the margin is enter and exit; the others are of all kinds. At times the call is refused, or an image with
 /// one word replaced is lent; then the run goes on with the one before.
-fn run(number: u64) -> Vec<Row> {
-    let mut rng = Rng::new("stored ticks", number);
+fn run(name: &str, number: u64, ticks: u64, on_routes: bool) -> Vec<Row> {
+    let mut rng = Rng::new(name, number);
     let (level, kind) = (number % 2 == 0, KINDS[(number / 2 % 4) as usize]);
     let mut s = filled::<{ SETUP / 4 }>(if level { Kind::Flight } else { kind }, &set_up_parts(), &mut rng);
     let edges = [1.5, 1.0];
@@ -229,9 +291,9 @@ fn run(number: u64) -> Vec<Row> {
         s[48] = 0.0;
         s[9..14].copy_from_slice(&[1.0, 1.0, 1e3, 4.0 - edges[0] * edges[0], 4.0 - edges[1] * edges[1]]);
     }
-    let mut image: [u8; IMAGE + MORE] = buffer(&mut rng, &[]);
-    Flight::set_up(&buffer::<SETUP>(&mut rng, &bits(s))).write(&mut image[..IMAGE]);
-    (0..TICKS)
+    let mut image = buffer(&mut rng, IMAGE + MORE, &[]);
+    set_up(&mut image[..IMAGE], &buffer(&mut rng, SETUP, &bits(s)));
+    (0..ticks)
         .map(|t| {
             let kind = if level { Kind::Flight } else { KINDS[(t % 4) as usize] };
             let mut words = filled::<{ TICK / 4 }>(kind, &INPUT, &mut rng);
@@ -244,15 +306,24 @@ fn run(number: u64) -> Vec<Row> {
                 words[7] = 0.0;
                 words[10] = f32::MAX;
             }
-            let mut lent = image;
+            let route = if on_routes {
+                let time = Flight::from_image(&image[..IMAGE]).time_ahead(words[7], words[10]);
+                let route = route(&mut rng, kind, time);
+                lent(&mut rng, 4 * route.len(), &route)
+            } else {
+                Lent::NONE
+            };
+            let mut before = image.clone();
             if rng.below(5) == 0 {
-                damage(&mut rng, &mut lent);
+                damage(&mut rng, &mut before);
             }
-            let lengths = [length(&mut rng, IMAGE), length(&mut rng, TICK), length(&mut rng, ANSWER)];
-            let whole = lent == image;
-            let row = tick(lengths, &mut lent, buffer(&mut rng, &bits(words)), buffer(&mut rng, &[]));
+            let whole = before == image;
+            let a = Lent { bytes: before, len: length(&mut rng, IMAGE) };
+            let (b, c) = (lent(&mut rng, TICK, &bits(words)), lent(&mut rng, ANSWER, &[]));
+            let mut call = Call { a, b, c, d: route, at: 0 };
+            let row = call.row(|image, input, answer, route, _| tick(image, input, on_routes.then_some(route), answer));
             if whole {
-                image = lent;
+                image = call.a.bytes;
             }
             row
         })
@@ -269,16 +340,90 @@ fn damage(rng: &mut Rng, image: &mut [u8]) {
     put(image, at, new);
 }
 
-/// Given the three lengths, the image, the input, the answer; answered the number, the image, the answer.
-fn tick(lengths: [usize; 3], image: &mut [u8; IMAGE + MORE], input: [u8; TICK + MORE], answer: [u8; ANSWER + MORE]) -> Row {
-    let [image_len, input_len, answer_len] = lengths;
-    let given = [&lengths.map(|n| n as u32)[..], &words_of(image), &words_of(&input), &words_of(&answer)].concat();
-    let number = refusal::of_tick(&image[..image_len], input_len, answer_len);
-    let mut after = answer;
+fn tick(image: &mut [u8], input: &[u8], route: Option<&[u8]>, answer: &mut [u8]) -> u32 {
+    let number = match route {
+        Some(route) => refusal::of_route_tick(image, input.len(), route, answer.len()),
+        None => refusal::of_tick(image, input.len(), answer.len()),
+    };
     if number == 0 {
-        let mut flight = Flight::from_image(&image[..IMAGE]);
-        flight.tick(&input[..TICK], &mut after[..ANSWER]);
-        flight.write(&mut image[..IMAGE]);
+        let mut flight = Flight::from_image(image);
+        flight.toward = route.map(Route::of);
+        flight.tick(input, answer);
+        flight.write(image);
     }
-    Row { given, answer: [&[number][..], &words_of(image), &words_of(&after)].concat() }
+    number
+}
+
+/// Legs that meet, of one kind, as far as it has numbers that do; one of them, or none, ends at this time or next to it, and those
+/// before it are short. At times no leg or one too many, or one word of a join or of the trailer replaced.
+fn route(rng: &mut Rng, kind: Kind, time: f32) -> Vec<u32> {
+    const WORDS: usize = LEG / 4;
+    let count = rng.of(&[1, 1, 2, 2, 2, 3, 3, 3, 4, 4, 5, 8, 0, 9]).unwrap_or(1);
+    let mut legs = vec![[0.0; WORDS]; count];
+    let (aim, mut end, mut from) = (rng.below(count + 1), 0.0f32, None);
+    for (at, leg) in legs.iter_mut().enumerate() {
+        *leg = filled(kind, &LEG_PARTS, rng);
+        if let Some(from) = from.replace(<[f32; 9]>::try_from(&leg[9..18]).expect("nine words")) {
+            leg[..9].copy_from_slice(&from);
+        }
+        if at < aim {
+            leg[18] = time.min(f32::MAX) * rng.range(0.1, 0.9) / count as f32;
+        } else if at == aim {
+            leg[18] = rng.near(time - end);
+        }
+        end += if leg[18].is_finite() && leg[18] > 1e-3 { leg[18] } else { 1e-3 };
+    }
+    let mut words: Vec<u32> = legs.into_iter().flatten().map(f32::to_bits).chain([count as u32, (LEG * count) as u32]).collect();
+    let any = rng.bits() as u32;
+    match rng.below(12) {
+        0 if count > 1 => words[WORDS * rng.below(count - 1) + 9 + rng.below(9)] = rng.word().to_bits(),
+        1 => words[WORDS * count] = rng.of(&[0, 9, count as u32 + 1, 1 << 30, any]).unwrap_or(0),
+        2 => words[WORDS * count + 1] = rng.of(&[0, (LEG * count) as u32 + 76, any]).unwrap_or(0),
+        _ => {}
+    }
+    words
+}
+
+/// Records appended to the empty log until there is no more room; after each append the count is read, and a record. At times a buffer
+/// has another length, a trailer has one word replaced, the log's length is another, or there is no such record.
+fn logs() -> [Section; 3] {
+    let (mut appends, mut counts, mut records) = (Vec::new(), Vec::new(), Vec::new());
+    for number in 0..LOGS {
+        let (mut rng, mut places) = (Rng::new("stored logs", number), Rng::new("stored places", number));
+        let room = 1 + rng.below(3);
+        let (mut log, mut len) = (buffer(&mut rng, RECORD * room + log::TRAILER + MORE, &[0, 0, RECORD as u32]), log::TRAILER);
+        for _ in 0..room + 1 {
+            let other = rng.of(&[0, 11, len - 1, len + 1, log.len() + 1, u32::MAX as usize]).unwrap_or(0);
+            let at = if rng.below(6) == 0 { other } else { len };
+            let end = if rng.below(6) == 0 { rng.of(&[0, len - 1, len, len + RECORD - 1]).unwrap_or(0) } else { log.len() };
+            let a = Lent { bytes: spoilt(&mut rng, &log, len), len: end.min(log.len()) };
+            let (b, d) = (lent(&mut rng, TICK, &[]), lent(&mut rng, ANSWER, &[]));
+            let mut call = Call { a, b, c: Lent::NONE, d, at: at as u32 };
+            let row = call.row(|buffer, input, _, answer, log_len| log::model::append(buffer, log_len, input, answer));
+            if row.answer[0] == 0 {
+                (log, len) = (call.a.bytes, len + RECORD);
+            }
+            appends.push(row);
+            let mut read = |at: u32, right: usize, oracle: fn(&[u8], u64, &mut [u8]) -> u32| {
+                let b = Lent { bytes: spoilt(&mut rng, &log, len), len: length(&mut rng, len) };
+                Call { a: Lent::NONE, b, c: lent(&mut rng, right, &[]), d: Lent::NONE, at }.row(|_, log, to, _, at| oracle(log, at, to))
+            };
+            counts.push(read(0, 4, |log, _, count| log::model::count(log, count)));
+            let count = (len / RECORD) as u32;
+            let place = places.of(&[0, 0, count / 2, count.saturating_sub(1), count, u32::MAX]).unwrap_or(0);
+            records.push(read(place, RECORD, log::model::record));
+        }
+    }
+    [Section::calls("log append", 503, appends), Section::calls("log count", 504, counts), Section::calls("log record", 505, records)]
+}
+
+/// A log of this length in its buffer, now and then with a word of its trailer replaced.
+fn spoilt(rng: &mut Rng, log: &[u8], len: usize) -> Vec<u8> {
+    let mut log = log.to_vec();
+    if rng.below(8) == 0 {
+        let any = rng.bits() as u32;
+        let word = rng.of(&[0, 1, 1 << 30, 107, 108, 109, 216, any]).unwrap_or(0);
+        put(&mut log, (len - log::TRAILER) / 4 + rng.below(3), word);
+    }
+    log
 }

@@ -1,11 +1,15 @@
-//! The stored list that the program `replay` runs again.
+//! The stored list that the program `replay` runs again, and that the program sees what is wrong with a list.
 
 use compare::answers::{self, Section};
+use compare::joint::route::Route;
+use std::fs::{self, File};
+use std::path::{Path, PathBuf};
+use std::process::Command;
 
 /// What the oracle makes now, byte for byte.
 #[test]
 fn the_stored_list_is_the_oracle_s() {
-    let stored = std::fs::read(answers::path()).expect("the stored list");
+    let stored = fs::read(answers::path()).expect("the stored list");
     let made = answers::list();
     let at = stored.iter().zip(&made).position(|(a, b)| a != b);
     assert!(
@@ -41,16 +45,91 @@ fn the_list_has_every_routine_every_number_and_both_controllers() {
     let sections = answers::sections();
     let all: usize = sections.iter().map(|section| section.rows.len()).sum();
     assert!(all >= 10_000, "{all} answers");
-    // 82 of the table, the root and the size, five figures, set-up and tick
-    assert_eq!(sections.len(), 82 + 2 + 5 + 2);
-    let numbers = |name: &str, number: u32| named(&sections, name).rows.iter().filter(|row| row.answer[0] == number).count();
-    println!("set-up: {:?}, tick: {:?}", [0, 1, 2].map(|n| numbers("set-up", n)), [0, 1, 2, 3, 4].map(|n| numbers("tick", n)));
-    assert!([0, 1, 2].into_iter().all(|n| numbers("set-up", n) > 5));
-    assert!([0, 1, 2, 3, 4].into_iter().all(|n| numbers("tick", n) > 20));
+    // 82 of the table, the root and the size, five figures, set-up, both ticks, and a log's three calls
+    assert_eq!(sections.len(), 82 + 2 + 5 + 6);
+    let numbers = |name: &str, all: &[u32], least: usize| {
+        let rows = &named(&sections, name).rows;
+        let count = |number: &u32| rows.iter().filter(|row| row.answer[0] == *number).count();
+        let counts: Vec<usize> = all.iter().map(count).collect();
+        println!("{name}: {all:?} come {counts:?} times");
+        assert!(counts.iter().all(|n| *n >= least) && counts.iter().sum::<usize>() == rows.len(), "{name}: {counts:?}");
+    };
+    numbers("set-up", &[0, 1, 2], 6);
+    numbers("tick", &[0, 1, 2, 3, 4], 21);
+    numbers("route tick", &[0, 1, 2, 3, 4, 5, 6, 7], 10);
+    numbers("log append", &[0, 2, 3, 8, 9], 6);
+    numbers("log count", &[0, 2, 8], 6);
+    numbers("log record", &[0, 8, 13, 14], 6);
     // of an accepted tick: the flag, a margin of minus infinity, an infinite time; the answer stands after the number and the image
     let ticks = &named(&sections, "tick").rows;
-    let seen = |at: usize, word: u32| ticks.iter().filter(|row| row.answer[0] == 0 && row.answer[1 + 96 + at] == word).count();
+    let seen = |at: usize, word: u32| ticks.iter().filter(|row| row.answer[0] == 0 && row.answer[ANSWER + at] == word).count();
     let seen = [seen(6, 0), seen(6, 1), seen(9, 0xff80_0000), seen(7, 0x7f80_0000), seen(9, 1.75f32.to_bits()), seen(9, 3.0f32.to_bits())];
     println!("planner, fallback, no R_d, infinite time, margin at enter, at exit: {seen:?}");
     assert!(seen.into_iter().all(|n| n >= 5), "{seen:?}");
+}
+
+/// Where an answer of a tick stands in a row's: after the number and the image.
+const ANSWER: usize = 1 + 96;
+
+/// Of the accepted route ticks: on the first leg, on a later one, at the very end of one, past all ends.
+#[test]
+fn the_route_ticks_are_on_every_part_of_a_route() {
+    let sections = answers::sections();
+    let mut seen = [0; 4];
+    for row in named(&sections, "route tick").rows.iter().filter(|row| row.answer[0] == 0) {
+        // image, input and answer, each after two words of sizes
+        let route = &row.given[2 + 96 + 2 + 18 + 2 + 11..];
+        let bytes: Vec<u8> = route[2..].iter().flat_map(|word| word.to_le_bytes()).take(route[1] as usize).collect();
+        let (route, time) = (Route::of(&bytes), f32::from_bits(row.answer[ANSWER + 7]));
+        let place = route.place(time);
+        let is = [!place.past && place.leg == 0, !place.past && place.leg > 0, route.ends.contains(&time), place.past];
+        seen.iter_mut().zip(is).for_each(|(n, is)| *n += usize::from(is));
+    }
+    println!("first leg, later leg, at an end, past all: {seen:?}");
+    assert!(seen.into_iter().all(|n| n >= 8), "{seen:?}");
+}
+
+/// What the proved program prints of a list.
+fn replayed(name: &str, list: &[u8]) -> Vec<String> {
+    let program: PathBuf = [env!("CARGO_MANIFEST_DIR"), "../../target/bin/replay"].iter().collect();
+    let path = Path::new(env!("CARGO_TARGET_TMPDIR")).join(name);
+    fs::write(&path, list).expect("the list is written");
+    let run = Command::new(&program).stdin(File::open(&path).expect("the list is read")).output();
+    let printed = run.unwrap_or_else(|error| panic!("{}: {error}; `rt check replay` builds it", program.display())).stdout;
+    String::from_utf8(printed).expect("text").lines().map(str::to_string).collect()
+}
+
+/// Every row with one bit of its answer changed, in another word from row to row: each is named, and nothing else is.
+#[test]
+fn a_wrong_answer_is_seen_in_every_row() {
+    let mut sections = answers::sections();
+    for row in sections.iter_mut().flat_map(|section| section.rows.iter_mut().enumerate()) {
+        let (number, answer) = (row.0, &mut row.1.answer);
+        let at = number % answer.len();
+        answer[at] ^= 1 << (number % 32);
+    }
+    let count = |name: &str, rows: usize| format!("{name:48}{rows} compared, {rows} differ");
+    let told = |section: &Section| {
+        let rows = section.rows.len();
+        (0..rows).map(|row| format!("row {row} differs")).chain([count(&section.name, rows)]).collect::<Vec<_>>()
+    };
+    let all = count("all", sections.iter().map(|section| section.rows.len()).sum());
+    let expected: Vec<String> = sections.iter().flat_map(told).chain([all]).collect();
+    let printed = replayed("wrong", &answers::list_of(&sections));
+    assert_eq!(printed.iter().zip(&expected).find(|(a, b)| a != b), None);
+    assert_eq!(printed.len(), expected.len());
+}
+
+/// Cut in a row of a call or of a routine, a byte too long, or no list at all.
+#[test]
+fn a_list_of_another_form_is_told() {
+    let list = answers::list();
+    let last = |name: &str, list: &[u8]| replayed(name, list).pop().expect("a line");
+    assert!(last("whole", &list).ends_with(" 0 differ"));
+    let amiss = "the list is cut, too long, or not of this form";
+    for cut in [1, 500, list.len() / 2, list.len() - 200] {
+        assert_eq!(last("cut", &list[..list.len() - cut]), amiss, "{cut} bytes cut");
+    }
+    assert_eq!(last("long", &[&list[..], &[0]].concat()), amiss);
+    assert_eq!(last("other", &list[1..]), "not a list of answers");
 }

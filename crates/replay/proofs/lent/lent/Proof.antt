@@ -2,20 +2,22 @@ use borrow.Author.Needs.{needs}
 use mathlib.Core.Path.{sym}
 use native.Mathlib.Omega.{arith}
 use lib.Seq.{length-take-le}
-use Rattle.replay.proofs.lent.tick_lent.Statement.{statement}
-use Rattle.replay.proofs.lent.tick_lent.Tie as tie
+use Rattle.replay.proofs.lent.lent.Statement.{statement}
+use Rattle.replay.proofs.lent.lent.Tie as tie
 
-pub tick-lent-spec : {M : Type 1} → statement M
-tick-lent-spec =
+pub lent-spec : {M : Type 1} → statement M
+lent-spec =
     tie.close
     (tie.spec
     (λ c. search needs)
     (λ c. search needs)
     (λ c. search needs)
     (λ c. search needs)
+    (λ c. search needs)
     (λ c. sym (length-take-le _ _ (omega arith)))
     (λ c. sym (length-take-le _ _ (omega arith)))
     (λ c. search needs)
+    (λ c. sym (length-take-le _ _ (omega arith)))
     (λ c. sym (length-take-le _ _ (omega arith)))
     (λ c κs. search needs)
     (λ c κs. search needs)

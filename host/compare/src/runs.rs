@@ -4,9 +4,9 @@ use crate::generate::{self, Kind, Part, Rng};
 use crate::routine::{alike, Hex};
 use crate::words::{In, Out, Words, MOST};
 use faces::{adrc, geo, traj};
-use opened::adrc as their_adrc;
-use opened::geo as their_geo;
-use opened::traj as their_traj;
+use oracle::adrc as their_adrc;
+use oracle::geo as their_geo;
+use oracle::traj as their_traj;
 use std::fmt;
 
 /// One thing that can happen to a state.

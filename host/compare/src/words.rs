@@ -230,12 +230,9 @@ mod ours {
 
 mod theirs {
     use super::{In, Out, Words};
-    use opened::{adrc, geo, traj};
+    use oracle::{adrc, geo, traj};
 
     fields! {
-        relay_geo::GeoGains { k_r: [f32; 3], k_omega: [f32; 3], j: [f32; 3] }
-        relay_geo::RecoverableSet { k_r: f32, lambda_j: f32, psi_max: f32 }
-        relay_adrc::AdrcGains { omega_o: f32, omega_c: f32, b0: f32, tau: f32 }
         geo::GeoGains { k_r: [f32; 3], k_omega: [f32; 3], j: [f32; 3] }
         geo::RecoverableSet { k_r: f32, lambda_j: f32, psi_max: f32 }
         traj::Sample { p: f32, v: f32, a: f32, j: f32 }

@@ -2,7 +2,7 @@
 
 use faces::geo::{Mat3, Quat, RecoverableSet};
 use faces::{adrc, geo, traj, BodyRate, Vec3};
-use opened::{adrc as rust_adrc, geo as rust_geo, traj as rust_traj};
+use oracle::{adrc as rust_adrc, geo as rust_geo, traj as rust_traj};
 use relay_math_published as published;
 
 const ZERO: Vec3 = Vec3(0.0, 0.0, 0.0);

@@ -3,9 +3,9 @@
 
 use super::bytes::{Put, Take, WORDS};
 use super::route::Route;
-use opened::adrc::{AdrcGains, AdrcRate, GyroLpf};
-use opened::geo::{self, GeoAtt, GeoGains, Mat3, RecoverableSet, SimplexShield, Vec3};
-use opened::traj::{RefGovernor, Sample3, Segment3};
+use oracle::adrc::{AdrcGains, AdrcRate, GyroLpf};
+use oracle::geo::{self, GeoAtt, GeoGains, Mat3, RecoverableSet, SimplexShield, Vec3};
+use oracle::traj::{RefGovernor, Sample3, Segment3};
 
 /// Everything that goes from tick to tick.
 pub struct Flight {

@@ -3,7 +3,7 @@
 use super::bytes::{put, raw, word, SETUP, TICK, WORDS};
 use super::model::Flight;
 use crate::generate::{self, Rng};
-use opened::geo::Mat3;
+use oracle::geo::Mat3;
 
 /// How a run comes about.
 #[derive(Clone, Copy, Debug, PartialEq, Eq)]

@@ -1,7 +1,7 @@
 //! What is expected of a route: document 02's sentence, with the Rust's own segments and durations.
 
 use super::bytes::{Take, LEG};
-use opened::traj::{Sample3, Segment3};
+use oracle::traj::{Sample3, Segment3};
 
 /// A route that is not refused.
 #[derive(Clone)]

@@ -4,7 +4,7 @@ use crate::generate::{Part, Rng};
 use crate::routine::Routine;
 use crate::words::Words;
 use faces::adrc;
-use opened::adrc::{private, AdrcAxis, AdrcGains, AdrcRate, Biquad, CommandFilter, CommandFilter3, GyroLpf};
+use oracle::adrc::{private, AdrcAxis, AdrcGains, AdrcRate, Biquad, CommandFilter, CommandFilter3, GyroLpf};
 
 /// omega_o, omega_c, b0, tau.
 const GAINS: [Part; 4] = [Part::Above(60.0), Part::Above(20.0), Part::Number(80.0), Part::Number(0.05)];
@@ -61,25 +61,25 @@ fn gains() -> Vec<Routine> {
             "AdrcGains::new",
             &GAINS[..3],
             |i| adrc::adrcgains_new(i.get(), i.get(), i.get()),
-            |i| relay_adrc::AdrcGains::new(i.get(), i.get(), i.get()),
+            |i| AdrcGains::new(i.get(), i.get(), i.get()),
         ),
         Routine::new(
             "AdrcGains::with_tau",
             &GAINS,
             |i| adrc::adrcgains_with_tau(i.get(), i.get(), i.get(), i.get()),
-            |i| relay_adrc::AdrcGains::with_tau(i.get(), i.get(), i.get(), i.get()),
+            |i| AdrcGains::with_tau(i.get(), i.get(), i.get(), i.get()),
         ),
         Routine::new(
             "AdrcGains::from_bandwidth",
             &[Part::Above(20.0), Part::Above(10.0), Part::Number(80.0), Part::Number(0.05)],
             |i| adrc::adrcgains_from_bandwidth(i.get(), i.get(), i.get(), i.get()),
-            |i| relay_adrc::AdrcGains::from_bandwidth(i.get(), i.get(), i.get(), i.get()),
+            |i| AdrcGains::from_bandwidth(i.get(), i.get(), i.get(), i.get()),
         ),
         Routine::new(
             "AdrcGains::well_separated",
             &with(&GAINS, &[Part::Above(10.0)]),
             |i| adrc::adrcgains_well_separated(i.get(), i.get()),
-            |i| i.get::<relay_adrc::AdrcGains>().well_separated(i.get()),
+            |i| i.get::<AdrcGains>().well_separated(i.get()),
         )
         .near(|rng, words| {
             words[0] = rng.near(words[4] * words[1]);
@@ -91,7 +91,7 @@ fn gains() -> Vec<Routine> {
             "AdrcGains::eso_dt_stable",
             &with(&GAINS, &[Part::Step, Part::Above(1.0)]),
             |i| adrc::adrcgains_eso_dt_stable(i.get(), i.get(), i.get()),
-            |i| i.get::<relay_adrc::AdrcGains>().eso_dt_stable(i.get(), i.get()),
+            |i| i.get::<AdrcGains>().eso_dt_stable(i.get(), i.get()),
         )
         .near(|rng, words| {
             words[5] = rng.near(0.5 * (words[0] * words[4]));

@@ -4,8 +4,7 @@ use crate::generate::{Part, Rng};
 use crate::routine::Routine;
 use crate::words::In;
 use faces::geo;
-use opened::geo::{private, SimplexShield};
-use relay_geo::{GeoAtt, GeoGains, RecoverableSet};
+use oracle::geo::{private, GeoAtt, GeoGains, RecoverableSet, SimplexShield};
 
 /// An acceleration, a body rate, a jerk: m/s², rad/s, m/s³.
 const ACCELERATION: Part = Part::Vector(20.0);
@@ -35,12 +34,12 @@ pub fn routines() -> Vec<Routine> {
 
 fn vectors() -> Vec<Routine> {
     vec![
-        Routine::new("GRAVITY_NED", &[], |_| geo::gravity_ned(), |_| relay_geo::GRAVITY_NED),
+        Routine::new("GRAVITY_NED", &[], |_| geo::gravity_ned(), |_| oracle::geo::GRAVITY_NED),
         Routine::new("cross", &[RATE, RATE], |i| geo::cross(i.get(), i.get()), |i| private::cross(i.get(), i.get())),
         Routine::new("dot", &[RATE, RATE], |i| geo::dot(i.get(), i.get()), |i| private::dot(i.get(), i.get())),
         Routine::new("norm", &[RATE], |i| geo::norm(i.get()), |i| private::norm(i.get())).near(norm_at_the_least),
         Routine::new("normalize", &[RATE], |i| geo::normalize(i.get()), |i| private::normalize(i.get())).near(norm_at_the_least),
-        Routine::new("identity3", &[], |_| geo::identity3(), |_| relay_geo::identity3()),
+        Routine::new("identity3", &[], |_| geo::identity3(), |_| oracle::geo::identity3()),
         Routine::new("transpose3", &[Part::Rotation], |i| geo::transpose3(i.get()), |i| private::transpose3(i.get())),
         Routine::new(
             "matmul3",
@@ -56,15 +55,15 @@ fn vectors() -> Vec<Routine> {
 
 fn attitudes() -> Vec<Routine> {
     vec![
-        Routine::new("quat_to_rotmat", &[Part::Quaternion], |i| geo::quat_to_rotmat(i.get()), |i| relay_geo::quat_to_rotmat(i.get())),
+        Routine::new("quat_to_rotmat", &[Part::Quaternion], |i| geo::quat_to_rotmat(i.get()), |i| oracle::geo::quat_to_rotmat(i.get())),
         Routine::new(
             "desired_attitude",
             &[Part::Axis, Part::Angle],
             |i| geo::desired_attitude(i.get(), i.get()),
-            |i| relay_geo::desired_attitude(i.get(), i.get()),
+            |i| oracle::geo::desired_attitude(i.get(), i.get()),
         )
         .near(axis_along_the_heading),
-        Routine::new("thrust_axis_ned", &[ACCELERATION], |i| geo::thrust_axis_ned(i.get()), |i| relay_geo::thrust_axis_ned(i.get()))
+        Routine::new("thrust_axis_ned", &[ACCELERATION], |i| geo::thrust_axis_ned(i.get()), |i| oracle::geo::thrust_axis_ned(i.get()))
             .near(free_fall),
         // the Rust has no name for it; `desired_rate` and `tick` write it out
         Routine::new(
@@ -73,7 +72,7 @@ fn attitudes() -> Vec<Routine> {
             |i| geo::thrust_attitude(i.get(), i.get()),
             |i| {
                 let (a, yaw) = (i.get(), i.get());
-                relay_geo::thrust_axis_ned(a).and_then(|b3| relay_geo::desired_attitude(b3, yaw))
+                oracle::geo::thrust_axis_ned(a).and_then(|b3| oracle::geo::desired_attitude(b3, yaw))
             },
         )
         .near(free_fall),
@@ -81,7 +80,7 @@ fn attitudes() -> Vec<Routine> {
             "flatness_omega_ff",
             &[ACCELERATION, JERK, Part::Angle, Part::Number(3.0)],
             |i| geo::flatness_omega_ff(i.get(), i.get(), i.get(), i.get()),
-            |i| relay_geo::flatness_omega_ff(i.get(), i.get(), i.get(), i.get()),
+            |i| oracle::geo::flatness_omega_ff(i.get(), i.get(), i.get(), i.get()),
         )
         .near(free_fall),
         // the same, with the attitude worked out before
@@ -89,7 +88,7 @@ fn attitudes() -> Vec<Routine> {
             "feedforward_from",
             &[ACCELERATION, JERK, Part::Angle, Part::Number(3.0)],
             |i| geo::feedforward_from(i.get(), i.get(), i.get(), i.get()),
-            |i| relay_geo::flatness_omega_ff(i.get(), i.get(), i.get(), i.get()),
+            |i| oracle::geo::flatness_omega_ff(i.get(), i.get(), i.get(), i.get()),
         )
         .near(free_fall),
     ]
@@ -98,7 +97,7 @@ fn attitudes() -> Vec<Routine> {
 fn controllers() -> Vec<Routine> {
     vec![
         Routine::new("GeoGains::FALCON_QUAD", &[], |_| geo::geogains_falcon_quad(), |_| GeoGains::FALCON_QUAD),
-        Routine::new("GeoAtt::new", &GAINS, |i| geo::geoatt_new(i.get()), |i| opened::geo::GeoAtt::new(i.get()).words()),
+        Routine::new("GeoAtt::new", &GAINS, |i| geo::geoatt_new(i.get()), |i| GeoAtt::new(i.get()).words()),
         Routine::new(
             "GeoAtt::psi",
             &[Part::Rotation, Part::Rotation],

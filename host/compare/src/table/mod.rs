@@ -1,6 +1,4 @@
 //! Every routine of the ported crates, ours beside theirs: one file a crate, in the Rust's order.
-//!
-//! Theirs is the published package where its public items reach the routine and its state, else the same text opened (package `opened`).
 
 mod adrc;
 mod geo;

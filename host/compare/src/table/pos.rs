@@ -9,7 +9,7 @@ pub fn routines() -> Vec<Routine> {
         "euler_to_quaternion",
         &[Part::Angle, Part::Angle, Part::Angle],
         |i| pos::euler_to_quaternion(i.get(), i.get(), i.get()),
-        |i| relay_pos::euler_to_quaternion(i.get(), i.get(), i.get()),
+        |i| oracle::pos::euler_to_quaternion(i.get(), i.get(), i.get()),
     )
     .near(halves_at_the_limit)]
 }

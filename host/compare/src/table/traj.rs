@@ -3,7 +3,7 @@
 use crate::generate::{Part, Rng};
 use crate::routine::Routine;
 use faces::traj;
-use opened::traj::{private, Quintic, RefGovernor, Segment3};
+use oracle::traj::{private, Quintic, RefGovernor, Segment3};
 
 const POSITION: Part = Part::Number(50.0);
 const VELOCITY: Part = Part::Number(10.0);

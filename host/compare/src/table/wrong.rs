@@ -5,7 +5,7 @@ use crate::routine::Routine;
 use crate::words::{In, Words};
 use faces::geo::AxisAnswer;
 use faces::{adrc, geo, traj, BodyRate, Torque, Vec3};
-use opened::geo::private as vectors;
+use oracle::geo::private as vectors;
 
 /// The routine of the table with `ours` in the place of ours.
 fn instead<A: Words>(of: &str, name: &'static str, ours: impl Fn(&mut In) -> A + Send + Sync + 'static) -> Option<Routine> {

@@ -1,14 +1,14 @@
 use std::path::{Path, PathBuf};
 use std::{env, fs};
 
-/// Writes, for each crate, its published text as it is and our harness after it, and a file that names the results as modules.
+/// Writes, for each module, its published text as it is and our harness after it, and a file that names the results as modules.
 /// (A private item can be reached from a module inside only, and `include!` takes no file that begins with attributes of its own.)
 fn main() {
     let here = Path::new(env!("CARGO_MANIFEST_DIR"));
     let out = PathBuf::from(env::var_os("OUT_DIR").expect("cargo sets OUT_DIR"));
     let mut modules = String::new();
-    for name in ["geo", "traj", "adrc"] {
-        let published = here.join(format!("../../../docs/src/crates/relay-{name}/plain/src/lib.rs"));
+    for name in ["geo", "traj", "adrc", "pos"] {
+        let published = here.join(format!("../../docs/src/crates/relay-{name}/plain/src/lib.rs"));
         let harness = here.join(format!("harness/{name}.rs"));
         let mut text = read(&published);
         text.extend(read(&harness));

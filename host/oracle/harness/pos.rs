@@ -1,0 +1,1 @@
+// Ours, from here on: nothing. What is compared of 003 is public.

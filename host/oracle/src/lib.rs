@@ -1,0 +1,46 @@
+//! The Rust as published, byte for byte, with its private items within reach: `geo::private`, `traj::private`, `adrc::private`, and `words`
+//! and `from_words` on each type that has private fields. build.rs puts them together.
+//!
+//! The numbers that the published text asks for stand here, under the name that it knows them by. Sine and cosine are ours, by the exported
+//! calls (document 01: "the oracle build uses those angle functions"); the root and the absolute value are IEEE 754's, by the standard library.
+
+extern crate self as relay_math;
+
+include!(concat!(env!("OUT_DIR"), "/modules.rs"));
+
+pub use faces::{cosf, sinf};
+
+pub fn sqrtf(x: f32) -> f32 {
+    x.sqrt()
+}
+
+pub fn fabsf(x: f32) -> f32 {
+    x.abs()
+}
+
+/// Only the parts of 003 that are not ported call this.
+pub fn atan2f(y: f32, x: f32) -> f32 {
+    y.atan2(x)
+}
+
+#[cfg(test)]
+mod tests {
+    /// What was compiled, the published text and our harness.
+    macro_rules! texts {
+        ($name:literal) => {
+            (
+                &include_bytes!(concat!(env!("OUT_DIR"), "/", $name, ".rs"))[..],
+                &include_bytes!(concat!("../../../docs/src/crates/relay-", $name, "/plain/src/lib.rs"))[..],
+                &include_bytes!(concat!("../harness/", $name, ".rs"))[..],
+            )
+        };
+    }
+
+    #[test]
+    fn what_is_compiled_is_the_published_text_and_the_harness_after_it() {
+        for (compiled, published, harness) in [texts!("geo"), texts!("traj"), texts!("adrc"), texts!("pos")] {
+            assert!(published.len() > 10_000);
+            assert_eq!(compiled.strip_prefix(published), Some(harness));
+        }
+    }
+}

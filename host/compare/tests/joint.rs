@@ -6,7 +6,7 @@ use compare::joint::bytes::{float, put, word, ANSWER, IMAGE, SETUP, TICK};
 use compare::joint::model::Flight;
 use compare::joint::pilot::Pilot;
 use compare::joint::runs::{self, Along, Seen, Watch};
-use compare::joint::{lengths, parts, refusal, Face, ARCHIVE};
+use compare::joint::{fault, lengths, refusal, Face, ARCHIVE};
 use std::time::Instant;
 
 #[test]
@@ -42,7 +42,7 @@ fn covered(seen: &Seen) {
 
 #[test]
 fn what_looks_right_but_is_wrong_is_caught() {
-    let missed: Vec<&str> = parts::WRONG.iter().filter(|face| !caught(face, Watch::All)).map(|face| face.name).collect();
+    let missed: Vec<&str> = fault::WRONG.iter().filter(|face| !caught(face, Watch::All)).map(|face| face.name).collect();
     assert!(missed.is_empty(), "not caught within {} ticks: {missed:?}", runs::GATE);
 }
 
@@ -58,7 +58,7 @@ fn looking_back_alone_catches_what_is_about_the_flag_and_the_command() {
         "a sham that leaves the image",
         "a sham that echoes its first answer",
     ] {
-        let face = parts::WRONG.iter().find(|face| face.name == name).expect("a name of the list");
+        let face = fault::WRONG.iter().find(|face| face.name == name).expect("a name of the list");
         assert!(caught(face, Watch::LookBack), "{name}");
     }
 }
@@ -75,8 +75,8 @@ fn caught(face: &Face, watch: Watch) -> bool {
 
 /// What the wrong ones are made from is right.
 #[test]
-fn the_single_routines_make_the_same_tick() {
-    let (_, parted) = runs::compare(&parts::RIGHT, runs::GATE / 10, Watch::All, Along::Segment, |_| {});
+fn with_no_fault_nothing_differs() {
+    let (_, parted) = runs::compare(&fault::RIGHT, runs::GATE / 10, Watch::All, Along::Segment, |_| {});
     if let Some(parted) = parted {
         panic!("{parted}");
     }
@@ -94,21 +94,21 @@ fn every_length_of_every_buffer() {
 /// And the sweep can fail.
 #[test]
 fn a_wrong_length_taken_or_a_byte_changed_is_caught() {
-    let longer = Face { tick: |image, input, answer| (parts::RIGHT.tick)(image, &input[..input.len().min(TICK)], answer), ..parts::RIGHT };
+    let longer = Face { tick: |image, input, answer| (fault::RIGHT.tick)(image, &input[..input.len().min(TICK)], answer), ..fault::RIGHT };
     let writes = Face {
         setup: |image, input| {
             if let Some(byte) = image.first_mut() {
                 *byte ^= 1;
             }
-            (parts::RIGHT.setup)(image, input)
+            (fault::RIGHT.setup)(image, input)
         },
         tick: |image, input, answer| {
             if let (Some(byte), 4) = (answer.last_mut(), input.len() % 64) {
                 *byte ^= 1;
             }
-            (parts::RIGHT.tick)(image, input, answer)
+            (fault::RIGHT.tick)(image, input, answer)
         },
-        ..parts::RIGHT
+        ..fault::RIGHT
     };
     assert!(lengths::ticks(&longer).is_err() && lengths::ticks(&writes).is_err() && lengths::setups(&writes).is_err());
 }

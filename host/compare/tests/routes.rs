@@ -3,7 +3,7 @@
 
 use compare::joint::bytes::{float, put, raw, word, ANSWER, IMAGE, LEG, SETUP, TICK};
 use compare::joint::runs::{self, Along, Watch};
-use compare::joint::{lengths, parts, Face, ARCHIVE};
+use compare::joint::{fault, lengths, Face, ARCHIVE};
 use std::time::Instant;
 
 #[test]
@@ -35,7 +35,7 @@ fn every_tick_on_a_route_is_the_rust_s_and_the_look_back_s() {
 
 #[test]
 fn what_looks_right_but_is_wrong_is_caught() {
-    let missed: Vec<&str> = parts::WRONG_ON_ROUTES.iter().filter(|face| !caught(face, Watch::All)).map(|face| face.name).collect();
+    let missed: Vec<&str> = fault::WRONG_ON_ROUTES.iter().filter(|face| !caught(face, Watch::All)).map(|face| face.name).collect();
     assert!(missed.is_empty(), "not caught within {} ticks: {missed:?}", runs::GATE_ON_ROUTES);
 }
 
@@ -43,7 +43,7 @@ fn what_looks_right_but_is_wrong_is_caught() {
 #[test]
 fn looking_back_alone_catches_what_is_about_the_flag() {
     for name in ["released in the band", "a sham with one answer", "a sham that leaves the image"] {
-        let face = parts::WRONG.iter().find(|face| face.name == name).expect("a name of the list");
+        let face = fault::WRONG.iter().find(|face| face.name == name).expect("a name of the list");
         assert!(caught(face, Watch::LookBack), "{name}");
     }
 }
@@ -61,8 +61,8 @@ fn caught(face: &Face, watch: Watch) -> bool {
 
 /// What the wrong ones are made from is right.
 #[test]
-fn the_single_routines_make_the_same_tick() {
-    let (_, parted) = runs::compare(&parts::RIGHT, runs::GATE_ON_ROUTES / 10, Watch::All, Along::Routes, |_| {});
+fn with_no_fault_nothing_differs() {
+    let (_, parted) = runs::compare(&fault::RIGHT, runs::GATE_ON_ROUTES / 10, Watch::All, Along::Routes, |_| {});
     if let Some(parted) = parted {
         panic!("{parted}");
     }
@@ -74,7 +74,7 @@ fn every_length_of_a_route() {
     println!("{calls} calls");
     assert_eq!(calls, lengths::route_calls());
     // and the sweep can fail
-    let longer = parts::WRONG_ON_ROUTES.iter().find(|face| face.name == "a longer route taken").expect("a name of the list");
+    let longer = fault::WRONG_ON_ROUTES.iter().find(|face| face.name == "a longer route taken").expect("a name of the list");
     assert!(lengths::routes(longer).is_err());
 }
 

@@ -1,6 +1,7 @@
 //! Every length from 0 to 400 of each buffer, all together, between guards: the number, and not a byte changed. And of a route from 0 to 700.
 
 use super::bytes::{put, Lent, LentRoute, ANSWER, IMAGE, LEG, LONGEST, LONGEST_ROUTE, TICK, TRAILER};
+use super::fault::Fault;
 use super::model::Flight;
 use super::pilot::Pilot;
 use super::route::Route;
@@ -149,11 +150,16 @@ pub fn routes(face: &Face) -> Result<u64, String> {
                     put(lent.image.bytes_mut(), 15, 1 + short(3) as u32);
                     lent.cut(IMAGE - short(0), TICK - short(1), ANSWER - short(2));
                     let (mut expected, kept) = (lent.clone(), route.clone());
-                    let number =
-                        refusal::of_route_tick(lent.image.bytes(), lent.input.bytes().len(), route.bytes(), lent.answer.bytes().len());
+                    let number = refusal::of_any_tick(
+                        Fault::None,
+                        lent.image.bytes(),
+                        lent.input.bytes().len(),
+                        Some(route.bytes()),
+                        lent.answer.bytes().len(),
+                    );
                     if number == 0 {
                         let mut flight = Flight::from_image(lent.image.bytes());
-                        flight.toward = Some(Route::of(route.bytes()));
+                        flight.toward = Some(Route::of(Fault::None, route.bytes()));
                         flight.tick(lent.input.bytes(), expected.answer.bytes_mut());
                         flight.write(expected.image.bytes_mut());
                     }

@@ -1,16 +1,16 @@
 //! The joint tick, which is new, on its segment and on routes: the archive's calls beside the Rust's own calls made in the documents' order.
 //!
-//! `model` is what is expected, of Rust objects, `route` of a route; `refusal` the table of numbers; `pilot` what comes in, `guide` which
-//! routes; `runs` the comparison, every byte after every call; `demand` looks back over a run's margins and asks who has to fly; `parts` is
-//! a tick that can be made wrong.
+//! `model` is what is expected, of Rust objects, `route` of a route; `refusal` the table of numbers; `fault` what each of them can be made
+//! wrong by; `pilot` what comes in, `guide` which routes; `runs` the comparison, every byte after every call; `demand` looks back over a
+//! run's margins and asks who has to fly.
 
 pub mod bytes;
 pub mod demand;
+pub mod fault;
 pub mod guide;
 pub mod lengths;
 pub mod model;
 pub mod on_routes;
-pub mod parts;
 pub mod pilot;
 pub mod refusal;
 pub mod route;

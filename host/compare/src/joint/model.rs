@@ -1,11 +1,14 @@
 //! What is expected of set-up and tick: the Rust's own objects, made by its constructors, and its own calls in document 01's
-//! order. Between ticks the objects are kept; a damaged image makes them anew from its words.
+//! order. Between ticks the objects are kept; a damaged image makes them anew from its words. With a fault a tick is wrong in one place.
 
-use super::bytes::{Put, Take, WORDS};
+use super::bytes::{Put, Take, ANSWER, IMAGE, WORDS};
+use super::fault::Fault;
+use super::refusal;
 use super::route::Route;
 use oracle::adrc::{AdrcGains, AdrcRate, GyroLpf};
 use oracle::geo::{self, GeoAtt, GeoGains, Mat3, RecoverableSet, SimplexShield, Vec3};
 use oracle::traj::{RefGovernor, Sample3, Segment3};
+use std::cell::Cell;
 
 /// Everything that goes from tick to tick.
 pub struct Flight {
@@ -77,15 +80,33 @@ impl Flight {
     /// One tick, and the answer's words.
     #[inline]
     pub fn tick(&mut self, input: &[u8], answer: &mut [u8]) -> Way {
+        self.tick_with(|| Fault::None, input, answer)
+    }
+
+    /// The fault is asked of a function, so that a tick with none is compiled without them.
+    #[inline]
+    fn tick_with(&mut self, fault: impl Fn() -> Fault, input: &[u8], answer: &mut [u8]) -> Way {
+        let fault = fault();
         let mut i = Take::from(input, 0);
         let (gyro, q): (Vec3, [f32; 4]) = (i.floats(), i.floats());
         let [track_err, yaw, yaw_rate, dt] = i.floats();
         let (agile, fraction): (Vec3, Vec3) = (i.floats(), i.floats());
+        let dt = match fault {
+            Fault::StepOfAdrc if dt.is_finite() => dt.clamp(1e-4, 0.1),
+            Fault::StepOfAdrc => 1e-3,
+            Fault::StepOfGovernor if !(dt.is_finite() && dt > 0.0) => 0.0,
+            _ => dt,
+        };
 
-        self.rate.set_delivered_fraction(fraction);
+        match fault {
+            Fault::FractionNow => self.rate.set_delivered_fraction([1.0; 3]),
+            Fault::FractionLate => {}
+            _ => self.rate.set_delivered_fraction(fraction),
+        }
         let omega = self.lpf.filter(gyro);
+        let before = self.governor.time();
         let time = self.governor.advance(track_err, dt);
-        let sample = self.sample(time);
+        let (sample, at) = self.sample(fault, time);
         let (acc, jerk) = (geo::private::sanitise3(sample.acc), geo::private::sanitise3(sample.jerk));
         let r = geo::quat_to_rotmat(q);
         let r_d = attitude(acc, yaw);
@@ -94,30 +115,60 @@ impl Flight {
         let ahead = geo::flatness_omega_ff(acc, jerk, yaw, yaw_rate).filter(|_| r_d.is_some());
         let fallback = match ahead {
             Some(ff) => [wanted[0] + ff[0], wanted[1] + ff[1], wanted[2] + ff[2]],
+            None if fault == Fault::PlusZero => wanted.map(|x| x + 0.0),
             None => wanted,
         };
         let (psi, margin) = match r_d {
             Some(r_d) => {
                 let [k_r, lambda_j, psi_max, ..] = self.shield.words();
+                let k_r = if fault == Fault::OtherGain { self.controller.words()[0][0] } else { k_r };
+                let rate = if fault == Fault::RawRate { gyro } else { omega };
                 let psi = GeoAtt::psi(&r, &r_d);
-                (psi, RecoverableSet::new(k_r, lambda_j, psi_max).margin(psi, geo::private::dot(omega, omega)))
+                (psi, RecoverableSet::new(k_r, lambda_j, psi_max).margin(psi, geo::private::dot(rate, rate)))
             }
-            None => (f32::NAN, f32::NEG_INFINITY),
+            None => (if fault == Fault::PsiZero { 0.0 } else { f32::NAN }, f32::NEG_INFINITY),
         };
-        let (command, flag) = self.shield.step(margin, agile, fallback);
-        let torque = self.rate.tick(omega, command, dt);
+        let [.., enter, exit] = self.shield.words();
+        let told = match fault {
+            Fault::ReleasedInTheBand if margin > enter => f32::MAX,
+            Fault::ReleasedAtExit if margin == exit => f32::MAX,
+            Fault::EngagedAtEnter if margin == enter => f32::NAN,
+            _ => margin,
+        };
+        let (command, flag) = match (fault, self.shield.step(told, agile, fallback)) {
+            (Fault::NoCleaning, (_, flag)) => (if flag { fallback } else { agile }, flag),
+            (_, picked) => picked,
+        };
+        let mut torque = self.rate.tick(omega, command, dt);
+        match fault {
+            Fault::FractionLate => self.rate.set_delivered_fraction(fraction),
+            Fault::FractionNow => {
+                self.rate.set_delivered_fraction(fraction);
+                let mut axes = self.rate.words();
+                for (u, axis) in torque.iter_mut().zip(&mut axes) {
+                    *u *= axis[4];
+                    axis[2] = *u;
+                }
+                self.rate = AdrcRate::from_words(axes);
+            }
+            Fault::LocalKept => {
+                let [_, err_lo, err_hi, g_min] = self.governor.words();
+                self.governor = RefGovernor::from_words([at, err_lo, err_hi, g_min]);
+            }
+            _ => {}
+        }
 
         let mut o = Put::from(answer, 0);
         o.floats(torque);
         o.floats(command);
         o.word(u32::from(flag));
-        o.floats([time, psi, margin]);
+        o.floats([if fault == Fault::TimeBefore { before } else { time }, psi, margin]);
         Way { attitude: r_d.is_some(), feedforward: ahead.is_some(), at_the_end: time == f32::INFINITY, time }
     }
 
     /// The attitude that a tick with these inputs would want.
     pub fn attitude_ahead(&self, track_err: f32, yaw: f32, dt: f32) -> Option<Mat3> {
-        attitude(geo::private::sanitise3(self.sample(self.time_ahead(track_err, dt)).acc), yaw)
+        attitude(geo::private::sanitise3(self.sample(Fault::None, self.time_ahead(track_err, dt)).0.acc), yaw)
     }
 
     /// And its time.
@@ -125,12 +176,15 @@ impl Flight {
         self.governor.clone().advance(track_err, dt)
     }
 
-    /// Where the trajectory is at a governed time: the segment is at its duration once the time is infinite.
+    /// Where the trajectory is at a governed time, and the time on it: the segment is at its duration once the time is infinite.
     #[inline]
-    fn sample(&self, time: f32) -> Sample3 {
+    fn sample(&self, fault: Fault, time: f32) -> (Sample3, f32) {
         match &self.toward {
-            Some(route) => route.sample(time),
-            None => self.segment.eval(if time == f32::INFINITY { self.segment.duration() } else { time }),
+            Some(route) if fault != Fault::SegmentFlown => route.sample(fault, time),
+            _ => {
+                let at = if time == f32::INFINITY && fault != Fault::InfiniteAtZero { self.segment.duration() } else { time };
+                (self.segment.eval(at), at)
+            }
         }
     }
 }
@@ -139,4 +193,47 @@ impl Flight {
 #[inline]
 fn attitude(acc: Vec3, yaw: f32) -> Option<Mat3> {
     geo::thrust_axis_ned(acc).and_then(|b3| geo::desired_attitude(b3, yaw))
+}
+
+thread_local! {
+    /// What the echo says.
+    static FIRST: Cell<Option<[u8; ANSWER]>> = const { Cell::new(None) };
+}
+
+/// Set-up on bytes.
+pub fn setup(fault: Fault, image: &mut [u8], input: &[u8]) -> u32 {
+    let refused = refusal::of_setup(image.len(), input.len());
+    if refused != 0 || fault == Fault::RefusesAll {
+        return refused.max(1);
+    }
+    FIRST.set(None);
+    Flight::set_up(input).write(image);
+    0
+}
+
+/// A tick on bytes. One that a fault takes and that is to be refused gives 0 and does nothing, for the Rust may panic there.
+pub fn tick(fault: Fault, image: &mut [u8], input: &[u8], route: Option<&[u8]>, answer: &mut [u8]) -> u32 {
+    let refused = refusal::of_any_tick(fault, image, input.len(), route, answer.len());
+    if refused != 0 || refusal::of_any_tick(Fault::None, image, input.len(), route, answer.len()) != 0 {
+        return refused;
+    }
+    let mut old = [0; IMAGE];
+    old.copy_from_slice(image);
+    let mut flight = Flight::from_image(image);
+    flight.toward = route.map(|route| Route::of(fault, route));
+    flight.tick_with(|| fault, input, answer);
+    flight.write(image);
+    match fault {
+        Fault::KeptNan => [4..60, 68..164].into_iter().for_each(|kept| image[kept.clone()].copy_from_slice(&old[kept])),
+        Fault::Untouched => image.copy_from_slice(&old),
+        Fault::Constant => answer.fill(0),
+        Fault::Echo => {
+            if let Some(first) = FIRST.get() {
+                answer.copy_from_slice(&first);
+            }
+            FIRST.set(answer.try_into().ok());
+        }
+        _ => {}
+    }
+    0
 }

@@ -1,6 +1,7 @@
 //! What the ticks on routes of some runs came to.
 
 use super::bytes::{float, word, LEG, TRAILER};
+use super::fault::Fault;
 use super::refusal;
 use super::route::Route;
 use std::fmt;
@@ -36,7 +37,7 @@ impl OnRoutes {
 
     /// An accepted tick.
     pub fn take(&mut self, bytes: &[u8], route: &Route, time: f32) {
-        let place = route.place(time);
+        let place = route.place(Fault::None, time);
         let any = |is: &dyn Fn(&f32) -> bool| u64::from(route.ends.iter().any(is));
         let near = |is: &dyn Fn(&f32) -> bool| any(&|end| time.is_finite() && is(end));
         self.counts[route.ends.len() - 1] += 1;
@@ -60,7 +61,7 @@ impl OnRoutes {
     pub fn refuse(&mut self, number: u32, route: &[u8]) {
         self.refused[number as usize] += 1;
         if number == 7 {
-            refusal::apart(&route[..route.len() - TRAILER]).into_iter().for_each(|place| self.apart[place] += 1);
+            refusal::apart(Fault::None, &route[..route.len() - TRAILER]).into_iter().for_each(|place| self.apart[place] += 1);
         }
     }
 

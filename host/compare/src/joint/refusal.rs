@@ -1,7 +1,8 @@
 //! The documents' tables: which number a call gives. Of 1 to 4 the lowest wins; what is wrong with a route comes after them, in an order of
-//! its own.
+//! its own. With a fault, another number.
 
 use super::bytes::{float, word, ANSWER, IMAGE, LEG, SETUP, TICK, TRAILER, WORDS};
+use super::fault::Fault;
 
 pub fn of_setup(image: usize, input: usize) -> u32 {
     if image != IMAGE {
@@ -14,38 +15,56 @@ pub fn of_setup(image: usize, input: usize) -> u32 {
 }
 
 pub fn of_tick(image: &[u8], input: usize, answer: usize) -> u32 {
+    of_tick_with(Fault::None, image, input, answer)
+}
+
+fn of_tick_with(fault: Fault, image: &[u8], input: usize, answer: usize) -> u32 {
     if image.len() != IMAGE {
         1
     } else if input != TICK {
         2
     } else if answer != ANSWER {
         3
-    } else if broken(image) {
+    } else if broken(fault, image) {
         4
     } else {
         0
     }
 }
 
-pub fn of_route_tick(image: &[u8], input: usize, route: &[u8], answer: usize) -> u32 {
-    match of_tick(image, input, answer) {
-        0 => of_route(route),
-        number => number,
+/// Of a tick, on a route where one is given.
+pub fn of_any_tick(fault: Fault, image: &[u8], input: usize, route: Option<&[u8]>, answer: usize) -> u32 {
+    let of_tick = || of_tick_with(fault, image, input, answer);
+    let of_route = || route.map_or(0, |route| of_route(fault, route));
+    let first = |number: u32, then: &dyn Fn() -> u32| if number != 0 { number } else { then() };
+    match fault {
+        Fault::RefusesAll => 4,
+        Fault::RouteFirst => first(of_route(), &of_tick),
+        _ => first(of_tick(), &of_route),
     }
 }
 
 /// Document 02's own sentence: "6 a route below 8 bytes; 5 count 0 or above 8; 6 distance back not 76 times the count, or length not 8 more;
 /// 7 legs don't meet".
-pub fn of_route(route: &[u8]) -> u32 {
+fn of_route(fault: Fault, route: &[u8]) -> u32 {
     let Some((legs, trailer)) = route.len().checked_sub(TRAILER).map(|at| route.split_at(at)) else {
         return 6;
     };
-    let (count, back) = (word(trailer, 0), u64::from(word(trailer, 1)));
-    if !(1..=8).contains(&count) {
-        5
-    } else if back != 76 * u64::from(count) || route.len() as u64 != back + 8 {
+    let (count, back) = (word(trailer, 0) as usize, word(trailer, 1) as usize);
+    let most = if fault == Fault::NineLegs { 9 } else { 8 };
+    let length = LEG * count;
+    let form = match fault {
+        Fault::BackFromEnd => back == length + TRAILER && legs.len() == length,
+        Fault::AnyLength => back == length && legs.len() >= length,
+        _ => back == length && legs.len() == length,
+    };
+    if fault == Fault::FormFirst && !form {
         6
-    } else if apart(legs).is_some() {
+    } else if !(1..=most).contains(&count) {
+        5
+    } else if !form {
+        6
+    } else if apart(fault, &legs[..length]).is_some() {
         7
     } else {
         0
@@ -53,24 +72,32 @@ pub fn of_route(route: &[u8]) -> u32 {
 }
 
 /// The first of the nine places at which two legs that follow each other do not meet: p0, v0, a0 against pf, vf, af, as numbers.
-pub fn apart(legs: &[u8]) -> Option<usize> {
+pub fn apart(fault: Fault, legs: &[u8]) -> Option<usize> {
     let legs: Vec<&[u8]> = legs.chunks_exact(LEG).collect();
-    legs.windows(2).find_map(|two| (0..9).find(|place| !(float(two[1], *place) == float(two[0], 9 + place))))
+    let meet = |two: &[&[u8]], place: usize| match fault {
+        Fault::JoinBits => word(two[1], place) == word(two[0], 9 + place),
+        Fault::JoinNotFinite if !(float(two[1], place) - float(two[0], 9 + place)).is_finite() => true,
+        _ => float(two[1], place) == float(two[0], 9 + place),
+    };
+    let (joins, places) = (if fault == Fault::JoinFirst { 1 } else { legs.len() }, if fault == Fault::JoinPlace { 3 } else { 9 });
+    legs.windows(2).take(joins).find_map(|two| (0..places).find(|place| !meet(two, *place)))
 }
 
 /// Row 4, in its own order.
-fn broken(image: &[u8]) -> bool {
+fn broken(fault: Fault, image: &[u8]) -> bool {
     let (enter, exit, time) = (float(image, 13), float(image, 14), float(image, 16));
     let no_end = |at| {
         let t_end = float(image, at);
-        !t_end.is_finite() || t_end < 1e-3
+        !t_end.is_finite() || t_end < 1e-3 || (fault == Fault::ShortestEnd && t_end == 1e-3)
     };
+    let most = if fault == Fault::EngagedTwo { 2 } else { 1 };
+    let ends = if fault == Fault::FirstEndOnly { 1 } else { 3 };
     word(image, 0) != WORDS as u32
         || !enter.is_finite()
         || !(enter > 0.0)
         || !(exit > enter)
-        || !matches!(word(image, 15), 0 | 1)
+        || word(image, 15) > most
         || time.is_nan()
         || time < 0.0
-        || [26, 33, 40].into_iter().any(no_end)
+        || [26, 33, 40].into_iter().take(ends).any(no_end)
 }

@@ -1,6 +1,7 @@
-//! What is expected of a route: document 02's sentence, with the Rust's own segments and durations.
+//! What is expected of a route: document 02's sentence, with the Rust's own segments and durations; with a fault, something else.
 
-use super::bytes::{Take, LEG};
+use super::bytes::{float, Take, LEG};
+use super::fault::Fault;
 use oracle::traj::{Sample3, Segment3};
 
 /// A route that is not refused.
@@ -19,37 +20,48 @@ pub struct Place {
 }
 
 impl Route {
-    pub fn of(bytes: &[u8]) -> Self {
-        let legs: Vec<Segment3> = bytes
+    pub fn of(fault: Fault, bytes: &[u8]) -> Self {
+        let leg = |words: &[u8]| {
+            let mut i = Take::from(words, 0);
+            Segment3::new(i.floats(), i.floats(), i.floats(), i.floats(), i.floats(), i.floats(), i.float())
+        };
+        let (mut sum, mut wide) = (0.0, 0.0);
+        let (legs, ends) = bytes
             .chunks_exact(LEG)
-            .map(|leg| {
-                let mut i = Take::from(leg, 0);
-                Segment3::new(i.floats(), i.floats(), i.floats(), i.floats(), i.floats(), i.floats(), i.float())
+            .map(|words| {
+                let leg = leg(words);
+                let duration = if fault == Fault::RawDurations { float(words, 18) } else { leg.duration() };
+                sum += duration;
+                wide += f64::from(duration);
+                (leg, if fault == Fault::WideSum { wide as f32 } else { sum })
             })
-            .collect();
-        let mut sum = 0.0;
-        let ends = legs.iter().map(|leg| {
-            sum += leg.duration();
-            sum
-        });
-        Route { ends: ends.collect(), legs }
+            .unzip();
+        Route { legs, ends }
     }
 
     /// "The leg flown is the first whose end is above the governor time, at the time less the end before it; past all ends it is the last leg
     /// at its duration."
-    pub fn place(&self, time: f32) -> Place {
-        match self.ends.iter().position(|end| *end > time) {
-            Some(leg) => Place { leg, at: time - if leg == 0 { 0.0 } else { self.ends[leg - 1] }, past: false },
+    pub fn place(&self, fault: Fault, time: f32) -> Place {
+        let start = |leg: usize| if leg == 0 { 0.0 } else { self.ends[leg - 1] };
+        match self.ends.iter().position(|end| *end > time || (fault == Fault::EarlierAtEnd && *end == time)) {
+            Some(leg) if fault == Fault::WholeTime => Place { leg, at: time, past: false },
+            Some(leg) => Place { leg, at: time - start(leg), past: false },
             None => {
                 let leg = self.legs.len() - 1;
-                Place { leg, at: self.legs[leg].duration(), past: true }
+                let at = match fault {
+                    Fault::LastAtZero => 0.0,
+                    Fault::LastAtTime => time - start(leg),
+                    _ => self.legs[leg].duration(),
+                };
+                Place { leg, at, past: true }
             }
         }
     }
 
-    pub fn sample(&self, time: f32) -> Sample3 {
-        let place = self.place(time);
-        self.legs[place.leg].eval(place.at)
+    /// The sample there, and the time on the leg.
+    pub fn sample(&self, fault: Fault, time: f32) -> (Sample3, f32) {
+        let place = self.place(fault, time);
+        (self.legs[place.leg].eval(place.at), place.at)
     }
 }
 
@@ -61,11 +73,11 @@ mod tests {
     fn of(durations: &[f32]) -> Route {
         let mut bytes = vec![0; LEG * durations.len() + 8];
         durations.iter().enumerate().for_each(|(leg, t)| put(&mut bytes, 19 * leg + 18, t.to_bits()));
-        Route::of(&bytes)
+        Route::of(Fault::None, &bytes)
     }
 
     fn flown(durations: &[f32], time: f32) -> (usize, f32, bool) {
-        let place = of(durations).place(time);
+        let place = of(durations).place(Fault::None, time);
         (place.leg, place.at, place.past)
     }
 

@@ -3,6 +3,7 @@
 
 use super::bytes::{float, word, Lent, LentRoute, ANSWER, IMAGE, TICK, WORDS};
 use super::demand;
+use super::fault::Fault;
 use super::guide::Guide;
 use super::model::Flight;
 use super::on_routes::OnRoutes;
@@ -251,7 +252,7 @@ pub fn run(face: &Face, number: u64, watch: Watch, along: Along, seen: &mut Seen
     let (mut margins, mut last, mut tick) = (Vec::new(), 1, 0);
     while tick < pilot::length(number) {
         let steady = guide.as_mut().and_then(Guide::steady);
-        flight.toward = steady.as_deref().map(Route::of);
+        flight.toward = steady.as_deref().map(|route| Route::of(Fault::None, route));
         let mut input = pilot.next(&flight);
         if let Some(guide) = &mut guide {
             guide.hurry(&mut input);
@@ -264,15 +265,12 @@ pub fn run(face: &Face, number: u64, watch: Watch, along: Along, seen: &mut Seen
         let damaged = pilot.damage(hands.image.bytes_mut());
         let before = hands.clone();
         let mut expected = hands.clone();
-        let refused = match &hands.route {
-            Some(route) => refusal::of_route_tick(hands.image.bytes(), TICK, route.bytes(), ANSWER),
-            None => refusal::of_tick(hands.image.bytes(), TICK, ANSWER),
-        };
+        let refused = refusal::of_any_tick(Fault::None, hands.image.bytes(), TICK, hands.route.as_ref().map(Lent::bytes), ANSWER);
         if refused == 0 {
             if damaged.is_some() {
                 flight = Flight::from_image(hands.image.bytes());
             }
-            flight.toward = hands.route.as_ref().map(|route| Route::of(route.bytes()));
+            flight.toward = hands.route.as_ref().map(|route| Route::of(Fault::None, route.bytes()));
             let way = flight.tick(hands.input.bytes(), expected.answer.bytes_mut());
             flight.write(expected.image.bytes_mut());
             tick += 1;

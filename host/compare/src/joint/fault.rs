@@ -1,0 +1,78 @@
+//! What looks right and is wrong: the model with a fault is wrong in one place. The comparison has to catch every fault; one that cannot fail
+//! shows nothing.
+
+use super::{model, Face};
+
+macro_rules! faults {
+    ($($(#[$note:meta])* $list:ident { $($fault:ident = $name:literal;)* })*) => {
+        #[derive(Clone, Copy, PartialEq, Eq, Debug)]
+        pub enum Fault {
+            None,
+            $($($fault,)*)*
+        }
+
+        $($(#[$note])*
+        pub const $list: &[Face] = &[$(Face {
+            name: $name,
+            setup: |image, input| model::setup(Fault::$fault, image, input),
+            tick: |image, input, answer| model::tick(Fault::$fault, image, input, None, answer),
+            route_tick: |image, input, route, answer| model::tick(Fault::$fault, image, input, Some(route), answer),
+        }),*];)*
+    };
+}
+
+faults! {
+    /// One face for each fault.
+    WRONG {
+        ReleasedInTheBand = "released in the band";
+        ReleasedAtExit = "released at exit itself";
+        EngagedAtEnter = "engaged at enter itself";
+        PsiZero = "psi 0 where there is no R_d";
+        PlusZero = "+0.0 added where the feedforward refuses";
+        InfiniteAtZero = "an infinite time sampled at 0";
+        StepOfAdrc = "dt cleaned once for both, as ADRC does";
+        StepOfGovernor = "dt cleaned once for both, as the governor does";
+        FractionNow = "the fraction on this tick's command";
+        FractionLate = "the fractions set after the tick";
+        EngagedTwo = "engaged = 2 accepted";
+        FirstEndOnly = "only the first t_end looked at";
+        ShortestEnd = "a t_end of 1e-3 itself refused";
+        RawRate = "the margin of the gyro as it came";
+        OtherGain = "the margin with the controller's k_r";
+        NoCleaning = "a non-finite pick passed on";
+        KeptNan = "a kept NaN left as it is";
+        TimeBefore = "the time before the advance answered";
+        RefusesAll = "a sham that refuses every call";
+        Constant = "a sham with one answer";
+        Untouched = "a sham that leaves the image";
+        Echo = "a sham that echoes its first answer";
+    }
+    /// And for each fault of route ticks alone.
+    WRONG_ON_ROUTES {
+        EarlierAtEnd = "a time equal to an end flies the earlier leg";
+        RawDurations = "raw durations summed";
+        WideSum = "ends summed in f64";
+        WholeTime = "the time on the leg not reduced";
+        LastAtZero = "past all ends the last leg at 0";
+        LastAtTime = "past all ends the last leg at the time less its start";
+        LocalKept = "the time on the leg kept as the governor's";
+        SegmentFlown = "the image's segment flown";
+        FormFirst = "5 after 6";
+        RouteFirst = "the route before the image";
+        NineLegs = "nine legs taken";
+        BackFromEnd = "bytes back from the end of the route";
+        AnyLength = "a longer route taken";
+        JoinBits = "joins compared in bits";
+        JoinNotFinite = "what is not finite meets everything";
+        JoinPlace = "places alone compared at joins";
+        JoinFirst = "the first join alone compared";
+    }
+}
+
+/// With no fault.
+pub const RIGHT: Face = Face {
+    name: "the model on bytes",
+    setup: |image, input| model::setup(Fault::None, image, input),
+    tick: |image, input, answer| model::tick(Fault::None, image, input, None, answer),
+    route_tick: |image, input, route, answer| model::tick(Fault::None, image, input, Some(route), answer),
+};

@@ -4,10 +4,10 @@
 use super::stack;
 use compare::generate::Rng;
 use compare::joint::bytes::{put, ANSWER, IMAGE, SETUP, TICK};
-use compare::joint::guide::Guide;
+use compare::joint::guide::{Guide, MIXED};
 use compare::joint::model::Flight;
 use compare::joint::pilot::Pilot;
-use compare::joint::ARCHIVE;
+use compare::joint::route::Source;
 use compare::log::{model, RECORD, TRAILER};
 use std::hint::black_box;
 use std::time::Instant;
@@ -48,7 +48,7 @@ fn run(alter: impl Fn(&mut Rng, &mut Input)) -> Run {
     flight.write(&mut start);
     let inputs = (0..TICKS)
         .map(|_| {
-            let mut input = pilot.next(&flight);
+            let mut input = pilot.next(&flight, &Source::Segment);
             alter(&mut rng, &mut input);
             flight.tick(&input, &mut [0; ANSWER]);
             input
@@ -72,7 +72,7 @@ impl Side for Ours {
     }
 
     fn tick(&mut self, input: &Input, answer: &mut Answer) {
-        black_box((ARCHIVE.tick)(&mut self.0, input, answer));
+        black_box(faces::tick(&mut self.0, input, answer));
     }
 }
 
@@ -208,16 +208,15 @@ pub fn stacks(run: &Run) -> Option<[usize; CALLS.len()]> {
     }
     let measure = || {
         let [mut fresh, mut ours, mut routed, mut theirs] = [run.start; 4];
-        let (mut answer, mut guide) = ([0; ANSWER], Guide::new(63));
+        let (mut answer, route) = ([0; ANSWER], Guide::new(63, MIXED).steady());
         let (mut log, mut record) = ([0; TRAILER + RECORD], [0; RECORD]);
-        let route = std::iter::repeat_with(|| guide.steady()).flatten().next()?;
         run.inputs.iter().take(256).try_fold([0; CALLS.len()], |most, input| {
             let yaw = f32::from_le_bytes(input[32..36].try_into().ok()?);
             log[..TRAILER].copy_from_slice(&model::written(&[]));
             let here = [
-                of(|| (ARCHIVE.setup)(&mut fresh, &run.set_up))?,
-                of(|| (ARCHIVE.tick)(&mut ours, input, &mut answer))?,
-                of(|| (ARCHIVE.route_tick)(&mut routed, input, &route, &mut answer))?,
+                of(|| faces::setup(&mut fresh, &run.set_up))?,
+                of(|| faces::tick(&mut ours, input, &mut answer))?,
+                of(|| faces::route_tick(&mut routed, input, &route, &mut answer))?,
                 of(|| faces::tick_refusal(&ours, TICK, ANSWER))?,
                 of(|| faces::sinf(yaw))?,
                 of(|| faces::cosf(yaw))?,
@@ -249,9 +248,8 @@ mod tests {
 
     #[test]
     fn a_route_tick_that_is_measured_is_a_tick() {
-        let (run, mut guide, mut answer) = (pass(), Guide::new(63), [0; ANSWER]);
-        let route = std::iter::repeat_with(|| guide.steady()).flatten().next().unwrap();
+        let (run, route, mut answer) = (pass(), Guide::new(63, MIXED).steady(), [0; ANSWER]);
         assert_eq!(route.len(), 8 * 76 + 8);
-        assert_eq!((ARCHIVE.route_tick)(&mut run.start.clone(), &run.inputs[0], &route, &mut answer), 0);
+        assert_eq!(faces::route_tick(&mut run.start.clone(), &run.inputs[0], &route, &mut answer), 0);
     }
 }

@@ -1,6 +1,7 @@
 //! Comparisons of the proved routines with what they are to equal.
 
 pub mod answers;
+pub mod counts;
 pub mod exact;
 pub mod generate;
 pub mod joint;
@@ -10,6 +11,7 @@ pub mod progress;
 pub mod routine;
 pub mod runs;
 pub mod table;
+pub mod threads;
 pub mod words;
 
 /// Equal bits, all NaNs counted alike.

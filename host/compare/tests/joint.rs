@@ -3,16 +3,19 @@
 
 use compare::generate::Rng;
 use compare::joint::bytes::{float, put, word, ANSWER, IMAGE, SETUP, TICK};
-use compare::joint::model::Flight;
+use compare::joint::fault::{Fault, WRONG};
+use compare::joint::guide::PLAIN;
+use compare::joint::lent::Lending;
+use compare::joint::model::{self, Flight};
 use compare::joint::pilot::Pilot;
-use compare::joint::runs::{self, Along, Seen, Watch};
-use compare::joint::{fault, lengths, refusal, Face, ARCHIVE};
+use compare::joint::runs::{self, caught, Seen, Watch};
+use compare::joint::{archive, lengths, refusal, Call};
 use std::time::Instant;
 
 #[test]
 fn every_tick_is_the_rust_s_and_the_look_back_s() {
     let (start, ticks) = (Instant::now(), runs::ticks());
-    let (seen, parted) = runs::compare(&ARCHIVE, ticks, Watch::All, Along::Segment, |_| {});
+    let (seen, parted) = runs::compare(&archive, ticks, Watch::All, PLAIN, |_| {});
     println!("{seen}\n{:.1} s", start.elapsed().as_secs_f32());
     if let Some(parted) = parted {
         panic!("{parted}");
@@ -42,51 +45,37 @@ fn covered(seen: &Seen) {
 
 #[test]
 fn what_looks_right_but_is_wrong_is_caught() {
-    let missed: Vec<&str> = fault::WRONG.iter().filter(|face| !caught(face, Watch::All)).map(|face| face.name).collect();
+    let missed: Vec<_> = WRONG.iter().filter(|fault| !caught(**fault, runs::GATE, Watch::All, PLAIN)).collect();
     assert!(missed.is_empty(), "not caught within {} ticks: {missed:?}", runs::GATE);
 }
 
 /// The look-back knows nothing of the model, and catches what the third demand is about.
 #[test]
 fn looking_back_alone_catches_what_is_about_the_flag_and_the_command() {
-    for name in [
-        "released in the band",
-        "released at exit itself",
-        "engaged at enter itself",
-        "a non-finite pick passed on",
-        "a sham with one answer",
-        "a sham that leaves the image",
-        "a sham that echoes its first answer",
+    for fault in [
+        Fault::ReleasedInTheBand,
+        Fault::ReleasedAtExit,
+        Fault::EngagedAtEnter,
+        Fault::NoCleaning,
+        Fault::Constant,
+        Fault::Untouched,
+        Fault::Echo,
     ] {
-        let face = fault::WRONG.iter().find(|face| face.name == name).expect("a name of the list");
-        assert!(caught(face, Watch::LookBack), "{name}");
+        assert!(caught(fault, runs::GATE, Watch::LookBack, PLAIN), "{}", fault.name());
     }
-}
-
-fn caught(face: &Face, watch: Watch) -> bool {
-    let (seen, parted) = runs::compare(face, runs::GATE, watch, Along::Segment, |_| {});
-    if let Some(parted) = &parted {
-        println!("{}: caught in run {}, tick {} ({})", face.name, parted.run, parted.tick, parted.what);
-    } else {
-        println!("{}: NOT caught in {} ticks", face.name, seen.accepted());
-    }
-    parted.is_some()
 }
 
 /// What the wrong ones are made from is right.
 #[test]
 fn with_no_fault_nothing_differs() {
-    let (_, parted) = runs::compare(&fault::RIGHT, runs::GATE / 10, Watch::All, Along::Segment, |_| {});
-    if let Some(parted) = parted {
-        panic!("{parted}");
-    }
+    assert!(!caught(Fault::None, runs::GATE / 10, Watch::All, PLAIN));
 }
 
 #[test]
 fn every_length_of_every_buffer() {
     let start = Instant::now();
-    let setups = lengths::setups(&ARCHIVE).unwrap_or_else(|text| panic!("{text}"));
-    let ticks = lengths::ticks(&ARCHIVE).unwrap_or_else(|text| panic!("{text}"));
+    let setups = lengths::setups(&archive).unwrap_or_else(|text| panic!("{text}"));
+    let ticks = lengths::ticks(&archive).unwrap_or_else(|text| panic!("{text}"));
     assert_eq!((setups, ticks), (401 * 401, 2 * 401 * 401 * 401));
     println!("{setups} set-ups and {ticks} ticks, {:.1} s", start.elapsed().as_secs_f32());
 }
@@ -94,21 +83,17 @@ fn every_length_of_every_buffer() {
 /// And the sweep can fail.
 #[test]
 fn a_wrong_length_taken_or_a_byte_changed_is_caught() {
-    let longer = Face { tick: |image, input, answer| (fault::RIGHT.tick)(image, &input[..input.len().min(TICK)], answer), ..fault::RIGHT };
-    let writes = Face {
-        setup: |image, input| {
-            if let Some(byte) = image.first_mut() {
-                *byte ^= 1;
-            }
-            (fault::RIGHT.setup)(image, input)
-        },
-        tick: |image, input, answer| {
-            if let (Some(byte), 4) = (answer.last_mut(), input.len() % 64) {
-                *byte ^= 1;
-            }
-            (fault::RIGHT.tick)(image, input, answer)
-        },
-        ..fault::RIGHT
+    let longer = |call, lent: &mut Lending<'_>| {
+        lent.input = &lent.input[..lent.input.len().min(TICK)];
+        model::call(Fault::None, call, lent)
+    };
+    let writes = |call, lent: &mut Lending<'_>| {
+        let byte = match call {
+            Call::SetUp => lent.image.first_mut(),
+            _ => lent.answer.last_mut().filter(|_| lent.input.len() % 64 == 4),
+        };
+        byte.into_iter().for_each(|byte| *byte ^= 1);
+        model::call(Fault::None, call, lent)
     };
     assert!(lengths::ticks(&longer).is_err() && lengths::ticks(&writes).is_err() && lengths::setups(&writes).is_err());
 }
@@ -168,13 +153,13 @@ fn still() -> [u8; TICK] {
 
 fn image_of(input: &[u8; SETUP]) -> [u8; IMAGE] {
     let mut image = [0xee; IMAGE];
-    assert_eq!((ARCHIVE.setup)(&mut image, input), 0);
+    assert_eq!(faces::setup(&mut image, input), 0);
     image
 }
 
 fn tick(image: &mut [u8; IMAGE], input: &[u8; TICK]) -> [u8; ANSWER] {
     let mut answer = [0xee; ANSWER];
-    assert_eq!((ARCHIVE.tick)(image, input, &mut answer), 0);
+    assert_eq!(faces::tick(image, input, &mut answer), 0);
     answer
 }
 
@@ -273,7 +258,7 @@ fn row_4_by_hand() {
     let good = image_of(&set_up());
     let number = |at: usize, word: u32| {
         let (mut image, mut answer) = (with(good, &[(at, word)]), [0xee; ANSWER]);
-        let (before, number) = (image, (ARCHIVE.tick)(&mut image, &still(), &mut answer));
+        let (before, number) = (image, faces::tick(&mut image, &still(), &mut answer));
         assert!(number == 0 || (image == before && answer == [0xee; ANSWER]));
         number
     };
@@ -305,7 +290,7 @@ fn row_4_by_hand() {
         taken.iter().for_each(|word| assert_eq!(number(at, *word), 0, "word {at} = {word:08x}"));
     }
     // the blank image of `shieldtable`
-    assert_eq!((ARCHIVE.tick)(&mut [0; IMAGE], &still(), &mut [0; ANSWER]), 4);
+    assert_eq!(faces::tick(&mut [0; IMAGE], &still(), &mut [0; ANSWER]), 4);
 }
 
 /// A kept word that is a NaN of another pattern comes back as 7fc00000; at a refused call it stays.
@@ -314,7 +299,7 @@ fn kept_words_have_one_nan() {
     let mut image = with(image_of(&set_up()), &[(4, 0xffc0_0001), (17, 0x7f80_0001)]);
     let refused = with(image, &[(0, 94)]);
     let mut same = refused;
-    assert_eq!((ARCHIVE.tick)(&mut same, &still(), &mut [0; ANSWER]), 4);
+    assert_eq!(faces::tick(&mut same, &still(), &mut [0; ANSWER]), 4);
     assert_eq!(same, refused);
     tick(&mut image, &still());
     assert_eq!((word(&image, 4), word(&image, 17)), (NAN, NAN));

@@ -2,20 +2,22 @@
 //! third demand by looking back.
 
 use compare::joint::bytes::{float, put, raw, word, ANSWER, IMAGE, LEG, SETUP, TICK};
-use compare::joint::runs::{self, Along, Watch};
-use compare::joint::{fault, lengths, Face, ARCHIVE};
+use compare::joint::fault::{Fault, WRONG_ON_ROUTES};
+use compare::joint::guide::MIXED;
+use compare::joint::runs::{self, caught, Watch, GATE_ON_ROUTES};
+use compare::joint::{archive, lengths, model};
 use std::time::Instant;
 
 #[test]
 fn every_tick_on_a_route_is_the_rust_s_and_the_look_back_s() {
     let start = Instant::now();
-    let (seen, parted) = runs::compare(&ARCHIVE, runs::GATE_ON_ROUTES, Watch::All, Along::Routes, |_| {});
+    let (seen, parted) = runs::compare(&archive, GATE_ON_ROUTES, Watch::All, MIXED, |_| {});
     let routes = &seen.routes;
     println!("{seen}\n{:.1} s", start.elapsed().as_secs_f32());
     if let Some(parted) = parted {
         panic!("{parted}");
     }
-    assert!(routes.accepted() >= 1_000_000 && seen.looked_back >= runs::GATE_ON_ROUTES / 2);
+    assert!(routes.accepted() >= 1_000_000 && seen.looked_back >= GATE_ON_ROUTES / 2);
     // a run that never goes where the errors are shows nothing
     for (what, counts) in [
         ("counts", &routes.counts[..]),
@@ -35,47 +37,31 @@ fn every_tick_on_a_route_is_the_rust_s_and_the_look_back_s() {
 
 #[test]
 fn what_looks_right_but_is_wrong_is_caught() {
-    let missed: Vec<&str> = fault::WRONG_ON_ROUTES.iter().filter(|face| !caught(face, Watch::All)).map(|face| face.name).collect();
-    assert!(missed.is_empty(), "not caught within {} ticks: {missed:?}", runs::GATE_ON_ROUTES);
+    let missed: Vec<_> = WRONG_ON_ROUTES.iter().filter(|fault| !caught(**fault, GATE_ON_ROUTES, Watch::All, MIXED)).collect();
+    assert!(missed.is_empty(), "not caught within {GATE_ON_ROUTES} ticks: {missed:?}");
 }
 
 /// The look-back knows nothing of the model nor of routes, and catches what the third demand is about.
 #[test]
 fn looking_back_alone_catches_what_is_about_the_flag() {
-    for name in ["released in the band", "a sham with one answer", "a sham that leaves the image"] {
-        let face = fault::WRONG.iter().find(|face| face.name == name).expect("a name of the list");
-        assert!(caught(face, Watch::LookBack), "{name}");
+    for fault in [Fault::ReleasedInTheBand, Fault::Constant, Fault::Untouched] {
+        assert!(caught(fault, GATE_ON_ROUTES, Watch::LookBack, MIXED), "{}", fault.name());
     }
-}
-
-fn caught(face: &Face, watch: Watch) -> bool {
-    let (_, parted) = runs::compare(face, runs::GATE_ON_ROUTES, watch, Along::Routes, |_| {});
-    if let Some(parted) = &parted {
-        println!(
-            "{}: caught in run {}, tick {} (returns {}, expected {})",
-            face.name, parted.run, parted.tick, parted.found.0, parted.expected.0
-        );
-    }
-    parted.is_some()
 }
 
 /// What the wrong ones are made from is right.
 #[test]
 fn with_no_fault_nothing_differs() {
-    let (_, parted) = runs::compare(&fault::RIGHT, runs::GATE_ON_ROUTES / 10, Watch::All, Along::Routes, |_| {});
-    if let Some(parted) = parted {
-        panic!("{parted}");
-    }
+    assert!(!caught(Fault::None, GATE_ON_ROUTES / 10, Watch::All, MIXED));
 }
 
 #[test]
 fn every_length_of_a_route() {
-    let calls = lengths::routes(&ARCHIVE).unwrap_or_else(|text| panic!("{text}"));
+    let calls = lengths::routes(&archive).unwrap_or_else(|text| panic!("{text}"));
     println!("{calls} calls");
     assert_eq!(calls, lengths::route_calls());
     // and the sweep can fail
-    let longer = fault::WRONG_ON_ROUTES.iter().find(|face| face.name == "a longer route taken").expect("a name of the list");
-    assert!(lengths::routes(longer).is_err());
+    assert!(lengths::routes(&|call, lent| model::call(Fault::AnyLength, call, lent)).is_err());
 }
 
 // Some lines of document 02 by hand, through the archive; the model has no part in them.
@@ -116,11 +102,11 @@ fn step(time: f32) -> [u8; TICK] {
 /// A fresh image's first tick, on a route where one is given: command, flag, psi and margin; and the time.
 fn first(segment: &[f32; WORDS], route: Option<&[u8]>, time: f32) -> ([u32; 6], f32) {
     let (mut image, mut answer) = ([0; IMAGE], [0; ANSWER]);
-    assert_eq!((ARCHIVE.setup)(&mut image, &set_up(segment)), 0);
+    assert_eq!(faces::setup(&mut image, &set_up(segment)), 0);
     let segment = image[4 * 20..4 * 41].to_vec();
     let number = match route {
-        Some(route) => (ARCHIVE.route_tick)(&mut image, &step(time), route, &mut answer),
-        None => (ARCHIVE.tick)(&mut image, &step(time), &mut answer),
+        Some(route) => faces::route_tick(&mut image, &step(time), route, &mut answer),
+        None => faces::tick(&mut image, &step(time), &mut answer),
     };
     assert_eq!((number, &image[4 * 20..4 * 41]), (0, &segment[..]));
     ([3, 4, 5, 6, 8, 9].map(|at| word(&answer, at)), float(&answer, 7))
@@ -166,10 +152,10 @@ fn the_leg_flown_by_hand() {
 #[test]
 fn refusals_by_hand() {
     let mut image = [0; IMAGE];
-    assert_eq!((ARCHIVE.setup)(&mut image, &set_up(&legs(&[1.0])[0])), 0);
+    assert_eq!(faces::setup(&mut image, &set_up(&legs(&[1.0])[0])), 0);
     let number = |image: &[u8], input: usize, route: &[u8], answer: usize| {
         let (mut lent, mut out) = (image.to_vec(), vec![0xee; answer]);
-        let number = (ARCHIVE.route_tick)(&mut lent, &step(1.0)[..input], route, &mut out);
+        let number = faces::route_tick(&mut lent, &step(1.0)[..input], route, &mut out);
         assert!(number == 0 || (lent == image && out == vec![0xee; answer]));
         number
     };
@@ -202,8 +188,8 @@ fn joins_by_hand() {
     let fresh = set_up(&legs(&[1.0])[0]);
     let of = |legs: &[[f32; WORDS]]| {
         let (mut image, mut answer) = ([0; IMAGE], [0; ANSWER]);
-        (ARCHIVE.setup)(&mut image, &fresh);
-        (ARCHIVE.route_tick)(&mut image, &step(1.0), &bytes(legs), &mut answer)
+        faces::setup(&mut image, &fresh);
+        faces::route_tick(&mut image, &step(1.0), &bytes(legs), &mut answer)
     };
     let (nan, infinity) = (f32::NAN, f32::INFINITY);
     for join in 0..2 {

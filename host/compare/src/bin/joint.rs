@@ -1,7 +1,8 @@
 //! The joint tick against the Rust's calls, for longer than the gate does: `joint [accepted ticks]`; then half as many mixed with routes.
 
-use compare::joint::runs::{self, Along, Watch};
-use compare::joint::ARCHIVE;
+use compare::joint::archive;
+use compare::joint::guide::{MIXED, PLAIN};
+use compare::joint::runs::{self, Watch};
 use compare::progress::Progress;
 use std::time::Instant;
 
@@ -14,9 +15,9 @@ fn main() {
             std::process::exit(2);
         }
     };
-    for (name, along, ticks) in [("joint ticks", Along::Segment, ticks), ("mixed with ticks on routes", Along::Routes, ticks.div_ceil(2))] {
+    for (name, calls, ticks) in [("joint ticks", PLAIN, ticks), ("mixed with ticks on routes", MIXED, ticks.div_ceil(2))] {
         let (start, progress) = (Instant::now(), Progress::new(name, ticks));
-        let (seen, parted) = runs::compare(&ARCHIVE, ticks, Watch::All, along, |n| progress.add(n));
+        let (seen, parted) = runs::compare(&archive, ticks, Watch::All, calls, |n| progress.add(n));
         println!("{name}: {seen}");
         println!("{:.1} s", start.elapsed().as_secs_f64());
         match parted {

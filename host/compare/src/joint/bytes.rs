@@ -1,4 +1,4 @@
-//! Document 01's words: little-endian u32, floats as their bits, a NaN written as 7fc00000. And buffers with guards.
+//! Document 01's words: little-endian u32, floats as their bits, a NaN written as 7fc00000.
 
 pub const IMAGE: usize = 380;
 pub const SETUP: usize = 200;
@@ -115,57 +115,4 @@ pub fn raw<const N: usize>(floats: &[f32]) -> [u8; N] {
     let mut bytes = [0; N];
     floats.iter().enumerate().for_each(|(at, x)| put(&mut bytes, at, x.to_bits()));
     bytes
-}
-
-/// The longest that a test lends, and of a route.
-pub const LONGEST: usize = 400;
-pub const LONGEST_ROUTE: usize = 700;
-const GUARD: usize = 32;
-
-/// Bytes to lend, between guards, so many with these; what a call may not touch is compared with the rest.
-#[derive(Clone, PartialEq, Eq)]
-pub struct Lent<const ALL: usize = { GUARD + LONGEST + GUARD }> {
-    all: [u8; ALL],
-    len: usize,
-}
-
-/// A route to lend.
-pub type LentRoute = Lent<{ GUARD + LONGEST_ROUTE + GUARD }>;
-
-impl<const ALL: usize> Lent<ALL> {
-    /// At most the longest length.
-    pub fn new(len: usize) -> Self {
-        let mut all = [0; ALL];
-        all.iter_mut().enumerate().for_each(|(at, byte)| *byte = 0xa5 ^ at as u8);
-        let mut lent = Lent { all, len: 0 };
-        lent.cut(len);
-        lent
-    }
-
-    pub fn holding(bytes: &[u8]) -> Self {
-        let mut lent = Lent::new(bytes.len());
-        lent.set(bytes);
-        lent
-    }
-
-    /// With another length, nothing else changed: a longer one reaches into the guard.
-    pub fn cut(&mut self, len: usize) {
-        self.len = len.min(ALL - 2 * GUARD);
-    }
-
-    #[inline]
-    pub fn bytes(&self) -> &[u8] {
-        &self.all[GUARD..GUARD + self.len]
-    }
-
-    #[inline]
-    pub fn bytes_mut(&mut self) -> &mut [u8] {
-        &mut self.all[GUARD..GUARD + self.len]
-    }
-
-    /// As many bytes as both have.
-    #[inline]
-    pub fn set(&mut self, bytes: &[u8]) {
-        self.bytes_mut().iter_mut().zip(bytes).for_each(|(own, byte)| *own = *byte);
-    }
 }

@@ -1,13 +1,9 @@
 //! The third demand, by looking back over the margins of a run. Nothing is remembered from tick to tick.
 
 /// Whether the planner's command has to be passed on at the last of these ticks: some tick had a finite margin above exit, and
-/// none after it one that was non-finite or below enter. The latest tick above exit is the one to ask, for it has the fewest
-/// after it.
+/// none after it one that was non-finite or below enter. So it is among the last ticks of which none is such.
 pub fn planner_flies(margins: &[f32], enter: f32, exit: f32) -> bool {
-    match margins.iter().rposition(|m| m.is_finite() && *m > exit) {
-        Some(i) => margins[i + 1..].iter().all(|m| m.is_finite() && !(*m < enter)),
-        None => false,
-    }
+    margins.iter().rev().take_while(|m| m.is_finite() && !(**m < enter)).any(|m| *m > exit)
 }
 
 /// What is passed on: the planner's words as they are, non-finite ones made +0.0.

@@ -1,8 +1,6 @@
 //! What looks right and is wrong: the model with a fault is wrong in one place. The comparison has to catch every fault; one that cannot fail
 //! shows nothing.
 
-use super::{model, Face};
-
 macro_rules! faults {
     ($($(#[$note:meta])* $list:ident { $($fault:ident = $name:literal;)* })*) => {
         #[derive(Clone, Copy, PartialEq, Eq, Debug)]
@@ -11,18 +9,22 @@ macro_rules! faults {
             $($($fault,)*)*
         }
 
+        impl Fault {
+            pub fn name(self) -> &'static str {
+                match self {
+                    Fault::None => "no fault",
+                    $($(Fault::$fault => $name,)*)*
+                }
+            }
+        }
+
         $($(#[$note])*
-        pub const $list: &[Face] = &[$(Face {
-            name: $name,
-            setup: |image, input| model::setup(Fault::$fault, image, input),
-            tick: |image, input, answer| model::tick(Fault::$fault, image, input, None, answer),
-            route_tick: |image, input, route, answer| model::tick(Fault::$fault, image, input, Some(route), answer),
-        }),*];)*
+        pub const $list: &[Fault] = &[$(Fault::$fault),*];)*
     };
 }
 
 faults! {
-    /// One face for each fault.
+    /// Those that every tick shows.
     WRONG {
         ReleasedInTheBand = "released in the band";
         ReleasedAtExit = "released at exit itself";
@@ -47,7 +49,7 @@ faults! {
         Untouched = "a sham that leaves the image";
         Echo = "a sham that echoes its first answer";
     }
-    /// And for each fault of route ticks alone.
+    /// And those of route ticks alone.
     WRONG_ON_ROUTES {
         EarlierAtEnd = "a time equal to an end flies the earlier leg";
         RawDurations = "raw durations summed";
@@ -68,11 +70,3 @@ faults! {
         JoinFirst = "the first join alone compared";
     }
 }
-
-/// With no fault.
-pub const RIGHT: Face = Face {
-    name: "the model on bytes",
-    setup: |image, input| model::setup(Fault::None, image, input),
-    tick: |image, input, answer| model::tick(Fault::None, image, input, None, answer),
-    route_tick: |image, input, route, answer| model::tick(Fault::None, image, input, Some(route), answer),
-};

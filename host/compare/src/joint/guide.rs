@@ -1,41 +1,66 @@
-//! Which routes come in: flown through as the clock goes, aimed at the coming time, with odd joins, broken ones and spoilt trailers. All of it
-//! depends on the run's number alone.
+//! Which calls come after a set-up, and which routes: flown through as the clock goes, aimed at the coming time, with odd joins, broken ones
+//! and spoilt trailers. All of it depends on the run's number alone.
 
 use super::bytes::{put, LEG, TICK, TRAILER};
-use super::pilot;
+use super::fault::Fault;
+use super::route::Source;
+use super::{pilot, Call};
 use crate::generate::Rng;
 
 const WORDS: usize = LEG / 4;
 /// Where a leg has its end.
 const END: usize = 9;
 
+/// The calls of a run: ticks alone, and mixed with route ticks.
+pub const PLAIN: &[Call] = &[Call::Tick];
+pub const MIXED: &[Call] = &[Call::Tick, Call::RouteTick];
+
 pub struct Guide {
     rng: Rng,
     /// Whether the clock jumps far out, to where durations are lost in it.
     far: bool,
     jumped: bool,
-    on_route: bool,
-    /// The route of the run.
-    steady: Vec<f32>,
+    calls: &'static [Call],
+    /// Which of them it is now.
+    now: usize,
+    /// The route of the run, its legs and as it is flown.
+    legs: Vec<f32>,
+    steady: Source,
 }
 
 impl Guide {
-    pub fn new(number: u64) -> Self {
+    pub fn new(number: u64, calls: &'static [Call]) -> Self {
         let mut rng = Rng::new("routes", number);
         let count = 1 + (number / 8 % 8) as usize;
         // so long that most of it is flown in the run
         let total = 0.0025 * pilot::length(number) as f32 * rng.range(0.2, 1.2);
         let durations: Vec<f32> = (0..count).map(|_| total * rng.range(0.3, 1.7) / count as f32).collect();
-        let steady = legs(&mut rng, &durations);
-        Guide { far: rng.below(4) == 0, jumped: false, on_route: true, steady, rng }
+        let legs = legs(&mut rng, &durations);
+        let steady = Source::of(Fault::None, Call::RouteTick, &bytes(&legs));
+        let far = calls.contains(&Call::RouteTick) && rng.below(4) == 0;
+        Guide { rng, far, jumped: false, calls, now: calls.len() - 1, legs, steady }
     }
 
-    /// Whether the next tick is on a route; and its route but for what is done to it.
-    pub fn steady(&mut self) -> Option<Vec<u8>> {
-        if self.rng.below(if self.on_route { 40 } else { 10 }) == 0 {
-            self.on_route = !self.on_route;
+    /// The next call: stretches of each kind, one after another.
+    pub fn call(&mut self) -> Call {
+        let stretch = if self.calls[self.now] == Call::RouteTick { 40 } else { 10 };
+        if self.calls.len() > 1 && self.rng.below(stretch) == 0 {
+            self.now = (self.now + 1) % self.calls.len();
         }
-        self.on_route.then(|| bytes(&self.steady))
+        self.calls[self.now]
+    }
+
+    /// What it follows, but for what is done to a route.
+    pub fn source(&self, call: Call) -> &Source {
+        match call {
+            Call::RouteTick => &self.steady,
+            Call::SetUp | Call::Tick => &Source::Segment,
+        }
+    }
+
+    /// The route of the run, with nothing done to it.
+    pub fn steady(&self) -> Vec<u8> {
+        bytes(&self.legs)
     }
 
     /// Now and then a long step, on track.
@@ -48,9 +73,12 @@ impl Guide {
         }
     }
 
-    /// The route of a tick that brings the clock to this time.
-    pub fn route(&mut self, time: f32) -> Vec<u8> {
-        let mut words = if self.far || self.rng.below(4) == 0 { self.aimed(time) } else { self.steady.clone() };
+    /// What is lent as the route of a call that brings the clock to this time.
+    pub fn route(&mut self, call: Call, time: f32) -> Vec<u8> {
+        if call != Call::RouteTick {
+            return Vec::new();
+        }
+        let mut words = if self.far || self.rng.below(4) == 0 { self.aimed(time) } else { self.legs.clone() };
         match self.rng.below(12) {
             0 => self.odd(&mut words),
             1 | 2 => self.apart(&mut words),

@@ -1,118 +1,79 @@
 //! Every length from 0 to 400 of each buffer, all together, between guards: the number, and not a byte changed. And of a route from 0 to 700.
 
-use super::bytes::{put, Lent, LentRoute, ANSWER, IMAGE, LEG, LONGEST, LONGEST_ROUTE, TICK, TRAILER};
+use super::bytes::{put, ANSWER, IMAGE, LEG, TICK, TRAILER};
 use super::fault::Fault;
-use super::model::Flight;
+use super::lent::{Hands, Lent, Short, LONGEST};
+use super::model::{self, Flight};
 use super::pilot::Pilot;
-use super::route::Route;
-use super::{refusal, Face};
-use std::sync::atomic::{AtomicUsize, Ordering};
+use super::route::Source;
+use super::{Call, Face};
+use crate::threads;
+use std::sync::{Mutex, PoisonError};
 
-/// A buffer of the longest length that begins with these bytes.
-fn beginning(with: &[u8]) -> Lent {
-    let mut lent = Lent::new(LONGEST);
-    lent.set(with);
-    lent
+/// And of a route.
+const LONGEST_ROUTE: usize = 700;
+
+/// Buffers of the longest length that begin with these bytes, and no route.
+fn beginning(image: &[u8], input: &[u8]) -> Hands {
+    let lent = |with: &[u8]| Short::holding(&[with, &vec![0x3c; LONGEST - with.len()]].concat());
+    Hands { image: lent(image), input: lent(input), route: Lent::of(&[]), answer: lent(&[]) }
+}
+
+/// Those of a tick.
+fn of_a_tick() -> Hands {
+    let (mut pilot, mut image) = (Pilot::on_a_pass(0), [0; IMAGE]);
+    let flight = Flight::set_up(&pilot.set_up());
+    flight.write(&mut image);
+    beginning(&image, &pilot.next(&flight, &Source::Segment))
+}
+
+/// A call beside the model's, on the same bytes: the same number, the same bytes, and none beside them. Whether it was accepted.
+fn alike(face: Face, call: Call, lent: &mut Hands, expected: &mut Hands) -> Result<bool, String> {
+    let (number, returned) = (model::call(Fault::None, call, &mut expected.lend()), face(call, &mut lent.lend()));
+    if returned != number || lent != expected {
+        let lengths = lent.each().map(|(name, bytes, _)| format!("{name} {}", bytes.len()));
+        return Err(format!("{call:?} with lengths {lengths:?} returns {returned}, expected {number}, or changes what it should not"));
+    }
+    Ok(number == 0)
+}
+
+/// The calls with an image of this length, at every length of the input and, where there is one, of the answer; how many.
+fn with_image(face: Face, call: Call, image: usize, before: &Hands) -> Result<u64, String> {
+    let answers = if call == Call::SetUp { 0 } else { LONGEST };
+    let (mut calls, mut lent, mut expected) = (0, before.clone(), before.clone());
+    for input in 0..=LONGEST {
+        for answer in 0..=answers {
+            for hands in [&mut lent, &mut expected] {
+                (hands.image.len, hands.input.len, hands.answer.len) = (image, input, answer);
+            }
+            if alike(face, call, &mut lent, &mut expected)? {
+                (lent, expected) = (before.clone(), before.clone());
+            }
+            calls += 1;
+        }
+    }
+    Ok(calls)
 }
 
 /// Set-up at every pair of lengths; how many calls.
-pub fn setups(face: &Face) -> Result<u64, String> {
-    let set_up = Pilot::on_a_pass(0).set_up();
-    let (mut image, mut input) = (beginning(&[]), beginning(&set_up));
-    let mut calls = 0;
-    for i in 0..=LONGEST {
-        for n in 0..=LONGEST {
-            image.cut(i);
-            input.cut(n);
-            let (old, mut expected, expected_input) = (image.clone(), image.clone(), input.clone());
-            let number = refusal::of_setup(i, n);
-            if number == 0 {
-                Flight::set_up(&set_up).write(expected.bytes_mut());
-            }
-            let returned = (face.setup)(image.bytes_mut(), input.bytes());
-            if (returned, &image, &input) != (number, &expected, &expected_input) {
-                return Err(format!("set-up with lengths {i}, {n} returns {returned}, expected {number}, or changes what it should not"));
-            }
-            image = old;
-            calls += 1;
-        }
-    }
-    Ok(calls)
-}
-
-/// A tick's buffers, each of the longest length.
-#[derive(Clone, PartialEq, Eq)]
-struct Three {
-    image: Lent,
-    input: Lent,
-    answer: Lent,
-}
-
-impl Three {
-    fn cut(&mut self, image: usize, input: usize, answer: usize) {
-        self.image.cut(image);
-        self.input.cut(input);
-        self.answer.cut(answer);
-    }
+pub fn setups(face: Face) -> Result<u64, String> {
+    let before = beginning(&[], &Pilot::on_a_pass(0).set_up());
+    (0..=LONGEST).map(|image| with_image(face, Call::SetUp, image, &before)).sum()
 }
 
 /// A tick at every three lengths, on a good image and on a broken one; how many calls.
-pub fn ticks(face: &Face) -> Result<u64, String> {
-    let mut pilot = Pilot::on_a_pass(0);
-    let mut flight = Flight::set_up(&pilot.set_up());
-    let mut image = [0; IMAGE];
-    flight.write(&mut image);
-    let input = pilot.next(&flight);
-    let good = Three { image: beginning(&image), input: beginning(&input), answer: beginning(&[]) };
+pub fn ticks(face: Face) -> Result<u64, String> {
+    let good = of_a_tick();
     let mut broken = good.clone();
     put(broken.image.bytes_mut(), 15, 2);
-    let mut after = good.clone();
-    flight.tick(&input, after.answer.bytes_mut());
-    flight.write(after.image.bytes_mut());
-
-    let next = AtomicUsize::new(0);
-    let sweep = || {
-        let mut calls = 0;
-        loop {
-            let i = next.fetch_add(1, Ordering::Relaxed);
-            if i > LONGEST {
-                return Ok(calls);
-            }
-            calls += ticks_at(face, i, &good, &after)? + ticks_at(face, i, &broken, &after)?;
-        }
-    };
-    let threads = std::thread::available_parallelism().map_or(1, |n| n.get());
-    std::thread::scope(|scope| {
-        let all: Vec<_> = (0..threads).map(|_| scope.spawn(sweep)).collect();
-        all.into_iter().map(|one| one.join().unwrap_or_else(|_| Err("a thread panicked".into()))).sum()
-    })
-}
-
-/// The ticks with an image of this length.
-fn ticks_at(face: &Face, i: usize, before: &Three, after: &Three) -> Result<u64, String> {
-    let mut calls = 0;
-    let (mut lent, mut expected) = (before.clone(), before.clone());
-    for n in 0..=LONGEST {
-        for a in 0..=LONGEST {
-            lent.cut(i, n, a);
-            let number = refusal::of_tick(lent.image.bytes(), n, a);
-            let returned = (face.tick)(lent.image.bytes_mut(), lent.input.bytes(), lent.answer.bytes_mut());
-            calls += 1;
-            if number == 0 {
-                expected = after.clone();
-            }
-            expected.cut(i, n, a);
-            if returned != number || lent != expected {
-                return Err(format!(
-                    "a tick with lengths {i}, {n}, {a} returns {returned}, expected {number}, or changes what it should not"
-                ));
-            }
-            if number == 0 {
-                (lent, expected) = (before.clone(), before.clone());
-            }
-        }
-    }
-    Ok(calls)
+    let total = Mutex::new(Ok(0));
+    threads::each(LONGEST as u64 + 1, |image| {
+        let calls = [&good, &broken].map(|before| with_image(face, Call::Tick, image as usize, before)).into_iter().sum::<Result<u64, _>>();
+        let mut total = total.lock().unwrap_or_else(PoisonError::into_inner);
+        *total = total.clone().and_then(|sum| Ok(sum + calls?));
+        total.is_err()
+    });
+    total.into_inner().unwrap_or_else(PoisonError::into_inner)
 }
 
 /// The calls of `routes`: counts, lengths, trailers, and lengths of the others with a good image and a broken one.
@@ -122,19 +83,13 @@ pub fn route_calls() -> u64 {
 
 /// A route tick at every length of a route of 0 to 9 legs: cut there, and with its trailer moved there. With an image that is good or broken,
 /// and each of the others a byte short or not.
-pub fn routes(face: &Face) -> Result<u64, String> {
-    let mut pilot = Pilot::on_a_pass(0);
-    let mut calls = 0;
-    let flight = Flight::set_up(&pilot.set_up());
-    let mut image = [0; IMAGE];
-    flight.write(&mut image);
-    let good = Three { image: beginning(&image), input: beginning(&pilot.next(&flight)), answer: beginning(&[]) };
+pub fn routes(face: Face) -> Result<u64, String> {
+    let (good, mut calls) = (of_a_tick(), 0);
     for count in 0..10 {
-        let mut whole = LentRoute::new(LONGEST_ROUTE);
         let trailer =
             |bytes: &mut [u8], at: usize| [count, LEG * count].iter().enumerate().for_each(|(k, w)| put(&mut bytes[at..], k, *w as u32));
         // at rest, so that all legs meet; a duration each
-        whole.bytes_mut()[..LEG * count].fill(0);
+        let mut whole = Lent::with_room(&vec![0; LEG * count], LONGEST_ROUTE - LEG * count);
         (0..count).for_each(|leg| put(whole.bytes_mut(), 19 * leg + 18, 1.0f32.to_bits()));
         trailer(whole.bytes_mut(), LEG * count);
         for len in 0..=LONGEST_ROUTE {
@@ -143,33 +98,14 @@ pub fn routes(face: &Face) -> Result<u64, String> {
                 if let (Some(at), true) = (len.checked_sub(TRAILER), moved) {
                     trailer(route.bytes_mut(), at);
                 }
-                route.cut(len);
+                route.len = len;
                 for way in 0..16 {
                     let short = |bit: usize| way >> bit & 1;
-                    let mut lent = good.clone();
+                    let mut lent = Hands { route: route.clone(), ..good.clone() };
                     put(lent.image.bytes_mut(), 15, 1 + short(3) as u32);
-                    lent.cut(IMAGE - short(0), TICK - short(1), ANSWER - short(2));
-                    let (mut expected, kept) = (lent.clone(), route.clone());
-                    let number = refusal::of_any_tick(
-                        Fault::None,
-                        lent.image.bytes(),
-                        lent.input.bytes().len(),
-                        Some(route.bytes()),
-                        lent.answer.bytes().len(),
-                    );
-                    if number == 0 {
-                        let mut flight = Flight::from_image(lent.image.bytes());
-                        flight.toward = Some(Route::of(Fault::None, route.bytes()));
-                        flight.tick(lent.input.bytes(), expected.answer.bytes_mut());
-                        flight.write(expected.image.bytes_mut());
-                    }
-                    let returned = (face.route_tick)(lent.image.bytes_mut(), lent.input.bytes(), route.bytes(), lent.answer.bytes_mut());
+                    (lent.image.len, lent.input.len, lent.answer.len) = (IMAGE - short(0), TICK - short(1), ANSWER - short(2));
+                    alike(face, Call::RouteTick, &mut lent.clone(), &mut lent)?;
                     calls += 1;
-                    if returned != number || lent != expected || route != kept {
-                        return Err(format!(
-                            "a route of {len} bytes, count {count}, returns {returned}, expected {number}, or changes what it should not"
-                        ));
-                    }
                 }
             }
         }

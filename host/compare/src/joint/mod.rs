@@ -1,14 +1,15 @@
 //! The joint tick, which is new, on its segment and on routes: the archive's calls beside the Rust's own calls made in the documents' order.
 //!
 //! `model` is what is expected, of Rust objects, `route` of a route; `refusal` the table of numbers; `fault` what each of them can be made
-//! wrong by; `pilot` what comes in, `guide` which routes; `runs` the comparison, every byte after every call; `demand` looks back over a
-//! run's margins and asks who has to fly.
+//! wrong by; `pilot` what comes in, `guide` which calls and which routes; `runs` the comparison, every byte after every call; `demand` looks
+//! back over a run's margins and asks who has to fly; `lengths` has every length of every buffer.
 
 pub mod bytes;
 pub mod demand;
 pub mod fault;
 pub mod guide;
 pub mod lengths;
+pub mod lent;
 pub mod model;
 pub mod on_routes;
 pub mod pilot;
@@ -16,14 +17,24 @@ pub mod refusal;
 pub mod route;
 pub mod runs;
 
-/// The calls, of the archive or of what stands in its place.
-#[derive(Clone, Copy)]
-pub struct Face {
-    pub name: &'static str,
-    pub setup: fn(&mut [u8], &[u8]) -> u32,
-    pub tick: fn(&mut [u8], &[u8], &mut [u8]) -> u32,
-    pub route_tick: fn(&mut [u8], &[u8], &[u8], &mut [u8]) -> u32,
+use lent::Lending;
+
+/// The calls on an image.
+#[derive(Clone, Copy, PartialEq, Eq, Debug)]
+pub enum Call {
+    SetUp,
+    Tick,
+    RouteTick,
 }
 
+/// Who answers a call: the archive, or what stands in its place.
+pub type Face<'a> = &'a (dyn Fn(Call, &mut Lending<'_>) -> u32 + Sync);
+
 /// The proved archive.
-pub const ARCHIVE: Face = Face { name: "libfosavalo.a", setup: faces::setup, tick: faces::tick, route_tick: faces::route_tick };
+pub fn archive(call: Call, Lending { image, input, route, answer }: &mut Lending<'_>) -> u32 {
+    match call {
+        Call::SetUp => faces::setup(image, input),
+        Call::Tick => faces::tick(image, input, answer),
+        Call::RouteTick => faces::route_tick(image, input, route, answer),
+    }
+}

@@ -3,8 +3,9 @@
 
 use super::bytes::{Put, Take, ANSWER, IMAGE, WORDS};
 use super::fault::Fault;
-use super::refusal;
-use super::route::Route;
+use super::lent::Lending;
+use super::route::Source;
+use super::{refusal, Call};
 use oracle::adrc::{AdrcGains, AdrcRate, GyroLpf};
 use oracle::geo::{self, GeoAtt, GeoGains, Mat3, RecoverableSet, SimplexShield, Vec3};
 use oracle::traj::{RefGovernor, Sample3, Segment3};
@@ -12,8 +13,6 @@ use std::cell::Cell;
 
 /// Everything that goes from tick to tick.
 pub struct Flight {
-    /// What the next tick is toward in place of the segment, where it is a route tick; not a part of the image.
-    pub toward: Option<Route>,
     controller: GeoAtt,
     shield: SimplexShield,
     governor: RefGovernor,
@@ -41,7 +40,7 @@ impl Flight {
         let governor = RefGovernor::new(i.float(), i.float(), i.float());
         let segment = Segment3::new(i.floats(), i.floats(), i.floats(), i.floats(), i.floats(), i.floats(), i.float());
         let rate = AdrcRate::new(i.axes().map(|[omega_o, omega_c, b0, tau]| AdrcGains::with_tau(omega_o, omega_c, b0, tau)));
-        Flight { toward: None, controller, shield, governor, segment, rate, lpf: GyroLpf::new(i.float(), i.float()) }
+        Flight { controller, shield, governor, segment, rate, lpf: GyroLpf::new(i.float(), i.float()) }
     }
 
     /// From the words of an image that row 4 does not refuse. (At one that it does, the Rust may panic in a tick.)
@@ -52,7 +51,6 @@ impl Flight {
         let ([k_r, lambda_j, psi_max], [enter, exit]) = (i.floats(), i.floats());
         let engaged = if i.word() == 0 { 0.0 } else { 1.0 };
         Flight {
-            toward: None,
             controller,
             shield: SimplexShield::from_words([k_r, lambda_j, psi_max, engaged, enter, exit]),
             governor: RefGovernor::from_words(i.floats()),
@@ -80,12 +78,12 @@ impl Flight {
     /// One tick, and the answer's words.
     #[inline]
     pub fn tick(&mut self, input: &[u8], answer: &mut [u8]) -> Way {
-        self.tick_with(|| Fault::None, input, answer)
+        self.tick_on(|| Fault::None, &Source::Segment, input, answer)
     }
 
-    /// The fault is asked of a function, so that a tick with none is compiled without them.
+    /// One tick on the segment or a route. The fault is asked of a function, so that a tick with none is compiled without them.
     #[inline]
-    fn tick_with(&mut self, fault: impl Fn() -> Fault, input: &[u8], answer: &mut [u8]) -> Way {
+    pub fn tick_on(&mut self, fault: impl Fn() -> Fault, source: &Source, input: &[u8], answer: &mut [u8]) -> Way {
         let fault = fault();
         let mut i = Take::from(input, 0);
         let (gyro, q): (Vec3, [f32; 4]) = (i.floats(), i.floats());
@@ -106,7 +104,7 @@ impl Flight {
         let omega = self.lpf.filter(gyro);
         let before = self.governor.time();
         let time = self.governor.advance(track_err, dt);
-        let (sample, at) = self.sample(fault, time);
+        let (sample, at) = self.sample(fault, source, time);
         let (acc, jerk) = (geo::private::sanitise3(sample.acc), geo::private::sanitise3(sample.jerk));
         let r = geo::quat_to_rotmat(q);
         let r_d = attitude(acc, yaw);
@@ -167,8 +165,9 @@ impl Flight {
     }
 
     /// The attitude that a tick with these inputs would want.
-    pub fn attitude_ahead(&self, track_err: f32, yaw: f32, dt: f32) -> Option<Mat3> {
-        attitude(geo::private::sanitise3(self.sample(Fault::None, self.time_ahead(track_err, dt)).0.acc), yaw)
+    pub fn attitude_ahead(&self, source: &Source, track_err: f32, yaw: f32, dt: f32) -> Option<Mat3> {
+        let (sample, _) = self.sample(Fault::None, source, self.time_ahead(track_err, dt));
+        attitude(geo::private::sanitise3(sample.acc), yaw)
     }
 
     /// And its time.
@@ -178,9 +177,9 @@ impl Flight {
 
     /// Where the trajectory is at a governed time, and the time on it: the segment is at its duration once the time is infinite.
     #[inline]
-    fn sample(&self, fault: Fault, time: f32) -> (Sample3, f32) {
-        match &self.toward {
-            Some(route) if fault != Fault::SegmentFlown => route.sample(fault, time),
+    fn sample(&self, fault: Fault, source: &Source, time: f32) -> (Sample3, f32) {
+        match source {
+            Source::Route(route) if fault != Fault::SegmentFlown => route.sample(fault, time),
             _ => {
                 let at = if time == f32::INFINITY && fault != Fault::InfiniteAtZero { self.segment.duration() } else { time };
                 (self.segment.eval(at), at)
@@ -200,28 +199,28 @@ thread_local! {
     static FIRST: Cell<Option<[u8; ANSWER]>> = const { Cell::new(None) };
 }
 
-/// Set-up on bytes.
-pub fn setup(fault: Fault, image: &mut [u8], input: &[u8]) -> u32 {
-    let refused = refusal::of_setup(image.len(), input.len());
-    if refused != 0 || fault == Fault::RefusesAll {
-        return refused.max(1);
+/// A call on bytes. One that a fault takes and that is to be refused gives 0 and does nothing, for the Rust may panic there.
+pub fn call(fault: Fault, call: Call, lent: &mut Lending<'_>) -> u32 {
+    let refused = refusal::of(fault, call, lent);
+    if refused != 0 || refusal::of(Fault::None, call, lent) != 0 {
+        return refused;
     }
-    FIRST.set(None);
-    Flight::set_up(input).write(image);
+    let Lending { image, input, route, answer } = lent;
+    match call {
+        Call::SetUp => {
+            FIRST.set(None);
+            Flight::set_up(input).write(image);
+        }
+        Call::Tick | Call::RouteTick => tick(fault, &Source::of(fault, call, route), image, input, answer),
+    }
     0
 }
 
-/// A tick on bytes. One that a fault takes and that is to be refused gives 0 and does nothing, for the Rust may panic there.
-pub fn tick(fault: Fault, image: &mut [u8], input: &[u8], route: Option<&[u8]>, answer: &mut [u8]) -> u32 {
-    let refused = refusal::of_any_tick(fault, image, input.len(), route, answer.len());
-    if refused != 0 || refusal::of_any_tick(Fault::None, image, input.len(), route, answer.len()) != 0 {
-        return refused;
-    }
+fn tick(fault: Fault, source: &Source, image: &mut [u8], input: &[u8], answer: &mut [u8]) {
     let mut old = [0; IMAGE];
     old.copy_from_slice(image);
     let mut flight = Flight::from_image(image);
-    flight.toward = route.map(|route| Route::of(fault, route));
-    flight.tick_with(|| fault, input, answer);
+    flight.tick_on(|| fault, source, input, answer);
     flight.write(image);
     match fault {
         Fault::KeptNan => [4..60, 68..164].into_iter().for_each(|kept| image[kept.clone()].copy_from_slice(&old[kept])),
@@ -235,5 +234,4 @@ pub fn tick(fault: Fault, image: &mut [u8], input: &[u8], route: Option<&[u8]>, 
         }
         _ => {}
     }
-    0
 }

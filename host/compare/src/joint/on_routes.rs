@@ -4,30 +4,32 @@ use super::bytes::{float, word, LEG, TRAILER};
 use super::fault::Fault;
 use super::refusal;
 use super::route::Route;
+use crate::counts::counts;
 use std::fmt;
 
-#[derive(Clone, Debug, Default)]
-pub struct OnRoutes {
-    /// Accepted ticks by the count of legs, by the leg flown, both less one.
-    pub counts: [u64; 8],
-    pub legs: [u64; 8],
-    /// Past all ends; at an end itself, one unit below one, one unit above one.
-    pub past: u64,
-    pub at_end: u64,
-    pub below_end: u64,
-    pub above_end: u64,
-    /// With durations that are mended, lost in rounding, that sum to infinity.
-    pub mended: u64,
-    pub lost: u64,
-    pub infinite: u64,
-    /// With a join of two zeros of different signs, of two infinities.
-    pub zeros: u64,
-    pub infinities: u64,
-    /// From one kind of tick to the other.
-    pub switches: u64,
-    /// By the number; and of 7, by the place that is apart.
-    pub refused: [u64; 8],
-    pub apart: [u64; 9],
+counts! {
+    pub struct OnRoutes {
+        /// Accepted ticks by the count of legs, by the leg flown, both less one.
+        pub counts: [u64; 8],
+        pub legs: [u64; 8],
+        /// Past all ends; at an end itself, one unit below one, one unit above one.
+        pub past: u64,
+        pub at_end: u64,
+        pub below_end: u64,
+        pub above_end: u64,
+        /// With durations that are mended, lost in rounding, that sum to infinity.
+        pub mended: u64,
+        pub lost: u64,
+        pub infinite: u64,
+        /// With a join of two zeros of different signs, of two infinities.
+        pub zeros: u64,
+        pub infinities: u64,
+        /// From one kind of tick to the other.
+        pub switches: u64,
+        /// By the number; and of 7, by the place that is apart.
+        pub refused: [u64; 8],
+        pub apart: [u64; 9],
+    }
 }
 
 impl OnRoutes {
@@ -63,24 +65,6 @@ impl OnRoutes {
         if number == 7 {
             refusal::apart(Fault::None, &route[..route.len() - TRAILER]).into_iter().for_each(|place| self.apart[place] += 1);
         }
-    }
-
-    pub fn add(&mut self, other: &OnRoutes) {
-        let sum = |to: &mut [u64], from: &[u64]| to.iter_mut().zip(from).for_each(|(a, b)| *a += b);
-        sum(&mut self.counts, &other.counts);
-        sum(&mut self.legs, &other.legs);
-        sum(&mut self.refused, &other.refused);
-        sum(&mut self.apart, &other.apart);
-        self.past += other.past;
-        self.at_end += other.at_end;
-        self.below_end += other.below_end;
-        self.above_end += other.above_end;
-        self.mended += other.mended;
-        self.lost += other.lost;
-        self.infinite += other.infinite;
-        self.zeros += other.zeros;
-        self.infinities += other.infinities;
-        self.switches += other.switches;
     }
 }
 

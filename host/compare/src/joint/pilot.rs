@@ -2,6 +2,7 @@
 
 use super::bytes::{put, raw, word, SETUP, TICK, WORDS};
 use super::model::Flight;
+use super::route::Source;
 use crate::generate::{self, Rng};
 use oracle::geo::Mat3;
 
@@ -204,9 +205,9 @@ impl Pilot {
         bytes.iter_mut().for_each(|byte| *byte = self.rng.bits() as u8);
     }
 
-    /// The input of the next tick.
-    pub fn next(&mut self, flight: &Flight) -> [u8; TICK] {
-        let mut words = self.fly(flight);
+    /// The input of the next tick, which follows this.
+    pub fn next(&mut self, flight: &Flight, source: &Source) -> [u8; TICK] {
+        let mut words = self.fly(flight, source);
         let (rng, dt) = (&mut self.rng, words[10]);
         match self.style {
             Style::Bits => {
@@ -241,7 +242,7 @@ impl Pilot {
     }
 
     /// As in flight: gyro, quaternion, tracking error, yaw, yaw rate, dt, agile, fractions.
-    fn fly(&mut self, flight: &Flight) -> [f32; TICK / 4] {
+    fn fly(&mut self, flight: &Flight, source: &Source) -> [f32; TICK / 4] {
         let level = self.level.next(&mut self.rng);
         let rng = &mut self.rng;
         let s = &self.set_up;
@@ -263,7 +264,7 @@ impl Pilot {
         // a direction that turns slowly, so that the filter lets it through
         let (sine, cosine) = (0.3 * self.yaw + self.pan).sin_cos();
         let mut gyro = [speed * cosine, speed * sine * 0.8, speed * sine * 0.6];
-        let mut q = match flight.attitude_ahead(track_err, self.yaw, dt) {
+        let mut q = match flight.attitude_ahead(source, track_err, self.yaw, dt) {
             Some(r_d) => turned(&r_d, [0.6 * cosine, 0.6 * sine, 0.8], error),
             None => rng.direction(),
         };

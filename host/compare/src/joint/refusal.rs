@@ -3,6 +3,8 @@
 
 use super::bytes::{float, word, ANSWER, IMAGE, LEG, SETUP, TICK, TRAILER, WORDS};
 use super::fault::Fault;
+use super::lent::Lending;
+use super::Call;
 
 pub fn of_setup(image: usize, input: usize) -> u32 {
     if image != IMAGE {
@@ -18,6 +20,7 @@ pub fn of_tick(image: &[u8], input: usize, answer: usize) -> u32 {
     of_tick_with(Fault::None, image, input, answer)
 }
 
+#[inline]
 fn of_tick_with(fault: Fault, image: &[u8], input: usize, answer: usize) -> u32 {
     if image.len() != IMAGE {
         1
@@ -32,15 +35,20 @@ fn of_tick_with(fault: Fault, image: &[u8], input: usize, answer: usize) -> u32 
     }
 }
 
-/// Of a tick, on a route where one is given.
-pub fn of_any_tick(fault: Fault, image: &[u8], input: usize, route: Option<&[u8]>, answer: usize) -> u32 {
-    let of_tick = || of_tick_with(fault, image, input, answer);
-    let of_route = || route.map_or(0, |route| of_route(fault, route));
+/// Of any call.
+#[inline]
+pub fn of(fault: Fault, call: Call, lent: &Lending) -> u32 {
+    let (image, input, answer) = (&*lent.image, lent.input.len(), lent.answer.len());
+    let of_image = || match call {
+        Call::SetUp => of_setup(image.len(), input),
+        Call::Tick | Call::RouteTick => of_tick_with(fault, image, input, answer),
+    };
+    let of_route = || if call == Call::RouteTick { of_route(fault, lent.route) } else { 0 };
     let first = |number: u32, then: &dyn Fn() -> u32| if number != 0 { number } else { then() };
     match fault {
-        Fault::RefusesAll => 4,
-        Fault::RouteFirst => first(of_route(), &of_tick),
-        _ => first(of_tick(), &of_route),
+        Fault::RefusesAll => of_image().max(1),
+        Fault::RouteFirst => first(of_route(), &of_image),
+        _ => first(of_image(), &of_route),
     }
 }
 

@@ -2,14 +2,29 @@
 
 use super::bytes::{float, Take, LEG};
 use super::fault::Fault;
+use super::Call;
 use oracle::traj::{Sample3, Segment3};
 
 /// A route that is not refused.
-#[derive(Clone)]
 pub struct Route {
     legs: Vec<Segment3>,
     /// "Leg ends are the running f32 sum of mended durations".
     pub ends: Vec<f32>,
+}
+
+/// What a tick follows.
+pub enum Source {
+    Segment,
+    Route(Route),
+}
+
+impl Source {
+    pub fn of(fault: Fault, call: Call, route: &[u8]) -> Self {
+        match call {
+            Call::RouteTick => Source::Route(Route::of(fault, route)),
+            Call::SetUp | Call::Tick => Source::Segment,
+        }
+    }
 }
 
 /// Where on the route a time is.

@@ -1,17 +1,18 @@
 //! Runs of ticks from set-ups: after every call the return and every lent byte, guards too, are what they should be, and the
 //! flag and the command are what looking back over the run's margins says.
 
-use super::bytes::{float, word, Lent, LentRoute, ANSWER, IMAGE, TICK, WORDS};
-use super::demand;
+use super::bytes::{float, word, ANSWER, IMAGE, TICK, WORDS};
 use super::fault::Fault;
 use super::guide::Guide;
-use super::model::Flight;
+use super::lent::{Hands, Lent, Short};
+use super::model::{self, Flight};
 use super::on_routes::OnRoutes;
 use super::pilot::{self, Kind, Pilot, KINDS};
-use super::route::Route;
-use super::{refusal, Face};
+use super::route::Source;
+use super::{demand, refusal, Call, Face};
+use crate::counts::{counts, Counts};
+use crate::threads;
 use std::fmt;
-use std::sync::atomic::{AtomicBool, AtomicU64, Ordering};
 use std::sync::{Mutex, PoisonError};
 
 /// The gate's accepted ticks.
@@ -19,14 +20,6 @@ pub const GATE: u64 = 5_000_000;
 
 /// And those of runs that mix ticks on routes with plain ones: three of four are on routes.
 pub const GATE_ON_ROUTES: u64 = 2_000_000;
-
-/// What the ticks of a run are toward.
-#[derive(Clone, Copy, PartialEq, Eq)]
-pub enum Along {
-    Segment,
-    /// Stretches on routes and stretches on the segment.
-    Routes,
-}
 
 /// The ticks of this run: the gate's, or more where the environment has FOSAVALO_TICKS.
 pub fn ticks() -> u64 {
@@ -54,47 +47,31 @@ pub enum Watch {
     LookBack,
 }
 
-/// What happened in the runs.
-#[derive(Clone)]
-pub struct Seen {
-    pub runs: u64,
-    /// Accepted ticks of each kind, in the order of `KINDS`.
-    pub ticks: [u64; KINDS.len()],
-    pub refused: u64,
-    /// Ticks of passes with the margin in the band, both ends in it: the planner flying, the fallback flying.
-    pub band: [u64; 2],
-    /// Ticks of passes at which the margin was exactly a threshold.
-    pub edge: u64,
-    /// Ticks of passes at which another controller took over.
-    pub changes: u64,
-    /// Ticks compared with the look-back.
-    pub looked_back: u64,
-    pub no_attitude: u64,
-    pub no_feedforward: u64,
-    pub at_the_end: u64,
-    /// For each word of the image, damages that were accepted and that were refused.
-    pub damaged: [[u64; 2]; WORDS],
-    pub routes: OnRoutes,
+counts! {
+    /// What happened in the runs.
+    pub struct Seen {
+        pub runs: u64,
+        /// Accepted ticks of each kind, in the order of `KINDS`.
+        pub ticks: [u64; KINDS.len()],
+        pub refused: u64,
+        /// Ticks of passes with the margin in the band, both ends in it: the planner flying, the fallback flying.
+        pub band: [u64; 2],
+        /// Ticks of passes at which the margin was exactly a threshold.
+        pub edge: u64,
+        /// Ticks of passes at which another controller took over.
+        pub changes: u64,
+        /// Ticks compared with the look-back.
+        pub looked_back: u64,
+        pub no_attitude: u64,
+        pub no_feedforward: u64,
+        pub at_the_end: u64,
+        /// For each word of the image, damages that were accepted and that were refused.
+        pub damaged: [[u64; 2]; WORDS],
+        pub routes: OnRoutes,
+    }
 }
 
 impl Seen {
-    pub fn new() -> Self {
-        Seen {
-            runs: 0,
-            ticks: [0; KINDS.len()],
-            refused: 0,
-            band: [0; 2],
-            edge: 0,
-            changes: 0,
-            looked_back: 0,
-            no_attitude: 0,
-            no_feedforward: 0,
-            at_the_end: 0,
-            damaged: [[0; 2]; WORDS],
-            routes: OnRoutes::default(),
-        }
-    }
-
     /// All accepted ticks.
     pub fn accepted(&self) -> u64 {
         self.ticks.iter().sum()
@@ -103,28 +80,6 @@ impl Seen {
     /// Accepted ticks of passes.
     pub fn passes(&self) -> u64 {
         self.ticks[0]
-    }
-
-    fn add(&mut self, other: &Seen) {
-        let sum = |to: &mut [u64], from: &[u64]| to.iter_mut().zip(from).for_each(|(a, b)| *a += b);
-        sum(&mut self.ticks, &other.ticks);
-        sum(&mut self.band, &other.band);
-        self.damaged.iter_mut().zip(&other.damaged).for_each(|(a, b)| sum(a, b));
-        self.runs += other.runs;
-        self.refused += other.refused;
-        self.edge += other.edge;
-        self.changes += other.changes;
-        self.looked_back += other.looked_back;
-        self.no_attitude += other.no_attitude;
-        self.no_feedforward += other.no_feedforward;
-        self.at_the_end += other.at_the_end;
-        self.routes.add(&other.routes);
-    }
-}
-
-impl Default for Seen {
-    fn default() -> Self {
-        Seen::new()
     }
 }
 
@@ -158,22 +113,12 @@ impl fmt::Display for Seen {
     }
 }
 
-/// What is lent to a tick.
-#[derive(Clone, PartialEq, Eq)]
-pub struct Hands {
-    pub image: Lent,
-    pub input: Lent,
-    pub answer: Lent,
-    /// At a route tick.
-    pub route: Option<LentRoute>,
-}
-
 /// A call after which something isn't as it should be.
 pub struct Parted {
-    pub face: &'static str,
     pub run: u64,
     /// 0 is the set-up.
     pub tick: u64,
+    pub call: Call,
     pub what: &'static str,
     /// The damaged word, where one was.
     pub damaged: Option<usize>,
@@ -185,115 +130,98 @@ pub struct Parted {
 
 impl fmt::Display for Parted {
     fn fmt(&self, f: &mut fmt::Formatter<'_>) -> fmt::Result {
-        let kind = pilot::kind(self.run);
-        writeln!(f, "{}: run {} ({kind:?}), tick {}: {}", self.face, self.run, self.tick, self.what)?;
+        writeln!(f, "run {} ({:?}), tick {} ({:?}): {}", self.run, pilot::kind(self.run), self.tick, self.call, self.what)?;
         if let Some(at) = self.damaged {
             writeln!(f, "  image word {at} was damaged")?;
         }
-        let hex = |lent: &Lent| lent.bytes().chunks(4).map(|four| format!(" {:08x}", word(four, 0))).collect::<String>();
-        writeln!(f, "  image {}", hex(&self.before.image))?;
-        writeln!(f, "  input {}", hex(&self.before.input))?;
-        if let Some(route) = &self.before.route {
-            writeln!(f, "  route of {} bytes {:02x?}", route.bytes().len(), route.bytes())?;
+        for (name, bytes, _) in self.before.each() {
+            let words: String = bytes.chunks_exact(4).map(|four| format!(" {:08x}", word(four, 0))).collect();
+            writeln!(f, "  {name} of {} bytes{words}{:02x?}", bytes.len(), bytes.chunks_exact(4).remainder())?;
         }
         let ((a, expected), (b, found)) = (&self.expected, &self.found);
         writeln!(f, "  returns {b}, expected {a}")?;
-        for (name, x, y) in [
-            ("image", &expected.image, &found.image),
-            ("input", &expected.input, &found.input),
-            ("answer", &expected.answer, &found.answer),
-        ] {
-            for at in 0..WORDS {
-                let (x, y) = (word(x.bytes(), at), word(y.bytes(), at));
-                if x != y {
-                    writeln!(f, "  {name} word {at} is {y:08x}, expected {x:08x}")?;
-                }
+        for ((name, x, all_x), (_, y, all_y)) in expected.each().into_iter().zip(found.each()) {
+            for at in (0..x.len() / 4).filter(|at| word(x, *at) != word(y, *at)) {
+                writeln!(f, "  {name} word {at} is {:08x}, expected {:08x}", word(y, at), word(x, at))?;
             }
-            if x != y && x.bytes() == y.bytes() {
+            if x == y && all_x != all_y {
                 writeln!(f, "  a guard of the {name} is changed")?;
             }
-        }
-        if expected.route != found.route {
-            writeln!(f, "  the route is changed")?;
         }
         Ok(())
     }
 }
 
 /// One run. What it saw goes to `seen`; the first call after which something is wrong.
-pub fn run(face: &Face, number: u64, watch: Watch, along: Along, seen: &mut Seen) -> Option<Parted> {
-    let mut pilot = Pilot::new(number);
-    let mut guide = (along == Along::Routes).then(|| Guide::new(number));
+pub fn run(face: Face, number: u64, watch: Watch, calls: &'static [Call], seen: &mut Seen) -> Option<Parted> {
+    let (mut pilot, mut guide) = (Pilot::new(number), Guide::new(number, calls));
     let set_up = pilot.set_up();
-    let mut hands = Hands { image: Lent::new(IMAGE), input: Lent::holding(&set_up), answer: Lent::new(ANSWER), route: None };
+    let (image, answer) = (Short::holding(&[0; IMAGE]), Short::holding(&[0; ANSWER]));
+    let mut hands = Hands { image, input: Short::holding(&set_up), route: Lent::of(&[]), answer };
     pilot.junk(hands.image.bytes_mut());
     pilot.junk(hands.answer.bytes_mut());
-    let parted = |tick, what, damaged, before: &Hands, expected: (u32, &Hands), found: (u32, &Hands)| {
-        let (expected, found) = ((expected.0, expected.1.clone()), (found.0, found.1.clone()));
-        Some(Parted { face: face.name, run: number, tick, what, damaged, before: before.clone(), expected, found })
-    };
 
-    let before = hands.clone();
     let mut flight = Flight::set_up(&set_up);
-    let mut expected = hands.clone();
+    let (before, mut expected) = (hands.clone(), hands.clone());
     flight.write(expected.image.bytes_mut());
-    let returned = (face.setup)(hands.image.bytes_mut(), hands.input.bytes());
-    if watch == Watch::All && (returned != 0 || hands != expected) {
-        return parted(0, "set-up differs", None, &before, (0, &expected), (returned, &hands));
-    }
-    if refusal::of_tick(expected.image.bytes(), TICK, ANSWER) != 0 {
-        return parted(0, "set-up made an image that is refused", None, &before, (0, &expected), (returned, &hands));
+    let returned = face(Call::SetUp, &mut hands.lend());
+    let wrong = if watch == Watch::All && (returned != 0 || hands != expected) {
+        Some("set-up differs")
+    } else if refusal::of_tick(expected.image.bytes(), TICK, ANSWER) != 0 {
+        Some("set-up made an image that is refused")
+    } else {
+        None
+    };
+    if let Some(what) = wrong {
+        let (expected, found) = ((0, expected), (returned, hands));
+        return Some(Parted { run: number, tick: 0, call: Call::SetUp, what, damaged: None, before, expected, found });
     }
     seen.runs += 1;
-    hands.input = Lent::new(TICK);
+    hands.input = Short::holding(&[0; TICK]);
 
     let [enter, exit] = [float(expected.image.bytes(), 13), float(expected.image.bytes(), 14)];
     let kind = KINDS.iter().position(|kind| *kind == pilot.kind).unwrap_or(0);
-    let (mut margins, mut last, mut tick) = (Vec::new(), 1, 0);
+    let (mut margins, mut last, mut last_call, mut tick) = (Vec::new(), 1, None, 0);
     while tick < pilot::length(number) {
-        let steady = guide.as_mut().and_then(Guide::steady);
-        flight.toward = steady.as_deref().map(|route| Route::of(Fault::None, route));
-        let mut input = pilot.next(&flight);
-        if let Some(guide) = &mut guide {
-            guide.hurry(&mut input);
-            seen.routes.switches += u64::from(tick > 0 && hands.route.is_some() != steady.is_some());
-            let time = flight.time_ahead(float(&input, 7), float(&input, 10));
-            hands.route = steady.map(|_| LentRoute::holding(&guide.route(time)));
-        }
-        hands.input.set(&input);
+        let call = guide.call();
+        let mut input = pilot.next(&flight, guide.source(call));
+        guide.hurry(&mut input);
+        seen.routes.switches += u64::from(tick > 0 && last_call != Some(call));
+        last_call = Some(call);
+        hands.route = Lent::of(&guide.route(call, flight.time_ahead(float(&input, 7), float(&input, 10))));
+        hands.input.bytes_mut().copy_from_slice(&input);
         let whole = hands.image.clone();
         let damaged = pilot.damage(hands.image.bytes_mut());
-        let before = hands.clone();
-        let mut expected = hands.clone();
-        let refused = refusal::of_any_tick(Fault::None, hands.image.bytes(), TICK, hands.route.as_ref().map(Lent::bytes), ANSWER);
+        let (before, mut expected) = (hands.clone(), hands.clone());
+        let refused = refusal::of(Fault::None, call, &hands.lend());
         if refused == 0 {
             if damaged.is_some() {
                 flight = Flight::from_image(hands.image.bytes());
             }
-            flight.toward = hands.route.as_ref().map(|route| Route::of(Fault::None, route.bytes()));
-            let way = flight.tick(hands.input.bytes(), expected.answer.bytes_mut());
+            let source = Source::of(Fault::None, call, hands.route.bytes());
+            let way = flight.tick_on(|| Fault::None, &source, hands.input.bytes(), expected.answer.bytes_mut());
             flight.write(expected.image.bytes_mut());
             tick += 1;
             seen.ticks[kind] += 1;
             seen.no_attitude += u64::from(!way.attitude);
             seen.no_feedforward += u64::from(way.attitude && !way.feedforward);
             seen.at_the_end += u64::from(way.at_the_end);
-            if let (Some(route), Some(lent)) = (&flight.toward, &hands.route) {
-                seen.routes.take(lent.bytes(), route, way.time);
+            if let Source::Route(route) = &source {
+                seen.routes.take(hands.route.bytes(), route, way.time);
             }
         } else {
             seen.refused += 1;
-            if let Some(lent) = &hands.route {
-                seen.routes.refuse(refused, lent.bytes());
+            if call == Call::RouteTick {
+                seen.routes.refuse(refused, hands.route.bytes());
             }
         }
-        let (image, input, answer) = (hands.image.bytes_mut(), hands.input.bytes(), hands.answer.bytes_mut());
-        let returned = match &hands.route {
-            Some(route) => (face.route_tick)(image, input, route.bytes(), answer),
-            None => (face.tick)(image, input, answer),
+        let returned = face(call, &mut hands.lend());
+        let parted = |what, hands: &Hands| {
+            let (before, expected, found) = (before.clone(), (refused, expected.clone()), (returned, hands.clone()));
+            Some(Parted { run: number, tick, call, what, damaged, before, expected, found })
         };
         if watch == Watch::All && (returned != refused || hands != expected) {
-            return parted(tick, "tick differs", damaged, &before, (refused, &expected), (returned, &hands));
+            return parted("tick differs", &hands);
         }
         if let Some(at) = damaged {
             seen.damaged[at][usize::from(refused != 0)] += 1;
@@ -315,10 +243,10 @@ pub fn run(face: &Face, number: u64, watch: Watch, along: Along, seen: &mut Seen
             let (flag, command) = (word(answer, 6), [3, 4, 5].map(|at| word(answer, at)));
             let agile = [11, 12, 13].map(|at| word(input, at));
             if flag != u32::from(!planner) {
-                return parted(tick, "the flag is not what the margins say", None, &before, (refused, &expected), (returned, &hands));
+                return parted("the flag is not what the margins say", &hands);
             }
             if planner && command != demand::passed_on(agile) {
-                return parted(tick, "the command is not the planner's", None, &before, (refused, &expected), (returned, &hands));
+                return parted("the command is not the planner's", &hands);
             }
             seen.looked_back += 1;
             if let (Kind::Pass, Some(&margin)) = (pilot.kind, margins.last()) {
@@ -335,33 +263,31 @@ pub fn run(face: &Face, number: u64, watch: Watch, along: Along, seen: &mut Seen
 
 /// Runs with at least so many accepted ticks, on all threads: what they saw and, of the runs that part, the first.
 /// Once one has parted no more are begun; those before it are, so the first is the same every time.
-pub fn compare(face: &Face, ticks: u64, watch: Watch, along: Along, done: impl Fn(u64) + Sync) -> (Seen, Option<Parted>) {
-    let all = runs(ticks);
-    let (next, stop) = (AtomicU64::new(0), AtomicBool::new(false));
-    let total: Mutex<(Seen, Option<Parted>)> = Mutex::new((Seen::new(), None));
-    let threads = std::thread::available_parallelism().map_or(1, |n| n.get());
-    std::thread::scope(|scope| {
-        for _ in 0..threads {
-            scope.spawn(|| {
-                while !stop.load(Ordering::Relaxed) {
-                    let number = next.fetch_add(1, Ordering::Relaxed);
-                    if number >= all {
-                        break;
-                    }
-                    let mut seen = Seen::new();
-                    let parted = run(face, number, watch, along, &mut seen);
-                    done(seen.accepted());
-                    let mut total = total.lock().unwrap_or_else(PoisonError::into_inner);
-                    total.0.add(&seen);
-                    if let Some(new) = parted {
-                        stop.store(true, Ordering::Relaxed);
-                        if total.1.as_ref().is_none_or(|old| new.run < old.run) {
-                            total.1 = Some(new);
-                        }
-                    }
-                }
-            });
+pub fn compare(face: Face, ticks: u64, watch: Watch, calls: &'static [Call], done: impl Fn(u64) + Sync) -> (Seen, Option<Parted>) {
+    let total: Mutex<(Seen, Option<Parted>)> = Mutex::new((Seen::NONE, None));
+    threads::each(runs(ticks), |number| {
+        let mut seen = Seen::NONE;
+        let parted = run(face, number, watch, calls, &mut seen);
+        done(seen.accepted());
+        let mut total = total.lock().unwrap_or_else(PoisonError::into_inner);
+        total.0.add(&seen);
+        let enough = parted.is_some();
+        if parted.as_ref().is_some_and(|new| total.1.as_ref().is_none_or(|old| new.run < old.run)) {
+            total.1 = parted;
         }
+        enough
     });
     total.into_inner().unwrap_or_else(PoisonError::into_inner)
+}
+
+/// Whether the model with a fault is told from the one without, and where.
+pub fn caught(fault: Fault, ticks: u64, watch: Watch, calls: &'static [Call]) -> bool {
+    let (seen, parted) = compare(&|call, lent| model::call(fault, call, lent), ticks, watch, calls, |_| {});
+    match &parted {
+        Some(Parted { run, tick, what, expected: (expected, _), found: (returned, _), .. }) => {
+            println!("{}: caught in run {run}, tick {tick} ({what}, returns {returned}, expected {expected})", fault.name());
+        }
+        None => println!("{}: NOT caught in {} ticks", fault.name(), seen.accepted()),
+    }
+    parted.is_some()
 }

@@ -1,57 +1,22 @@
 //! The calls beside the model, on bytes between guards: every length, damaged trailers, the ends of the count, real flights.
 
 use super::{model, Face, MOST, RECORD, TRAILER};
+use crate::counts::{counts, Counts};
 use crate::generate::Rng;
-use crate::joint::bytes::{put, ANSWER, IMAGE, LONGEST, TICK};
+use crate::joint::bytes::{put, ANSWER, IMAGE, TICK};
+use crate::joint::lent::{Lent, LONGEST};
 use crate::joint::model::Flight;
 use crate::joint::pilot::{self, Pilot};
-use crate::joint::{self, refusal};
+use crate::joint::refusal;
+use crate::joint::route::Source;
 use std::fmt;
 
-const GUARD: usize = 32;
-
-/// Bytes to lend, between guards: those of which the call is told, and the rest, which it may not touch.
-#[derive(Clone, PartialEq, Eq)]
-struct Lent {
-    all: Vec<u8>,
-    len: usize,
-}
-
-impl Lent {
-    fn of(bytes: &[u8]) -> Self {
-        let guard = |at: usize| 0xa5 ^ at as u8;
-        let all = (0..GUARD).map(guard).chain(bytes.iter().copied()).chain((0..GUARD).map(guard)).collect();
-        Lent { all, len: bytes.len() }
-    }
-
-    /// These bytes and so many more behind them.
-    fn with_room(bytes: &[u8], room: usize) -> Self {
-        Lent::of(&[bytes, &vec![0x3c; room]].concat())
-    }
-
-    fn bytes(&self) -> &[u8] {
-        &self.all[GUARD..GUARD + self.len]
-    }
-
-    fn bytes_mut(&mut self) -> &mut [u8] {
-        &mut self.all[GUARD..GUARD + self.len]
-    }
-}
-
-/// The calls made, by the number that they give.
-#[derive(Clone, Copy, Default)]
-pub struct Seen {
-    pub append: [u64; 15],
-    pub count: [u64; 15],
-    pub record: [u64; 15],
-}
-
-impl Seen {
-    pub fn add(&mut self, other: &Seen) {
-        let sum = |to: &mut [u64], from: &[u64]| to.iter_mut().zip(from).for_each(|(a, b)| *a += b);
-        sum(&mut self.append, &other.append);
-        sum(&mut self.count, &other.count);
-        sum(&mut self.record, &other.record);
+counts! {
+    /// The calls made, by the number that they give.
+    pub struct Seen {
+        pub append: [u64; 15],
+        pub count: [u64; 15],
+        pub record: [u64; 15],
     }
 }
 
@@ -92,7 +57,7 @@ struct Sides<'a> {
 
 impl<'a> Sides<'a> {
     fn of(face: &'a Face) -> Self {
-        Sides { face, seen: Seen::default() }
+        Sides { face, seen: Seen::NONE }
     }
 
     fn append(&mut self, buffer: &Lent, log_len: u64, input: &Lent, answer: &Lent) -> Result<(), String> {
@@ -305,7 +270,7 @@ pub fn ends(face: &Face) -> Result<Seen, String> {
 
 /// From the empty log as many records as there may be, each read back in its turn; then none.
 pub fn whole(face: &Face) -> Result<Seen, String> {
-    let (mut seen, mut rng) = (Seen::default(), Rng::new("log whole", 0));
+    let (mut seen, mut rng) = (Seen::NONE, Rng::new("log whole", 0));
     let records = any_records(&mut rng, MOST);
     let (mut buffer, mut log_len) = (Lent::with_room(&log_of(&[]), RECORD * (MOST + 1)), TRAILER as u64);
     let mut expected = buffer.clone();
@@ -344,7 +309,7 @@ pub const FLIGHTS: u64 = 96;
 
 /// Real ticks, each logged when it is accepted, some calls that are refused between them; then the log is read back from the start.
 pub fn flights(face: &Face) -> Result<Seen, String> {
-    let mut seen = Seen::default();
+    let mut seen = Seen::NONE;
     for number in 0..FLIGHTS {
         let (mut pilot, mut rng) = (Pilot::new(number), Rng::new("logged", number));
         let set_up = pilot.set_up();
@@ -354,9 +319,9 @@ pub fn flights(face: &Face) -> Result<Seen, String> {
         let (mut buffer, mut log_len) = (Lent::with_room(&log_of(&[]), RECORD * ticks), TRAILER);
         let mut flown: Vec<[u8; RECORD]> = Vec::new();
         while flown.len() < ticks {
-            let input = pilot.next(&flight);
+            let input = pilot.next(&flight, &Source::Segment);
             let mut answer = [0; ANSWER];
-            if (joint::ARCHIVE.tick)(&mut image, &input, &mut answer) != 0 {
+            if faces::tick(&mut image, &input, &mut answer) != 0 {
                 return Err(format!("flight {number}: a tick from set-up is refused with {}", refusal::of_tick(&image, TICK, ANSWER)));
             }
             flight.tick(&input, &mut [0; ANSWER]);
@@ -396,7 +361,7 @@ pub fn flights(face: &Face) -> Result<Seen, String> {
 
 /// All of it.
 pub fn all(face: &Face) -> Result<Seen, String> {
-    let mut seen = Seen::default();
+    let mut seen = Seen::NONE;
     for sweep in [flights, far_lengths, other_lengths, lengths, trailers, whole, ends] {
         seen.add(&sweep(face)?);
     }

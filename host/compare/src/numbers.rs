@@ -1,7 +1,7 @@
 //! The numbers of relay_math over every bit pattern, or every so many.
 
 use crate::progress::Progress;
-use crate::{exact, same};
+use crate::{exact, same, threads};
 use std::sync::Mutex;
 
 /// The size up to which sine and cosine are served.
@@ -44,31 +44,21 @@ impl Found {
     }
 }
 
+/// Patterns that one thread does at a time.
+const CHUNK: u64 = 250_000;
+
 /// Runs `one` on the patterns `first`, `first + stride`, .. up to and with `last`, on as many threads as the machine has.
 pub fn sweep(what: &'static str, first: u32, last: u32, stride: u32, one: impl Fn(f32, &mut Found) + Sync) -> Found {
-    let threads = std::thread::available_parallelism().map_or(1, |n| n.get() as u64);
     let all = u64::from(last - first) / u64::from(stride) + 1;
     let progress = Progress::new(what, all);
     let total = Mutex::new(Found::default());
-    std::thread::scope(|scope| {
-        for t in 0..threads {
-            let (one, progress, total) = (&one, &progress, &total);
-            scope.spawn(move || {
-                let mut found = Found::default();
-                let (from, to) = (all * t / threads, all * (t + 1) / threads);
-                let mut i = from;
-                while i < to {
-                    let end = to.min(i + 4_000_000);
-                    for k in i..end {
-                        one(f32::from_bits((u64::from(first) + k * u64::from(stride)) as u32), &mut found);
-                    }
-                    found.cases += end - i;
-                    progress.add(end - i);
-                    i = end;
-                }
-                total.lock().expect("a sweep's thread failed").join(found);
-            });
-        }
+    threads::each(all.div_ceil(CHUNK), |chunk| {
+        let (from, to) = (chunk * CHUNK, all.min((chunk + 1) * CHUNK));
+        let mut found = Found { cases: to - from, ..Found::default() };
+        (from..to).for_each(|k| one(f32::from_bits((u64::from(first) + k * u64::from(stride)) as u32), &mut found));
+        progress.add(to - from);
+        total.lock().expect("a sweep's thread failed").join(found);
+        false
     });
     total.into_inner().expect("a sweep's thread failed")
 }

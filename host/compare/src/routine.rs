@@ -1,10 +1,9 @@
 //! One comparison for every routine: a row of words goes to ours and to theirs, and the answers are compared word by word.
 
 use crate::generate::{self, Edge, Kind, Part};
-use crate::same;
 use crate::words::{In, Out, Words, MOST};
+use crate::{same, threads};
 use std::fmt;
-use std::sync::atomic::{AtomicUsize, Ordering};
 use std::sync::{Mutex, PoisonError};
 
 /// The gate's rows a routine.
@@ -165,22 +164,16 @@ pub fn compare_all(table: &[Routine], n: u64) -> Vec<Mismatch> {
             (0..rows.div_ceil(CHUNK)).map(move |c| (at, c * CHUNK, rows.min((c + 1) * CHUNK)))
         })
         .collect();
-    let next = AtomicUsize::new(0);
     let found: Mutex<Vec<Option<Mismatch>>> = Mutex::new(table.iter().map(|_| None).collect());
-    let threads = std::thread::available_parallelism().map_or(1, |n| n.get());
-    std::thread::scope(|scope| {
-        for _ in 0..threads {
-            scope.spawn(|| {
-                while let Some(&(at, from, to)) = chunks.get(next.fetch_add(1, Ordering::Relaxed)) {
-                    if let Some(new) = table[at].compare(from, to) {
-                        let mut found = found.lock().unwrap_or_else(PoisonError::into_inner);
-                        if found[at].as_ref().is_none_or(|old| new.row < old.row) {
-                            found[at] = Some(new);
-                        }
-                    }
-                }
-            });
+    threads::each(chunks.len() as u64, |job| {
+        let (at, from, to) = chunks[job as usize];
+        if let Some(new) = table[at].compare(from, to) {
+            let mut found = found.lock().unwrap_or_else(PoisonError::into_inner);
+            if found[at].as_ref().is_none_or(|old| new.row < old.row) {
+                found[at] = Some(new);
+            }
         }
+        false
     });
     found.into_inner().unwrap_or_else(PoisonError::into_inner).into_iter().flatten().collect()
 }

@@ -53,6 +53,29 @@ impl fmt::Display for Parted {
 }
 
 impl<O: Words + Copy, T: Words> Machine<O, T> {
+    fn new(name: &'static str, set_up: &[Part], ours: fn(&mut In) -> O, theirs: fn(&mut In) -> T) -> Self {
+        Machine { name, set_up: set_up.to_vec(), ours, theirs, events: Vec::new() }
+    }
+
+    /// With one thing more that can happen to it.
+    fn event(
+        mut self,
+        name: &'static str,
+        weight: usize,
+        takes: &[Part],
+        ours: fn(O, &mut In, &mut Out) -> O,
+        theirs: fn(&mut T, &mut In, &mut Out),
+    ) -> Self {
+        self.events.push(Event { name, weight, takes: takes.to_vec(), edge: None, ours, theirs });
+        self
+    }
+
+    /// With the last event's input near where the state decides.
+    fn near(mut self, edge: fn(&O, &mut Rng, &mut [f32])) -> Self {
+        self.events.iter_mut().last().into_iter().for_each(|event| event.edge = Some(edge));
+        self
+    }
+
     /// The same machine, with another in the place of what ours does at the event of this name.
     pub fn with_ours(mut self, event: &str, ours: fn(O, &mut In, &mut Out) -> O) -> Self {
         self.events.iter_mut().filter(|known| known.name == event).for_each(|known| known.ours = ours);
@@ -146,273 +169,219 @@ const RATES: Part = Part::Vector(10.0);
 const ADRC_GAINS: [Part; 4] = [Part::Above(60.0), Part::Above(20.0), Part::Above(80.0), Part::Above(0.05)];
 
 pub fn simplex_shield() -> Machine<geo::SimplexShield, their_geo::SimplexShield> {
-    Machine {
-        name: "SimplexShield",
-        set_up: vec![Part::Above(2.0), Part::Above(0.1), Part::Above(2.0), Part::Above(1.0), Part::Above(2.0)],
-        ours: |i| geo::simplexshield_new(i.get(), i.get(), i.get()),
-        theirs: |i| their_geo::SimplexShield::new(i.get(), i.get(), i.get()),
-        events: vec![
-            Event {
-                name: "step",
-                weight: 3,
-                takes: vec![Part::Number(2.5), RATES, RATES],
-                edge: Some(|shield, rng, words| {
-                    let at = rng.of(&[shield.enter, shield.exit]).unwrap_or(0.0);
-                    words[0] = rng.near(at);
-                }),
-                ours: |shield, i, o| {
-                    let answer = geo::simplexshield_step(shield, i.get(), i.get(), i.get());
-                    (answer.command, answer.fallback).put(o);
-                    answer.shield
-                },
-                theirs: |shield, i, o| shield.step(i.get(), i.get(), i.get()).put(o),
-            },
-            Event {
-                name: "filter",
-                weight: 1,
-                takes: vec![Part::Above(2.5), Part::Above(100.0), RATES, RATES],
-                edge: Some(|shield, rng, words| {
-                    let at = rng.of(&[shield.enter, shield.exit]).unwrap_or(0.0);
-                    words[0] = shield.set.psi_max - rng.near(at);
-                    words[1] = 0.0;
-                }),
-                ours: |shield, i, o| {
-                    let answer = geo::simplexshield_filter(shield, i.get(), i.get(), i.get(), i.get());
-                    (answer.command, answer.fallback).put(o);
-                    answer.shield
-                },
-                theirs: |shield, i, o| shield.filter(i.get(), i.get(), i.get(), i.get()).put(o),
-            },
-        ],
-    }
+    Machine::new(
+        "SimplexShield",
+        &[Part::Above(2.0), Part::Above(0.1), Part::Above(2.0), Part::Above(1.0), Part::Above(2.0)],
+        |i| geo::simplexshield_new(i.get(), i.get(), i.get()),
+        |i| their_geo::SimplexShield::new(i.get(), i.get(), i.get()),
+    )
+    .event(
+        "step",
+        3,
+        &[Part::Number(2.5), RATES, RATES],
+        |shield, i, o| {
+            let answer = geo::simplexshield_step(shield, i.get(), i.get(), i.get());
+            (answer.command, answer.fallback).put(o);
+            answer.shield
+        },
+        |shield, i, o| shield.step(i.get(), i.get(), i.get()).put(o),
+    )
+    .near(|shield, rng, words| {
+        let at = rng.of(&[shield.enter, shield.exit]).unwrap_or(0.0);
+        words[0] = rng.near(at);
+    })
+    .event(
+        "filter",
+        1,
+        &[Part::Above(2.5), Part::Above(100.0), RATES, RATES],
+        |shield, i, o| {
+            let answer = geo::simplexshield_filter(shield, i.get(), i.get(), i.get(), i.get());
+            (answer.command, answer.fallback).put(o);
+            answer.shield
+        },
+        |shield, i, o| shield.filter(i.get(), i.get(), i.get(), i.get()).put(o),
+    )
+    .near(|shield, rng, words| {
+        let at = rng.of(&[shield.enter, shield.exit]).unwrap_or(0.0);
+        words[0] = shield.set.psi_max - rng.near(at);
+        words[1] = 0.0;
+    })
 }
 
 pub fn ref_governor() -> Machine<traj::RefGovernor, their_traj::RefGovernor> {
-    Machine {
-        name: "RefGovernor",
-        set_up: vec![Part::Above(2.0), Part::Above(4.0), Part::Above(1.2)],
-        ours: |i| traj::refgovernor_new(i.get(), i.get(), i.get()),
-        theirs: |i| their_traj::RefGovernor::new(i.get(), i.get(), i.get()),
-        events: vec![
-            Event {
-                name: "advance",
-                weight: 400,
-                takes: vec![Part::Number(5.0), Part::Step],
-                edge: Some(|governor, rng, words| {
-                    let at = rng.of(&[governor.err_lo, governor.err_hi]).unwrap_or(0.0);
-                    words[0] = rng.near(at);
-                    // a long step, now and then, to where a short one is lost
-                    if rng.below(64) == 0 {
-                        words[1] = rng.of(&[4096.0, 32768.0, 1e20, f32::MAX]).unwrap_or(0.0);
-                    }
-                }),
-                ours: |governor, i, o| {
-                    let answer = traj::refgovernor_advance(governor, i.get(), i.get());
-                    answer.time.put(o);
-                    answer.governor
-                },
-                theirs: |governor, i, o| governor.advance(i.get(), i.get()).put(o),
-            },
-            Event {
-                name: "reset",
-                weight: 1,
-                takes: vec![],
-                edge: None,
-                ours: |governor, _, _| traj::refgovernor_reset(governor),
-                theirs: |governor, _, _| governor.reset(),
-            },
-        ],
-    }
+    Machine::new(
+        "RefGovernor",
+        &[Part::Above(2.0), Part::Above(4.0), Part::Above(1.2)],
+        |i| traj::refgovernor_new(i.get(), i.get(), i.get()),
+        |i| their_traj::RefGovernor::new(i.get(), i.get(), i.get()),
+    )
+    .event(
+        "advance",
+        400,
+        &[Part::Number(5.0), Part::Step],
+        |governor, i, o| {
+            let answer = traj::refgovernor_advance(governor, i.get(), i.get());
+            answer.time.put(o);
+            answer.governor
+        },
+        |governor, i, o| governor.advance(i.get(), i.get()).put(o),
+    )
+    .near(|governor, rng, words| {
+        let at = rng.of(&[governor.err_lo, governor.err_hi]).unwrap_or(0.0);
+        words[0] = rng.near(at);
+        // a long step, now and then, to where a short one is lost
+        if rng.below(64) == 0 {
+            words[1] = rng.of(&[4096.0, 32768.0, 1e20, f32::MAX]).unwrap_or(0.0);
+        }
+    })
+    .event("reset", 1, &[], |governor, _, _| traj::refgovernor_reset(governor), |governor, _, _| governor.reset())
 }
 
 pub fn adrc_axis() -> Machine<adrc::AdrcAxis, their_adrc::AdrcAxis> {
-    Machine {
-        name: "AdrcAxis",
-        set_up: ADRC_GAINS.to_vec(),
-        ours: |i| adrc::adrcaxis_new(i.get()),
-        theirs: |i| their_adrc::AdrcAxis::new(i.get()),
-        events: vec![
-            Event {
-                name: "tick",
-                weight: 300,
-                takes: vec![RATE, RATE, Part::Step],
-                edge: Some(|_, rng, words| words[2] = rng.near_one(&[1e-4, 0.1, 1e-3])),
-                ours: |axis, i, o| {
-                    let answer = adrc::adrcaxis_tick(axis, i.get(), i.get(), i.get());
-                    answer.u.put(o);
-                    answer.axis
-                },
-                theirs: |axis, i, o| axis.tick(i.get(), i.get(), i.get()).put(o),
+    Machine::new("AdrcAxis", &ADRC_GAINS, |i| adrc::adrcaxis_new(i.get()), |i| their_adrc::AdrcAxis::new(i.get()))
+        .event(
+            "tick",
+            300,
+            &[RATE, RATE, Part::Step],
+            |axis, i, o| {
+                let answer = adrc::adrcaxis_tick(axis, i.get(), i.get(), i.get());
+                answer.u.put(o);
+                answer.axis
             },
-            Event {
-                name: "set_delivered_fraction",
-                weight: 100,
-                takes: vec![Part::Number(1.5)],
-                edge: Some(|_, rng, words| words[0] = rng.near_one(&[0.0, 1.0])),
-                ours: |axis, i, _| adrc::adrcaxis_set_delivered_fraction(axis, i.get()),
-                theirs: |axis, i, _| axis.set_delivered_fraction(i.get()),
-            },
-            Event {
-                name: "reset",
-                weight: 1,
-                takes: vec![],
-                edge: None,
-                ours: |axis, _, _| adrc::adrcaxis_reset(axis),
-                theirs: |axis, _, _| axis.reset(),
-            },
-        ],
-    }
+            |axis, i, o| axis.tick(i.get(), i.get(), i.get()).put(o),
+        )
+        .near(|_, rng, words| words[2] = rng.near_one(&[1e-4, 0.1, 1e-3]))
+        .event(
+            "set_delivered_fraction",
+            100,
+            &[Part::Number(1.5)],
+            |axis, i, _| adrc::adrcaxis_set_delivered_fraction(axis, i.get()),
+            |axis, i, _| axis.set_delivered_fraction(i.get()),
+        )
+        .near(|_, rng, words| words[0] = rng.near_one(&[0.0, 1.0]))
+        .event("reset", 1, &[], |axis, _, _| adrc::adrcaxis_reset(axis), |axis, _, _| axis.reset())
 }
 
 pub fn adrc_rate() -> Machine<adrc::AdrcRate, their_adrc::AdrcRate> {
-    Machine {
-        name: "AdrcRate",
-        set_up: [ADRC_GAINS, ADRC_GAINS, ADRC_GAINS].concat(),
-        ours: |i| adrc::adrcrate_new(i.get(), i.get(), i.get()),
-        theirs: |i| their_adrc::AdrcRate::new(i.get()),
-        events: vec![
-            Event {
-                name: "tick",
-                weight: 300,
-                takes: vec![RATES, RATES, Part::Step],
-                edge: Some(|_, rng, words| words[6] = rng.near_one(&[1e-4, 0.1, 1e-3])),
-                ours: |rate, i, o| {
-                    let answer = adrc::adrcrate_tick(rate, i.get(), i.get(), i.get());
-                    answer.torque.put(o);
-                    adrc::adrcrate_disturbance(answer.rate).put(o);
-                    answer.rate
-                },
-                theirs: |rate, i, o| {
-                    rate.tick(i.get(), i.get(), i.get()).put(o);
-                    rate.disturbance().put(o);
-                },
-            },
-            Event {
-                name: "set_delivered_fraction",
-                weight: 100,
-                takes: vec![Part::Vector(1.5)],
-                edge: None,
-                ours: |rate, i, _| adrc::adrcrate_set_delivered_fraction(rate, i.get()),
-                theirs: |rate, i, _| rate.set_delivered_fraction(i.get()),
-            },
-            Event {
-                name: "reset",
-                weight: 1,
-                takes: vec![],
-                edge: None,
-                ours: |rate, _, _| adrc::adrcrate_reset(rate),
-                theirs: |rate, _, _| rate.reset(),
-            },
-        ],
-    }
+    Machine::new(
+        "AdrcRate",
+        &[ADRC_GAINS, ADRC_GAINS, ADRC_GAINS].concat(),
+        |i| adrc::adrcrate_new(i.get(), i.get(), i.get()),
+        |i| their_adrc::AdrcRate::new(i.get()),
+    )
+    .event(
+        "tick",
+        300,
+        &[RATES, RATES, Part::Step],
+        |rate, i, o| {
+            let answer = adrc::adrcrate_tick(rate, i.get(), i.get(), i.get());
+            answer.torque.put(o);
+            adrc::adrcrate_disturbance(answer.rate).put(o);
+            answer.rate
+        },
+        |rate, i, o| {
+            rate.tick(i.get(), i.get(), i.get()).put(o);
+            rate.disturbance().put(o);
+        },
+    )
+    .near(|_, rng, words| words[6] = rng.near_one(&[1e-4, 0.1, 1e-3]))
+    .event(
+        "set_delivered_fraction",
+        100,
+        &[Part::Vector(1.5)],
+        |rate, i, _| adrc::adrcrate_set_delivered_fraction(rate, i.get()),
+        |rate, i, _| rate.set_delivered_fraction(i.get()),
+    )
+    .event("reset", 1, &[], |rate, _, _| adrc::adrcrate_reset(rate), |rate, _, _| rate.reset())
 }
 
 pub fn biquad() -> Machine<adrc::Biquad, their_adrc::Biquad> {
-    Machine {
-        name: "Biquad",
-        set_up: vec![Part::Above(500.0), Part::Above(2000.0)],
-        ours: |i| adrc::biquad_lowpass(i.get(), i.get()),
-        theirs: |i| their_adrc::Biquad::lowpass(i.get(), i.get()),
-        events: vec![Event {
-            name: "filter",
-            weight: 1,
-            takes: vec![RATE],
-            edge: Some(|_, rng, words| words[0] = rng.near_one(&[0.0, 0.0, 1e30])),
-            ours: |filter, i, o| {
-                let answer = adrc::biquad_filter(filter, i.get());
-                answer.y.put(o);
-                answer.biquad
-            },
-            theirs: |filter, i, o| filter.filter(i.get()).put(o),
-        }],
-    }
+    Machine::new(
+        "Biquad",
+        &[Part::Above(500.0), Part::Above(2000.0)],
+        |i| adrc::biquad_lowpass(i.get(), i.get()),
+        |i| their_adrc::Biquad::lowpass(i.get(), i.get()),
+    )
+    .event(
+        "filter",
+        1,
+        &[RATE],
+        |filter, i, o| {
+            let answer = adrc::biquad_filter(filter, i.get());
+            answer.y.put(o);
+            answer.biquad
+        },
+        |filter, i, o| filter.filter(i.get()).put(o),
+    )
+    .near(|_, rng, words| words[0] = rng.near_one(&[0.0, 0.0, 1e30]))
 }
 
 pub fn gyro_lpf() -> Machine<adrc::GyroLpf, their_adrc::GyroLpf> {
-    Machine {
-        name: "GyroLpf",
-        set_up: vec![Part::Above(500.0), Part::Above(2000.0)],
-        ours: |i| adrc::gyrolpf_new(i.get(), i.get()),
-        theirs: |i| their_adrc::GyroLpf::new(i.get(), i.get()),
-        events: vec![Event {
-            name: "filter",
-            weight: 1,
-            takes: vec![RATES],
-            edge: None,
-            ours: |filter, i, o| {
-                let answer = adrc::gyrolpf_filter(filter, i.get());
-                answer.rate.put(o);
-                answer.lpf
-            },
-            theirs: |filter, i, o| filter.filter(i.get()).put(o),
-        }],
-    }
+    Machine::new(
+        "GyroLpf",
+        &[Part::Above(500.0), Part::Above(2000.0)],
+        |i| adrc::gyrolpf_new(i.get(), i.get()),
+        |i| their_adrc::GyroLpf::new(i.get(), i.get()),
+    )
+    .event(
+        "filter",
+        1,
+        &[RATES],
+        |filter, i, o| {
+            let answer = adrc::gyrolpf_filter(filter, i.get());
+            answer.rate.put(o);
+            answer.lpf
+        },
+        |filter, i, o| filter.filter(i.get()).put(o),
+    )
 }
 
 pub fn command_filter() -> Machine<adrc::CommandFilter, their_adrc::CommandFilter> {
-    Machine {
-        name: "CommandFilter",
-        set_up: vec![Part::Above(20.0), Part::Above(10.0), Part::Above(50.0)],
-        ours: |i| adrc::commandfilter_new(i.get(), i.get(), i.get()),
-        theirs: |i| their_adrc::CommandFilter::new(i.get(), i.get(), i.get()),
-        events: vec![
-            Event {
-                name: "step",
-                weight: 400,
-                takes: vec![RATE, Part::Step],
-                edge: Some(|_, rng, words| words[1] = rng.near_one(&[1e-4, 0.1, 1e-3])),
-                ours: |filter, i, o| {
-                    let answer = adrc::commandfilter_step(filter, i.get(), i.get());
-                    answer.y.put(o);
-                    adrc::commandfilter_value(answer.filter).put(o);
-                    adrc::commandfilter_rate(answer.filter).put(o);
-                    answer.filter
-                },
-                theirs: |filter, i, o| {
-                    filter.step(i.get(), i.get()).put(o);
-                    filter.value().put(o);
-                    filter.rate().put(o);
-                },
-            },
-            Event {
-                name: "reset",
-                weight: 1,
-                takes: vec![],
-                edge: None,
-                ours: |filter, _, _| adrc::commandfilter_reset(filter),
-                theirs: |filter, _, _| filter.reset(),
-            },
-        ],
-    }
+    Machine::new(
+        "CommandFilter",
+        &[Part::Above(20.0), Part::Above(10.0), Part::Above(50.0)],
+        |i| adrc::commandfilter_new(i.get(), i.get(), i.get()),
+        |i| their_adrc::CommandFilter::new(i.get(), i.get(), i.get()),
+    )
+    .event(
+        "step",
+        400,
+        &[RATE, Part::Step],
+        |filter, i, o| {
+            let answer = adrc::commandfilter_step(filter, i.get(), i.get());
+            answer.y.put(o);
+            adrc::commandfilter_value(answer.filter).put(o);
+            adrc::commandfilter_rate(answer.filter).put(o);
+            answer.filter
+        },
+        |filter, i, o| {
+            filter.step(i.get(), i.get()).put(o);
+            filter.value().put(o);
+            filter.rate().put(o);
+        },
+    )
+    .near(|_, rng, words| words[1] = rng.near_one(&[1e-4, 0.1, 1e-3]))
+    .event("reset", 1, &[], |filter, _, _| adrc::commandfilter_reset(filter), |filter, _, _| filter.reset())
 }
 
 pub fn command_filter_3() -> Machine<adrc::CommandFilter3, their_adrc::CommandFilter3> {
-    Machine {
-        name: "CommandFilter3",
-        set_up: vec![Part::Above(20.0), Part::Above(10.0), Part::Above(50.0)],
-        ours: |i| adrc::commandfilter3_new(i.get(), i.get(), i.get()),
-        theirs: |i| their_adrc::CommandFilter3::new(i.get(), i.get(), i.get()),
-        events: vec![
-            Event {
-                name: "step",
-                weight: 400,
-                takes: vec![RATES, Part::Step],
-                edge: Some(|_, rng, words| words[3] = rng.near_one(&[1e-4, 0.1, 1e-3])),
-                ours: |filter, i, o| {
-                    let answer = adrc::commandfilter3_step(filter, i.get(), i.get());
-                    answer.y.put(o);
-                    answer.filter
-                },
-                theirs: |filter, i, o| filter.step(i.get(), i.get()).put(o),
-            },
-            Event {
-                name: "reset",
-                weight: 1,
-                takes: vec![],
-                edge: None,
-                ours: |filter, _, _| adrc::commandfilter3_reset(filter),
-                theirs: |filter, _, _| filter.reset(),
-            },
-        ],
-    }
+    Machine::new(
+        "CommandFilter3",
+        &[Part::Above(20.0), Part::Above(10.0), Part::Above(50.0)],
+        |i| adrc::commandfilter3_new(i.get(), i.get(), i.get()),
+        |i| their_adrc::CommandFilter3::new(i.get(), i.get(), i.get()),
+    )
+    .event(
+        "step",
+        400,
+        &[RATES, Part::Step],
+        |filter, i, o| {
+            let answer = adrc::commandfilter3_step(filter, i.get(), i.get());
+            answer.y.put(o);
+            answer.filter
+        },
+        |filter, i, o| filter.step(i.get(), i.get()).put(o),
+    )
+    .near(|_, rng, words| words[3] = rng.near_one(&[1e-4, 0.1, 1e-3]))
+    .event("reset", 1, &[], |filter, _, _| adrc::commandfilter3_reset(filter), |filter, _, _| filter.reset())
 }

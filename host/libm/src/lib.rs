@@ -1,4 +1,4 @@
-//! What the published relay-math asks of libm, by the standard library's own functions.
+//! What the published Rust asks of libm, by the standard library's own functions.
 //! The root and the absolute value are fixed by IEEE 754, so there is nothing to choose; the others are not compared with anything here.
 
 pub fn sqrtf(x: f32) -> f32 {

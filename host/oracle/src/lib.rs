@@ -2,26 +2,15 @@
 //! and `from_words` on each type that has private fields. build.rs puts them together.
 //!
 //! The numbers that the published text asks for stand here, under the name that it knows them by. Sine and cosine are ours, by the exported
-//! calls (document 01: "the oracle build uses those angle functions"); the root and the absolute value are IEEE 754's, by the standard library.
+//! calls (document 01: "the oracle build uses those angle functions"); the root and the absolute value are IEEE 754's, by the standard library;
+//! `atan2f` is called only by what is not ported.
 
 extern crate self as relay_math;
 
 include!(concat!(env!("OUT_DIR"), "/modules.rs"));
 
 pub use faces::{cosf, sinf};
-
-pub fn sqrtf(x: f32) -> f32 {
-    x.sqrt()
-}
-
-pub fn fabsf(x: f32) -> f32 {
-    x.abs()
-}
-
-/// Only the parts of 003 that are not ported call this.
-pub fn atan2f(y: f32, x: f32) -> f32 {
-    y.atan2(x)
-}
+pub use libm::{atan2f, fabsf, sqrtf};
 
 #[cfg(test)]
 mod tests {

@@ -1,6 +1,7 @@
 //! A short table: our roots, sines and cosines beside the hardware's and document 01's.
 
 use compare::exact;
+use compare::joint::bytes::canonical;
 
 fn main() {
     println!("        x |     root  hardware  nearest f32 by document 01");
@@ -23,14 +24,5 @@ fn main() {
         } else {
             println!("{x:9.3e} | {s:11.8}     (not served)              | {c:11.8}     (not served)");
         }
-    }
-}
-
-/// All NaNs alike.
-fn canonical(x: f32) -> u32 {
-    if x.is_nan() {
-        0x7fc0_0000
-    } else {
-        x.to_bits()
     }
 }

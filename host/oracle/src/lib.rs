@@ -7,6 +7,32 @@
 
 extern crate self as relay_math;
 
+/// `words` and `from_words` of a struct of floats, and of one of three axes.
+macro_rules! words {
+    ($kind:ident[$count:literal] { $($field:ident),* }) => {
+        impl $kind {
+            pub fn words(&self) -> [f32; $count] {
+                [$(self.$field),*]
+            }
+
+            pub fn from_words([$($field),*]: [f32; $count]) -> Self {
+                $kind { $($field),* }
+            }
+        }
+    };
+    ($kind:ident of $axis:ident[$count:literal]) => {
+        impl $kind {
+            pub fn words(&self) -> [[f32; $count]; 3] {
+                [self.axes[0].words(), self.axes[1].words(), self.axes[2].words()]
+            }
+
+            pub fn from_words(w: [[f32; $count]; 3]) -> Self {
+                $kind { axes: w.map($axis::from_words) }
+            }
+        }
+    };
+}
+
 include!(concat!(env!("OUT_DIR"), "/modules.rs"));
 
 pub use faces::{cosf, sinf};

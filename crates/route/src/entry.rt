@@ -11,7 +11,7 @@ ghost use Rattle.outcome.specs.Outcomes.{left, lent};
 ghost use Rattle.route.specs.Entry.{routeRefusal, routeCall};
 
 // What a route tick would be refused for.
-pub fn route_refusal(image: &[u8], input_len: usize, answer_len: usize, route: &[u8]) -> Outcome
+fn route_refusal(image: &[u8], input_len: usize, answer_len: usize, route: &[u8]) -> Outcome
     ensures { λ r. ⌜ r ≡ routeRefusal (now (image .entry)) «input_len» «answer_len» (now (route .entry)) ⌝ }
 {
     let tick = calls::tick_refusal(image, input_len, answer_len);

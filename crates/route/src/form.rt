@@ -11,14 +11,14 @@ ghost use lib.ListN.{length};
 ghost use Rattle.route.specs.Form.{LEG-BYTES, TRAILER-BYTES, countOf, backOf, vecsMeet, legsMeet, allMeet, formRefusal};
 
 // The limit: everything but the check is over any count.
-pub const MOST_LEGS: usize = 8;
+const MOST_LEGS: usize = 8;
 
-pub const LEG_BYTES: usize = 4 * LEG_WORDS;
+const LEG_BYTES: usize = 4 * LEG_WORDS;
 
-pub const TRAILER_BYTES: usize = 8;
+const TRAILER_BYTES: usize = 8;
 
 // The trailer is the last 8 bytes, whatever the length.
-pub fn leg_count(route: &[u8]) -> usize
+pub(crate) fn leg_count(route: &[u8]) -> usize
     requires { ⌜ TRAILER-BYTES ≤ length (now route) ⌝ }
     ensures { λ r. ⌜ r ≡ countOf (now (route .entry)) ⌝ }
 {
@@ -33,7 +33,7 @@ fn bytes_back(route: &[u8]) -> usize
 }
 
 // As numbers: -0.0 meets 0.0, and a NaN meets nothing.
-pub fn vecs_meet(v: Vec3, w: Vec3) -> bool
+fn vecs_meet(v: Vec3, w: Vec3) -> bool
     ensures { λ r. ⌜ r ≡ vecsMeet v w ⌝ }
 {
     if v.0 == w.0 {
@@ -43,7 +43,7 @@ pub fn vecs_meet(v: Vec3, w: Vec3) -> bool
     }
 }
 
-pub fn legs_meet(earlier: Leg, later: Leg) -> bool
+fn legs_meet(earlier: Leg, later: Leg) -> bool
     ensures { λ r. ⌜ r ≡ legsMeet earlier later ⌝ }
 {
     if vecs_meet(later.p0, earlier.pf) {
@@ -58,7 +58,7 @@ pub fn legs_meet(earlier: Leg, later: Leg) -> bool
 }
 
 // Whether each of the legs but the first meets the one before it.
-pub fn all_meet(route: &[u8], count: usize) -> bool
+fn all_meet(route: &[u8], count: usize) -> bool
     requires { ⌜ LEG-BYTES * count ≤ length (now route) ⌝ }
     ensures { λ r. ⌜ r ≡ allMeet (now (route .entry)) count ⌝ }
 {
@@ -75,7 +75,7 @@ pub fn all_meet(route: &[u8], count: usize) -> bool
 }
 
 // What a route is refused for. The count is tested before it is multiplied: 76 times 2^30 is 0 in 32 bits.
-pub fn form_refusal(route: &[u8]) -> Outcome
+pub(crate) fn form_refusal(route: &[u8]) -> Outcome
     ensures { λ r. ⌜ r ≡ formRefusal (now (route .entry)) ⌝ }
 {
     let length = route.len();

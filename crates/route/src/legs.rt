@@ -18,7 +18,7 @@ pub struct Flown {
     pub at: f32,
 }
 
-pub fn duration_of(route: &[u8], i: usize) -> f32
+fn duration_of(route: &[u8], i: usize) -> f32
     requires { ⌜ LEG-BYTES * i + LEG-BYTES ≤ length (now route) ⌝ }
     ensures { λ r. ⌜ r ≡ durationOf (now (route .entry)) i ⌝ }
 {
@@ -27,7 +27,7 @@ pub fn duration_of(route: &[u8], i: usize) -> f32
 }
 
 // The first leg whose end is above the time, at the time less the end before it; past all ends the last leg, at its duration.
-pub fn leg_flown(route: &[u8], count: usize, time: f32) -> Flown
+fn leg_flown(route: &[u8], count: usize, time: f32) -> Flown
     requires { ⌜ (0 < count) × (LEG-BYTES * count ≤ length (now route)) ⌝ }
     ensures { λ r. ⌜ r ≡ flown (now (route .entry)) count time ⌝ }
 {
@@ -59,7 +59,7 @@ fn reference_of(route: &[u8], i: usize, at: f32) -> Reference
     reference_at(segment_of(leg), at)
 }
 
-pub fn reference_on(route: &[u8], count: usize, time: f32) -> Reference
+pub(crate) fn reference_on(route: &[u8], count: usize, time: f32) -> Reference
     requires { ⌜ (0 < count) × (LEG-BYTES * count ≤ length (now route)) ⌝ }
     ensures { λ r. ⌜ r ≡ referenceOn (now (route .entry)) count time ⌝ }
 {

@@ -3,17 +3,4 @@ mod entry; // entry.rt: the route tick on lent bytes, and what it refuses
 mod form; // form.rt: how a route stands in bytes, and which are refused
 mod legs; // legs.rt: the leg flown
 
-pub use entry::route_refusal;
 pub use entry::route_tick;
-pub use form::LEG_BYTES;
-pub use form::MOST_LEGS;
-pub use form::TRAILER_BYTES;
-pub use form::all_meet;
-pub use form::form_refusal;
-pub use form::leg_count;
-pub use form::legs_meet;
-pub use form::vecs_meet;
-pub use legs::Flown;
-pub use legs::duration_of;
-pub use legs::leg_flown;
-pub use legs::reference_on;

@@ -6,9 +6,10 @@
 
 use crate::generate::{self, Kind, Part, Rng};
 use crate::joint::bytes::{canonical, put, word, ANSWER, IMAGE, LEG, SETUP, TICK};
-use crate::joint::model::Flight;
-use crate::joint::refusal;
-use crate::joint::route::Route;
+use crate::joint::fault::Fault;
+use crate::joint::lent::Lending;
+use crate::joint::model::{self, Flight};
+use crate::joint::{self, refusal};
 use crate::log::{self, RECORD};
 use crate::routine::Routine;
 use crate::table;
@@ -341,17 +342,8 @@ fn damage(rng: &mut Rng, image: &mut [u8]) {
 }
 
 fn tick(image: &mut [u8], input: &[u8], route: Option<&[u8]>, answer: &mut [u8]) -> u32 {
-    let number = match route {
-        Some(route) => refusal::of_route_tick(image, input.len(), route, answer.len()),
-        None => refusal::of_tick(image, input.len(), answer.len()),
-    };
-    if number == 0 {
-        let mut flight = Flight::from_image(image);
-        flight.toward = route.map(Route::of);
-        flight.tick(input, answer);
-        flight.write(image);
-    }
-    number
+    let call = if route.is_some() { joint::Call::RouteTick } else { joint::Call::Tick };
+    model::call(Fault::None, call, &mut Lending { image, input, route: route.unwrap_or_default(), answer })
 }
 
 /// Legs that meet, of one kind, as far as it has numbers that do; one of them, or none, ends at this time or next to it, and those

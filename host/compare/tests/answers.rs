@@ -1,6 +1,7 @@
 //! The stored list that the program `replay` runs again, and that the program sees what is wrong with a list.
 
 use compare::answers::{self, Section};
+use compare::joint::fault::Fault;
 use compare::joint::route::Route;
 use std::fs::{self, File};
 use std::path::{Path, PathBuf};
@@ -80,8 +81,8 @@ fn the_route_ticks_are_on_every_part_of_a_route() {
         // image, input and answer, each after two words of sizes
         let route = &row.given[2 + 96 + 2 + 18 + 2 + 11..];
         let bytes: Vec<u8> = route[2..].iter().flat_map(|word| word.to_le_bytes()).take(route[1] as usize).collect();
-        let (route, time) = (Route::of(&bytes), f32::from_bits(row.answer[ANSWER + 7]));
-        let place = route.place(time);
+        let (route, time) = (Route::of(Fault::None, &bytes), f32::from_bits(row.answer[ANSWER + 7]));
+        let place = route.place(Fault::None, time);
         let is = [!place.past && place.leg == 0, !place.past && place.leg > 0, route.ends.contains(&time), place.past];
         seen.iter_mut().zip(is).for_each(|(n, is)| *n += usize::from(is));
     }

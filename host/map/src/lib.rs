@@ -139,25 +139,17 @@ const MODULES: [Module; 5] = [
 ];
 
 /// Ours without a Rust original: crate, function, what it is.
-const ADDED: [(&str, &str, &str); 20] = [
+const ADDED: [(&str, &str, &str); 12] = [
     ("joint_tick", "set_up", "set-up over values"),
     ("joint_tick", "prepare", "the tick's first stage: fractions, gyro filter, governor"),
     ("joint_tick", "reference_at", "the second: where the trajectory is"),
-    ("joint_tick", "guide", "the third: attitudes, fallback, psi, margin"),
-    ("joint_tick", "observe", "the rate controller's observers, which go before the third"),
-    ("joint_tick", "finish", "the fourth: shield, rate controller"),
-    ("joint_tick", "tick", "all four"),
+    ("joint_tick", "finish", "the third: observers, attitudes, fallback, psi, margin; shield; rate controller"),
     ("calls", "setup", "set-up on lent bytes"),
     ("calls", "tick", "the joint tick on lent bytes"),
     ("calls", "tick_refusal", "what a tick would be refused for"),
     ("fosavalo", "fosavalo_setup", "the C call"),
     ("fosavalo", "fosavalo_tick", "the C call"),
     ("fosavalo", "fosavalo_tick_refusal", "the C call"),
-    ("route", "form_refusal", "what a route is refused for"),
-    ("route", "legs_meet", "whether a leg starts where the one before it ends"),
-    ("route", "leg_flown", "which leg is flown at a time, and the time on it"),
-    ("route", "reference_on", "where the route is"),
-    ("route", "route_refusal", "what a route tick would be refused for"),
     ("route", "route_tick", "the joint tick on a route, on lent bytes"),
     ("fosavalo", "fosavalo_route_tick", "the C call"),
 ];

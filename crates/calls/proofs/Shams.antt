@@ -8,7 +8,6 @@ use native.Mathlib.Nat.{suc-ne-zero}
 use lib.ListN.{length, replicate}
 use lib.Ieee.{nan, ofBits}
 use Rattle.words.specs.Words.{word, float, flag}
-use Rattle.relay_geo.specs.declared.shield.SimplexShield.{SimplexShield}
 use Rattle.relay_geo.specs.Shield.{newShield}
 use Rattle.joint_tick.specs.declared.state.State.{State}
 use Rattle.joint_tick.specs.declared.stages.Ticked.{Ticked}
@@ -21,7 +20,7 @@ use Rattle.outcome.specs.Outcomes.{left, Filled, lent, Called}
 use Rattle.image.specs.Layout.{COUNT, ENGAGED, FLAG, SETUP-BYTES, INPUT-BYTES}
 use Rattle.image.specs.Image.{stateAt, imageOf}
 use Rattle.image.specs.Inputs.{setupAt, inputAt, answerOf}
-use Rattle.calls.specs.Entry.{setUpRefusal, tickRefusal, onSegment, tickFrom, setUpCall, tickCall}
+use Rattle.calls.specs.Entry.{setUpRefusal, onSegment, tickFrom, setUpCall, tickCall}
 use Rattle.calls.specs.Ticks.{Accepted}
 use Rattle.calls.specs.Shams.{Program, Keeps, RefusesSetUps, RefusesTicks, AnswersOnly, LeavesSetUp, LeavesTicked, blankAnswer, blankImage, ran, answered, EchoesAfter, levelSetUp, levelInput, lostInput}
 use Rattle.image.proofs.Decoded.{count-written, engaged-written, decode-encode}

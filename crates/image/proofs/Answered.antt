@@ -1,7 +1,6 @@
 -- The answer's words. Assumes nothing.
 use mathlib.Core.Path.{_≡_, refl, ap, _∙_}
-use mathlib.Core.List.{List}
-use Prim.Native.Nat.{ℕ, _+_}
+use Prim.Native.Nat.{_+_}
 use lib.ListN.{length}
 use Rattle.words.specs.Words.{word, float, vec, bits, flag, Holds}
 use Rattle.words.proofs.Back.{word-back, bits-back, float-back, vec-back, flag-lt}

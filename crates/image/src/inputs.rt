@@ -6,8 +6,6 @@ use super::layout::DT;
 use super::layout::FLAG;
 use super::layout::FRACTION;
 use super::layout::GYRO;
-use super::layout::MARGIN;
-use super::layout::PSI;
 use super::layout::QUAT;
 use super::layout::SETUP_ADRC;
 use super::layout::SETUP_BAND;

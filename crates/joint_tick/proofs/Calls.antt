@@ -3,12 +3,9 @@ use mathlib.Core.Path.{_≡_, refl}
 use mathlib.Core.Bool.{true, false}
 use lib.Ieee.{Float, nan, inf, fin, eq, ofBits}
 use Rattle.relay_math.specs.F32.{_⊗_, 0·0, isFinite, finiteOr}
-use Rattle.relay_math.specs.declared.Vec3.{Vec3}
-use Rattle.relay_math.specs.declared.BodyRate.{BodyRate}
 use Rattle.laws.proofs.Tests.{no}
 use Rattle.relay_adrc.specs.declared.gains.AdrcGains.{AdrcGains}
 use Rattle.relay_adrc.specs.declared.axis.AdrcAxis.{AdrcAxis}
-use Rattle.relay_adrc.specs.declared.rate.AdrcRate.{AdrcRate}
 use Rattle.relay_adrc.specs.Axis.{mendDt, lag, deliveredFraction, axisSetDeliveredFraction}
 use Rattle.relay_adrc.specs.Rate.{rateTick}
 use Rattle.relay_adrc.proofs.Tick.{fraction-scales-the-command-before}

@@ -1,6 +1,5 @@
 // The reference governor (001): a clock for the trajectory that runs slower as the craft falls behind.
 ghost use mathlib.Core.Path.{_≡_};
-ghost use Rattle.relay_math.specs.F32.{0·0};
 ghost use Rattle.relay_traj.specs.Governor.{lowEnd, clampTo, ramp, noBand, gateFactor, governor, gate, movedBy, advance, reset};
 
 // s is the governed time in seconds; the gate falls from 1 to g_min as the tracking error goes from err_lo to err_hi.

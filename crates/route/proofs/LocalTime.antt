@@ -1,9 +1,9 @@
 -- A time below a sum, less what was added to, lies within 0 and what was added: no f32 lies between a sum and its rounding. Assumes nothing.
-use mathlib.Core.Path.{_≡_, refl, sym, ap, _∙_, subst}
+use mathlib.Core.Path.{_≡_, refl, sym, _∙_, subst}
 use mathlib.Core.Logic.{inl, inr}
 use mathlib.Core.Bool.{Bool, true, false, cond}
 use Prim.Native.Nat.{ℕ, zero, suc, _+_, _-_, _*_, _/_, _%_, _^_, _≤_, _<_, compare}
-use native.Mathlib.Nat.{zero-mul, mul-pos, mul-comm, mul-assoc, mul-left-comm, add-mul, mul-sub, le-of-lt}
+use native.Mathlib.Nat.{mul-pos, mul-comm, mul-assoc, mul-left-comm, add-mul, mul-sub, le-of-lt}
 use native.Mathlib.Omega.{arith}
 use borrow.Author.Tests.{le-ltb, ltb-false}
 use lib.Dec.{T, ltb}
@@ -14,7 +14,6 @@ use lib.Ieee.Order.{round-mono}
 use lib.Ieee.Positive.{above-of-le}
 use Rattle.relay_math.specs.F32.{_⊕_, _⊖_, 0·0, 1e-3, isFinite, unsigned, Within}
 use Rattle.laws.proofs.Tests.{no, le-or-lt}
-use Rattle.relay_math.proofs.Signs.{is-below}
 use Rattle.relay_math.proofs.Order.{le-trans, not-lt-of-le}
 use Rattle.relay_math.proofs.Sums.{round-zero, round-own, round-above}
 use Rattle.relay_traj.specs.Quintic.{Lasts}

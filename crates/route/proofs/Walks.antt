@@ -1,14 +1,13 @@
 -- One turn of each walk over a route's legs. Assumes nothing.
-use mathlib.Core.Path.{_≡_, refl, sym, ap, _∙_}
+use mathlib.Core.Path.{_≡_}
 use mathlib.Core.Bool.{Bool, true, false, _&&_}
 use mathlib.Core.List.{List}
-use Prim.Native.Nat.{ℕ, zero, suc, _+_, _-_, _<_, _≤_}
+use Prim.Native.Nat.{ℕ, suc, _+_, _-_, _<_, _≤_}
 use native.Mathlib.Numerals.{add-one}
 use native.Mathlib.Omega.{arith}
 use lib.Ieee.{Float, lt}
 use Rattle.relay_math.specs.F32.{_⊕_, _⊖_}
 use Rattle.joint_tick.specs.declared.state.Leg.{Leg}
-use Rattle.route.specs.declared.legs.Flown.{Flown}
 use Rattle.route.specs.Form.{legOf, legsMeet, meetFrom}
 use Rattle.route.specs.Legs.{durationOf, flownFrom}
 

@@ -6,7 +6,6 @@ use Prim.Native.Nat.{ℕ}
 use lib.Ieee.{Float}
 use Rattle.words.specs.Words.{word, flag}
 use Rattle.latch.specs.Latch.{releases, engages, latch}
-use Rattle.relay_geo.specs.declared.shield.SimplexShield.{SimplexShield}
 use Rattle.relay_geo.proofs.Steps.{released-only-above-exit, above-exit-releases, engaged-by, released-stays-in-band, engaged-stays-in-band}
 use Rattle.joint_tick.specs.Tick.{stateAfter}
 use Rattle.joint_tick.proofs.Shielding.{tick-keeps-flag}
@@ -18,7 +17,7 @@ use Rattle.calls.specs.Ticks.{shieldOf}
 use Rattle.calls.proofs.Going.{flag-of-image}
 use Rattle.runs.specs.Runs.{Tick, Call, Ticks, tickOf, leftBy, sourceOn, guided, start, imageAfter, Right}
 use Rattle.runs.specs.DemandThree.{enterOf, exitOf, flagOf, InBand}
-use Rattle.runs.proofs.Shown.{flag-zero, flag-one, done, tick-done, flag-shown}
+use Rattle.runs.proofs.Shown.{flag-zero, flag-one, tick-done, flag-shown}
 use Rattle.runs.proofs.Going.{start-accepted, start-engaged, thresholds-in-order, ran, latched}
 
 in-band : (enter exit m : Float) → InBand enter exit m → (b : Bool) → latch enter exit b m ≡ b

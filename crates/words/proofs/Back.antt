@@ -1,14 +1,14 @@
 -- Laws of read words, for callers: what was written is read again, and what is read is written again but for a NaN's other patterns. Assumes nothing.
-use mathlib.Core.Path.{_≡_, refl, sym, ap, subst, _∙_}
+use mathlib.Core.Path.{_≡_, refl, sym, ap, _∙_}
 use mathlib.Core.Bool.{Bool, true, false, not}
 use mathlib.Core.List.{List, [], _∷_, _++_}
-use Prim.Native.Nat.{ℕ, zero, suc, _+_, _*_, _/_, _%_, _≤_, _<_}
+use Prim.Native.Nat.{ℕ, zero, suc, _+_, _*_, _/_, _%_, _<_}
 use native.Mathlib.Nat.{add-zero, add-assoc, suc-add, mod-lt, mod-eq-of-lt, mod-add-div', div-div-eq-div-mul, add-mul-mod-self-right}
 use native.Mathlib.Omega.{arith}
 use lib.Dec.{T, eqb, ltb, ltb→lt, lit<}
 use lib.ListN.{length, getD, take, drop}
 use lib.Seq.{getD-take, getD-drop, getD-append-add}
-use lib.Ieee.{Float, nan, binary32, isNan, fits, ofBits}
+use lib.Ieee.{Float, nan, binary32, isNan, fits}
 use lib.Ieee.Fits.{nan-fits}
 use lib.Ieee.Bits.{ofBits-toBits, toBits-lt, toBits-ofBits, ofBits-fits}
 use Rattle.relay_math.specs.declared.Vec3.{Vec3}

@@ -22,9 +22,6 @@ vec-at-once κs a x y v w p q = (no-second p q, refl)
 pub put-word-once : OneAnswer write.put_word.ended write.put_word.Reads.Post
 put-word-once κs a x y v w p q = (refl, both (no-second (p .is) (q .is)) refl)
 
-pub bits-of-once : OneAnswer write.bits_of.ended write.bits_of.Reads.Post
-bits-of-once κs a x y v w p q = (no-second p q, refl)
-
 pub put-flag-once : OneAnswer write.put_flag.ended write.put_flag.Reads.Post
 put-flag-once κs a x y v w p q = (refl, both (no-second (p .is) (q .is)) refl)
 

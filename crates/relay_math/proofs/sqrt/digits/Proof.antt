@@ -1,11 +1,10 @@
 -- `sqrt::digits`: a subnormal is shifted up to 24 digits, by its count of leading zeros; any other has its fields. Assumes nothing.
 use borrow.Author.Needs.{needs}
 use mathlib.Core.Path.{_≡_, refl}
-use mathlib.Core.Bool.{false}
-use Prim.Native.Nat.{ℕ, suc, _+_, _-_, _*_, _%_, _^_, _<_, _≤_}
+use Prim.Native.Nat.{ℕ, suc, _+_, _-_, _*_, _%_, _^_, _<_}
 use native.Mathlib.Omega.{arith}
 use lib.Count.{leadingZeros}
-use lib.Ieee.{Float, fin, binary32, ofBits, toBits}
+use lib.Ieee.{Float, binary32, toBits}
 use Rattle.relay_math.specs.F32.{grains}
 use Rattle.relay_math.proofs.Signs.{of-positive}
 use Rattle.relay_math.proofs.Grains.{reads}

@@ -1,7 +1,7 @@
 -- `sqrt::root_bits`: m shifted so that its exponent is even has 47 or 48 digits, and its root 24. Assumes nothing.
 use borrow.Author.Needs.{needs}
 use mathlib.Core.Path.{_≡_}
-use Prim.Native.Nat.{ℕ, _+_, _-_, _*_, _/_, _%_, _^_, _≤_, _<_}
+use Prim.Native.Nat.{ℕ, _+_, _-_, _*_, _/_, _%_, _^_, _≤_}
 use native.Mathlib.Omega.{arith}
 use Rattle.relay_math.proofs.Root.{Scaled, M, E, under, half, under-size, as-product, closest-read}
 use Rattle.relay_math.proofs.sqrt.root_bits.Statement.{statement}

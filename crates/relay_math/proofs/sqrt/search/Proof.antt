@@ -1,6 +1,5 @@
 -- `sqrt::search`: the first loop leaves r with r * r < n + r, which the second keeps. Assumes nothing.
-use borrow.Author.Needs.{needs}
-use Prim.Native.Nat.{ℕ, _+_, _-_, _*_, _^_, _≤_, _<_}
+use Prim.Native.Nat.{_+_, _-_, _*_, _^_, _≤_, _<_}
 use native.Mathlib.Omega.{arith}
 use Rattle.relay_math.proofs.Squares.{square-le, some, capped, next}
 use Rattle.relay_math.proofs.sqrt.search.Statement.{statement}

@@ -1,12 +1,12 @@
 -- `sqrt::sqrtf_near_one`: what `near-one` says of the numbers that the test takes. Assumes nothing.
 use borrow.Author.Needs.{needs}
 use borrow.Author.Tests.{le-ltb}
-use mathlib.Core.Path.{_≡_, refl}
-use mathlib.Core.Bool.{true, false}
-use Prim.Native.Nat.{ℕ, suc, _+_, _*_, _/_, _%_, _^_, _<_}
+use mathlib.Core.Path.{_≡_}
+use mathlib.Core.Bool.{true}
+use Prim.Native.Nat.{suc, _+_, _*_, _/_, _%_, _^_, _<_}
 use native.Mathlib.Omega.{arith}
 use lib.Dec.{T}
-use lib.Ieee.{Float, fin, binary32, fits, ofBits, toBits, lt}
+use lib.Ieee.{Float, binary32, fits, ofBits, toBits, lt}
 use lib.Ieee.Bits.{nanBits-above, toBits-lt}
 use Rattle.relay_math.specs.Steps.{Zero}
 use Rattle.relay_math.specs.Sqrt.{sqrtf}

@@ -13,7 +13,7 @@ use Rattle.outcome.proofs.Tables.{either}
 use Rattle.log.specs.Form.{RECORD-BYTES, emptyLog, fromEnd, countOf, isLog}
 use Rattle.log.specs.Records.{bytesAt, recordsFrom, records, hasRecord, recordAt, placeAfter, handedOut}
 use Rattle.log.specs.Entry.{appendRefusal, appendCall}
-use Rattle.log.specs.Runs.{Held, logIn, Given, afterOne, keptBy, afterAll, keptAlong, Accepted, recordsOf, atFirst}
+use Rattle.log.specs.Runs.{Held, logIn, Given, afterOne, keptBy, afterAll, keptAlong, NoneRefused, recordsOf, atFirst}
 use Rattle.log.proofs.Taken.{taken}
 use Rattle.log.proofs.Made.{records-of, one-more-record}
 
@@ -111,12 +111,12 @@ module _ (beyond : List ℕ) (appends : List Given) where
   pub reading-back : (k : ℕ) → handedOut log 0 (length kept + k) ≡ kept ++ replicate k []
   reading-back k = rw records-kept at (reader-hands-out log (made .0) k)
 
-kept-all : (h : Held) (appends : List Given) → Accepted h appends → keptAlong h appends ≡ recordsOf appends
-unfolding Accepted keptAlong recordsOf
+kept-all : (h : Held) (appends : List Given) → NoneRefused h appends → keptAlong h appends ≡ recordsOf appends
+unfolding NoneRefused keptAlong recordsOf
 kept-all h [] a = refl
 kept-all h (g ∷ more) a = rw (kept-all (afterOne h g) more (a .1), a .0)
 
 -- and if none was: all that was given
-pub reading-back-all : (beyond : List ℕ) (appends : List Given) → Accepted (atFirst beyond) appends → (k : ℕ)
+pub reading-back-all : (beyond : List ℕ) (appends : List Given) → NoneRefused (atFirst beyond) appends → (k : ℕ)
     → let rs = recordsOf appends in handedOut (logIn (afterAll (atFirst beyond) appends)) 0 (length rs + k) ≡ rs ++ replicate k []
 reading-back-all beyond appends a k = rw (kept-all (atFirst beyond) appends a) at (reading-back beyond appends k)

@@ -43,9 +43,9 @@ keptAlong h [] = []
 keptAlong h (g ∷ more) = keptBy h g ++ keptAlong (afterOne h g) more
 
 -- "each accepted tick kept": none of the appends is refused
-unfoldable pub Accepted : Held → List Given → Type 0
-Accepted h [] = Unit
-Accepted h (g ∷ more) = (isDone (appended h g .outcome) ≡ true) × Accepted (afterOne h g) more
+unfoldable pub NoneRefused : Held → List Given → Type 0
+NoneRefused h [] = Unit
+NoneRefused h (g ∷ more) = (isDone (appended h g .outcome) ≡ true) × NoneRefused (afterOne h g) more
 
 -- the records of what was given
 unfoldable pub recordsOf : List Given → List (List ℕ)

@@ -23,9 +23,9 @@ fn line(step: u64, bits: u32, shield: SimplexShield) -> SimplexShield {
 }
 
 fn refusal() {
-    let mut image = [0u8; 380];
-    let input = [0u8; 68];
-    let mut answer = [0u8; 40];
+    let mut image = [0u8; image::IMAGE_BYTES]; // 380 zero bytes
+    let input = [0u8; image::INPUT_BYTES];
+    let mut answer = [0u8; image::ANSWER_BYTES];
     let ended = calls::tick(&mut image, &input, &mut answer);
     io::print_decimal(STDOUT_FILENO, outcome::number(ended) as u64);
     io::write_all(STDOUT_FILENO, b"\n");

@@ -19,7 +19,8 @@ use Rattle.outcome.proofs.Tables.{done-none, same}
 use Rattle.image.specs.Layout.{IMAGE-BYTES, INPUT-BYTES, ANSWER-BYTES}
 use Rattle.image.specs.Image.{fixedAt, movingAt}
 use Rattle.image.specs.Inputs.{inputAt}
-use Rattle.calls.specs.Entry.{tickTable, tickRefusal, tickFrom, Leaves}
+use Rattle.calls.specs.Entry.{tickTable, tickRefusal, tickFrom}
+use Rattle.calls.specs.Inner.{Leaves}
 
 -- its three lengths
 pub sized : (image : List ℕ) (inputLen answerLen : ℕ) → isDone (tickRefusal image inputLen answerLen) ≡ true

@@ -1,16 +1,12 @@
 -- Set-up and tick on lent bytes: what is refused, and what each call leaves (document 01's table). Definitions only.
 use Prim.Native.Nat.{ℕ}
-use mathlib.Core.Path.{_≡_}
 use mathlib.Core.Bool.{Bool, not, _&&_, _||_}
 use mathlib.Core.List.{List, [], _∷_}
 use lib.Dec.{eqb}
 use lib.Ieee.{Float}
 use lib.ListN.{length}
 use Rattle.words.specs.Words.{word}
-use Rattle.joint_tick.specs.declared.state.Fixed.{Fixed}
-use Rattle.joint_tick.specs.declared.stages.Prepared.{Prepared}
 use Rattle.joint_tick.specs.declared.stages.Reference.{Reference}
-use Rattle.joint_tick.specs.declared.stages.Ticked.{Ticked}
 use Rattle.joint_tick.specs.SetUp.{setUp}
 use Rattle.joint_tick.specs.Tick.{referenceAt, ticked, stateAfter}
 use Rattle.joint_tick.specs.Good.{good}
@@ -67,9 +63,3 @@ onSegment image time = referenceAt (fixedAt image .segment) time
 unfoldable pub tickCall : List ℕ → List ℕ → List ℕ → Called
 unfolding tickFrom
 tickCall image input answer = tickFrom (onSegment image) (tickRefusal image (length input) (length answer)) image input answer
-
--- ---- what is written of what was fixed, prepared and done
-
-pub record Leaves (f : Fixed) (p : Prepared) (t : Ticked) (later answered : List ℕ) : Type 0 where
-  pub image : later ≡ imageOf record { fixed = f; moving = record { engaged = t .engaged; governor = p .moving .governor; rate = t .rate; lpf = p .moving .lpf } }
-  pub answer : answered ≡ answerOf (t .answer)

@@ -1,3 +1,4 @@
 pub mod Entry
+pub mod Inner
 pub mod Ticks
 pub mod Shams

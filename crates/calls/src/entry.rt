@@ -34,7 +34,8 @@ ghost use Rattle.image.specs.Layout.{SEGMENT, IMAGE-BYTES, ANSWER-BYTES};
 ghost use Rattle.image.specs.Parts.{segmentAt};
 ghost use Rattle.image.specs.Image.{movingAt, stateAt};
 ghost use Rattle.outcome.specs.Outcomes.{left, lent};
-ghost use Rattle.calls.specs.Entry.{intact, tickRefusal, Leaves, setUpCall, tickCall};
+ghost use Rattle.calls.specs.Entry.{intact, tickRefusal, setUpCall, tickCall};
+ghost use Rattle.calls.specs.Inner.{Leaves};
 
 // By the t_end of each axis of the segment.
 fn segment_lasts(image: &[u8]) -> bool

@@ -13,7 +13,8 @@ use Rattle.relay_geo.specs.declared.attitude.Feedforward.the-variants as rate
 use Rattle.relay_geo.specs.declared.controller.GeoGains.{GeoGains}
 use Rattle.relay_geo.specs.declared.set.RecoverableSet.{RecoverableSet}
 use Rattle.relay_geo.specs.Vectors.{norm, sanitise3}
-use Rattle.relay_geo.specs.Attitude.{thrustForce, thrustAttitude, tooWeak, flatnessOmegaFf, feedforwardFrom, thrustOf, feedforwardOn}
+use Rattle.relay_geo.specs.Attitude.{thrustForce, thrustAttitude, tooWeak, flatnessOmegaFf}
+use Rattle.relay_geo.specs.Inner.{feedforwardFrom, thrustOf, feedforwardOn}
 use Rattle.relay_geo.specs.Set.{minusInfinity}
 use Rattle.latch.specs.Latch.{latch}
 use Rattle.relay_geo.proofs.Accepts.{feedforward-shares}

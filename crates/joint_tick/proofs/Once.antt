@@ -11,7 +11,8 @@ use Rattle.relay_geo.specs.declared.attitude.Attitude.the-variants.{Matrix, Ref
 use Rattle.relay_geo.specs.declared.controller.GeoGains.{GeoGains}
 use Rattle.relay_geo.specs.declared.set.RecoverableSet.{RecoverableSet}
 use Rattle.relay_geo.specs.Vectors.{sanitise3}
-use Rattle.relay_geo.specs.Attitude.{quatToRotmat, thrustAttitude, thrustOf, attitudeOn, feedforwardOn}
+use Rattle.relay_geo.specs.Attitude.{quatToRotmat, thrustAttitude}
+use Rattle.relay_geo.specs.Inner.{thrustOf, attitudeOn, feedforwardOn}
 use Rattle.relay_geo.specs.Controller.{rateToward, desiredRate}
 use Rattle.relay_geo.specs.Set.{margin}
 use Rattle.relay_geo.proofs.Accepts.{shared-attitude, shared-feedforward}
@@ -24,7 +25,8 @@ use Rattle.relay_adrc.specs.Rate.{rateTick}
 use Rattle.relay_adrc.proofs.Tick.{tick-in-halves}
 use Rattle.joint_tick.specs.declared.stages.Prepared.{Prepared}
 use Rattle.joint_tick.specs.declared.stages.Guided.{Guided}
-use Rattle.joint_tick.specs.Tick.{cleaned, plus, rateSq, psiOf, marginOf, guide, observe, followOn, picked, pick, pickOn}
+use Rattle.joint_tick.specs.Tick.{cleaned, plus, rateSq, psiOf, marginOf, guide, picked, pick}
+use Rattle.joint_tick.specs.Inner.{observe, followOn, pickOn}
 
 -- `desired_rate` cleans its acceleration, which is clean already: its R_d is the tick's
 pub one-attitude : (g : GeoGains) (q : Quat) (a : Vec3) (yaw : Float) → desiredRate g q (sanitise3 a) yaw ≡ rateToward g (quatToRotmat q) (thrustAttitude (sanitise3 a) yaw)

@@ -1,4 +1,5 @@
 pub mod SetUp
 pub mod Tick
+pub mod Inner
 pub mod Good
 pub mod Figures

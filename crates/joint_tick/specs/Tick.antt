@@ -3,9 +3,7 @@ use mathlib.Core.Bool.{cond}
 use lib.Ieee.{Float, nan, eq}
 use Rattle.relay_math.specs.declared.BodyRate.{BodyRate}
 use Rattle.relay_math.specs.F32.{_⊕_, ∞}
-use Rattle.relay_adrc.specs.declared.rate.AdrcRate.{AdrcRate}
 use Rattle.relay_adrc.specs.declared.rate.RateTick.{RateTick}
-use Rattle.relay_adrc.specs.Axis.{axisObserve, axisAct}
 use Rattle.relay_adrc.specs.Rate.{rateTick, rateSetDeliveredFraction}
 use Rattle.relay_adrc.specs.Biquad.{gyroFilter}
 use Rattle.relay_geo.specs.declared.vectors.Mat3.{Mat3}
@@ -32,7 +30,6 @@ use Rattle.joint_tick.specs.declared.state.TickInput.{TickInput}
 use Rattle.joint_tick.specs.declared.stages.Prepared.{Prepared}
 use Rattle.joint_tick.specs.declared.stages.Reference.{Reference}
 use Rattle.joint_tick.specs.declared.stages.Guided.{Guided}
-use Rattle.joint_tick.specs.declared.stages.Observed3.{Observed3}
 use Rattle.joint_tick.specs.declared.stages.Ticked.{Ticked}
 
 -- ---- the two parts of the state
@@ -122,31 +119,6 @@ unfoldable pub pick : Fixed → Prepared → Guided → Float → Ticked
 pick f p g dt =
     let shielded = picked f p g in
     together p g shielded (rateTick (p .moving .rate) (p .rate) (shielded .command) dt)
-
--- ---- the same with ADRC's tick in its two halves, of which the first needs no pick: `pick-in-halves` of proofs/Once.antt
-
-unfoldable pub observe : AdrcRate → BodyRate → Float → Observed3
-observe r measured dt =
-    record {
-      roll = axisObserve (r .roll) (measured .0 .0) dt;
-      pitch = axisObserve (r .pitch) (measured .0 .1) dt;
-      yaw = axisObserve (r .yaw) (measured .0 .2) dt;
-    }
-
-unfoldable pub followOn : AdrcRate → Observed3 → BodyRate → RateTick
-followOn r o wanted =
-    let roll = axisAct (r .roll) (o .roll) (wanted .0 .0) in
-    let pitch = axisAct (r .pitch) (o .pitch) (wanted .0 .1) in
-    let yaw = axisAct (r .yaw) (o .yaw) (wanted .0 .2) in
-    record {
-      rate = record { roll = roll .axis; pitch = pitch .axis; yaw = yaw .axis };
-      torque = record { 0 = (roll .u, pitch .u, yaw .u) };
-    }
-
-unfoldable pub pickOn : Fixed → Prepared → Observed3 → Guided → Ticked
-pickOn f p o g =
-    let shielded = picked f p g in
-    together p g shielded (followOn (p .moving .rate) o (shielded .command))
 
 -- ---- the tick, from any source of references, by the time
 

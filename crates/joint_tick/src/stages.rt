@@ -26,7 +26,8 @@ use relay_math::Torque;
 use relay_math::Vec3;
 use relay_traj::Segment3;
 ghost use mathlib.Core.Path.{_≡_};
-ghost use Rattle.joint_tick.specs.Tick.{prepare, sampleTime, referenceAt, cleaned, plus, rateSq, psiOf, guide, observe, followOn, pickOn, finish};
+ghost use Rattle.joint_tick.specs.Tick.{prepare, sampleTime, referenceAt, cleaned, plus, rateSq, psiOf, guide, finish};
+ghost use Rattle.joint_tick.specs.Inner.{observe, followOn, pickOn};
 
 // What moves, with its fractions, filters and clock moved on, the filtered rate and the governor's time.
 #[repr(C)]

@@ -6,7 +6,8 @@ use Rattle.relay_math.specs.F32.{_⊕_, _⊖_, _⊗_, 0·0, 2·0, isFinite, fin
 use Rattle.relay_math.proofs.Finite.{or-zero-finite}
 use Rattle.relay_adrc.specs.declared.axis.AdrcAxis.{AdrcAxis}
 use Rattle.relay_adrc.specs.declared.axis.AxisTick.{AxisTick}
-use Rattle.relay_adrc.specs.Axis.{10·0, mendDt, positiveOr, mendB0, lag, deliveredFraction, axisTick, axisObserve, axisAct, axisSetDeliveredFraction}
+use Rattle.relay_adrc.specs.Axis.{10·0, mendDt, positiveOr, mendB0, lag, deliveredFraction, axisTick, axisSetDeliveredFraction}
+use Rattle.relay_adrc.specs.Inner.{axisObserve, axisAct}
 
 pub record Finite (t : AxisTick) : Type 0 where
   pub z1 : T (isFinite (t .axis .z1))

@@ -1,5 +1,6 @@
 pub mod Gains
 pub mod Axis
+pub mod Inner
 pub mod Biquad
 pub mod Rate
 pub mod Filter

@@ -1,7 +1,8 @@
 // One axis of linear ADRC. An observer estimates the rate z1 and all that the nominal plant leaves out, z2; the control tracks the wanted rate and cancels z2.
 ghost use mathlib.Core.Path.{_≡_};
 ghost use Rattle.relay_math.specs.F32.{finiteOr};
-ghost use Rattle.relay_adrc.specs.Axis.{mendDt, positiveOr, mendB0, lag, deliveredFraction, axisNew, axisObserve, axisAct, axisTick, axisReset, axisSetDeliveredFraction};
+ghost use Rattle.relay_adrc.specs.Axis.{mendDt, positiveOr, mendB0, lag, deliveredFraction, axisNew, axisTick, axisReset, axisSetDeliveredFraction};
+ghost use Rattle.relay_adrc.specs.Inner.{axisObserve, axisAct};
 use crate::gains::AdrcGains;
 
 #[repr(C)]

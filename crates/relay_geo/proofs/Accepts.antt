@@ -12,7 +12,8 @@ use Rattle.relay_geo.specs.declared.attitude.Attitude.{Attitude}
 use Rattle.relay_geo.specs.declared.attitude.Attitude.the-variants.{Matrix, Refused}
 use Rattle.relay_geo.specs.declared.attitude.Feedforward.the-variants as rate
 use Rattle.relay_geo.specs.Vectors.{1e-9, norm, long, over, normalize, givesAxis}
-use Rattle.relay_geo.specs.Attitude.{thrustForce, thrustAxisNed, thrustAttitude, tooWeak, rateFrom, flatnessOmegaFf, feedforwardFrom, thrustOf, attitudeOn, feedforwardOn, givesMatrix, givesRate}
+use Rattle.relay_geo.specs.Attitude.{thrustForce, thrustAxisNed, thrustAttitude, tooWeak, rateFrom, flatnessOmegaFf, givesMatrix, givesRate}
+use Rattle.relay_geo.specs.Inner.{feedforwardFrom, thrustOf, attitudeOn, feedforwardOn}
 
 -- "`normalize` refuses unless the norm is finite and above 1e-9."
 pub normalize-accepts : (a : Vec3) → givesAxis (normalize a) ≡ finiteAbove 1e-9 (norm a)

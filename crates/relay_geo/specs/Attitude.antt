@@ -13,8 +13,7 @@ use Rattle.relay_geo.specs.declared.attitude.Attitude.{Attitude}
 use Rattle.relay_geo.specs.declared.attitude.Attitude.the-variants.{Matrix, Refused}
 use Rattle.relay_geo.specs.declared.attitude.Feedforward.{Feedforward}
 use Rattle.relay_geo.specs.declared.attitude.Feedforward.the-variants as rate
-use Rattle.relay_geo.specs.declared.attitude.Thrust.{Thrust}
-use Rattle.relay_geo.specs.Vectors.{GRAVITY-NED, cross, norm, over, unitOf, normalize, sanitise3, transposedTimes}
+use Rattle.relay_geo.specs.Vectors.{GRAVITY-NED, cross, norm, over, normalize, sanitise3, transposedTimes}
 
 unfoldable pub quatToRotmat : Quat → Mat3
 quatToRotmat q =
@@ -86,23 +85,6 @@ flatnessOmegaFf a j yaw yawRate =
     let c = norm t in
     let b3 = over t c in
     cond (tooWeak c) rate.Refused (rateFrom c b3 j yawRate (desiredAttitude b3 yaw))
-
--- ---- the thrust's force and its norm, for a caller that wants the attitude and the feedforward of one acceleration
-
-unfoldable pub thrustOf : Vec3 → Thrust
-thrustOf a = let t = thrustForce a in record { force = t; norm = norm t }
-
-unfoldable pub attitudeOn : Thrust → Float → Attitude
-attitudeOn t yaw = alongAxis (unitOf (t .force) (t .norm)) yaw
-
-unfoldable pub feedforwardOn : Thrust → Vec3 → Float → Attitude → Feedforward
-feedforwardOn t j yawRate attitude =
-    let c = t .norm in
-    cond (tooWeak c) rate.Refused (rateFrom c (over (t .force) c) j yawRate attitude)
-
--- the same of an acceleration
-unfoldable pub feedforwardFrom : Vec3 → Vec3 → Float → Attitude → Feedforward
-feedforwardFrom a j yawRate attitude = feedforwardOn (thrustOf a) j yawRate attitude
 
 -- ---- for what is proved of them
 

@@ -15,7 +15,8 @@ use relay_math::is_finite;
 use relay_math::sincos;
 use relay_math::sqrtf;
 ghost use mathlib.Core.Path.{_≡_};
-ghost use Rattle.relay_geo.specs.Attitude.{quatToRotmat, heading, desiredAttitude, thrustForce, thrustAxisNed, thrustAttitude, tooWeak, rateFrom, feedforwardFrom, flatnessOmegaFf, thrustOf, attitudeOn, feedforwardOn};
+ghost use Rattle.relay_geo.specs.Attitude.{quatToRotmat, heading, desiredAttitude, thrustForce, thrustAxisNed, thrustAttitude, tooWeak, rateFrom, flatnessOmegaFf};
+ghost use Rattle.relay_geo.specs.Inner.{feedforwardFrom, thrustOf, attitudeOn, feedforwardOn};
 
 // A rotation from body to NED, or a plain refusal that carries no number.
 pub enum Attitude {

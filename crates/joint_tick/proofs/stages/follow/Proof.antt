@@ -1,5 +1,5 @@
 use borrow.Author.Needs.{needs}
-use Rattle.joint_tick.specs.Tick.{followOn}
+use Rattle.joint_tick.specs.Inner.{followOn}
 use Rattle.joint_tick.proofs.stages.follow.Statement.{statement}
 use Rattle.joint_tick.proofs.stages.follow.Tie as tie
 

@@ -1,5 +1,5 @@
 use borrow.Author.Needs.{needs}
-use Rattle.joint_tick.specs.Tick.{observe}
+use Rattle.joint_tick.specs.Inner.{observe}
 use Rattle.joint_tick.proofs.stages.observe.Statement.{statement}
 use Rattle.joint_tick.proofs.stages.observe.Tie as tie
 

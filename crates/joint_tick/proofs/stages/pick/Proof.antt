@@ -1,5 +1,5 @@
 use borrow.Author.Needs.{needs}
-use Rattle.joint_tick.specs.Tick.{pickOn}
+use Rattle.joint_tick.specs.Inner.{pickOn}
 use Rattle.joint_tick.proofs.stages.pick.Statement.{statement}
 use Rattle.joint_tick.proofs.stages.pick.Tie as tie
 

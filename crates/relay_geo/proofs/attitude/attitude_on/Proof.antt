@@ -1,5 +1,5 @@
 use borrow.Author.Needs.{needs}
-use Rattle.relay_geo.specs.Attitude.{attitudeOn}
+use Rattle.relay_geo.specs.Inner.{attitudeOn}
 use Rattle.relay_geo.proofs.attitude.attitude_on.Statement.{statement}
 use Rattle.relay_geo.proofs.attitude.attitude_on.Tie as tie
 

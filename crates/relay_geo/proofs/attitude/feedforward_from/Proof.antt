@@ -1,5 +1,5 @@
 use borrow.Author.Needs.{needs}
-use Rattle.relay_geo.specs.Attitude.{feedforwardFrom}
+use Rattle.relay_geo.specs.Inner.{feedforwardFrom}
 use Rattle.relay_geo.proofs.attitude.feedforward_from.Statement.{statement}
 use Rattle.relay_geo.proofs.attitude.feedforward_from.Tie as tie
 

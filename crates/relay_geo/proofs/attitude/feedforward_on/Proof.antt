@@ -1,5 +1,5 @@
 use borrow.Author.Needs.{needs}
-use Rattle.relay_geo.specs.Attitude.{feedforwardOn}
+use Rattle.relay_geo.specs.Inner.{feedforwardOn}
 use Rattle.relay_geo.proofs.attitude.feedforward_on.Statement.{statement}
 use Rattle.relay_geo.proofs.attitude.feedforward_on.Tie as tie
 

@@ -1,5 +1,5 @@
 use borrow.Author.Needs.{needs}
-use Rattle.relay_geo.specs.Attitude.{thrustOf}
+use Rattle.relay_geo.specs.Inner.{thrustOf}
 use Rattle.relay_geo.proofs.attitude.thrust_of.Statement.{statement}
 use Rattle.relay_geo.proofs.attitude.thrust_of.Tie as tie
 

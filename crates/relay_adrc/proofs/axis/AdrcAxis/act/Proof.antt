@@ -1,5 +1,5 @@
 use borrow.Author.Needs.{needs}
-use Rattle.relay_adrc.specs.Axis.{axisAct}
+use Rattle.relay_adrc.specs.Inner.{axisAct}
 use Rattle.relay_adrc.proofs.axis.AdrcAxis.act.Statement.{statement}
 use Rattle.relay_adrc.proofs.axis.AdrcAxis.act.Tie as tie
 

@@ -1,6 +1,6 @@
 -- The calls' answers put together, the last first. Assumes nothing.
 use borrow.Author.Needs.{needs}
-use Rattle.relay_adrc.specs.Axis.{axisObserve}
+use Rattle.relay_adrc.specs.Inner.{axisObserve}
 use Rattle.relay_adrc.proofs.axis.AdrcAxis.observe.Statement.{statement}
 use Rattle.relay_adrc.proofs.axis.AdrcAxis.observe.Tie as tie
 

@@ -96,6 +96,15 @@ pub good-image : (image : List ℕ) → Accepted image → Good (stateAt image)
 unfolding tickRefusal intact
 good-image image e = record { holds = state-fits image .governor .0; ok = last (eqb (word image COUNT) IMAGE-WORDS) (eqb (word image ENGAGED) 0 || eqb (word image ENGAGED) 1) (good (stateAt image)) (sound image e) }
 
+-- its count is its own
+pub count-of-image : (image : List ℕ) → Accepted image → word image COUNT ≡ IMAGE-WORDS
+unfolding tickRefusal intact
+count-of-image image e = eqb-true (word image COUNT) IMAGE-WORDS (first (eqb (word image COUNT) IMAGE-WORDS) (eqb (word image ENGAGED) 0 || eqb (word image ENGAGED) 1) (good (stateAt image)) (sound image e))
+  where
+    first : (x y z : Bool) → (x && y && z) ≡ true → x ≡ true
+    first true y z e = refl
+    first false y z e = no e
+
 -- its flag is in its word
 pub flag-of-image : (image : List ℕ) → Accepted image → word image ENGAGED ≡ flag (movingAt image .engaged)
 unfolding tickRefusal intact movingAt

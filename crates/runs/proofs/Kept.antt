@@ -1,27 +1,46 @@
 -- What ticks of both kinds keep: the clock, which never goes back, and the words that no tick writes anew. Assumes nothing.
-use mathlib.Core.Path.{_≡_, refl, sym, subst}
-use mathlib.Core.Bool.{not}
-use mathlib.Core.List.{List, [], _∷_, map}
-use Prim.Native.Nat.{ℕ}
-use lib.Dec.{T}
-use lib.ListN.{length, take, drop}
-use lib.Ieee.{Float, le, isNan}
-use Rattle.words.specs.Words.{float}
+use mathlib.Core.Path.{_≡_, refl, sym, ap, _∙_, subst}
+use mathlib.Core.Bool.{true, not}
+use mathlib.Core.List.{List, [], _∷_, _++_, map}
+use Prim.Native.Nat.{ℕ, zero, suc, _+_, _<_}
+use native.Mathlib.Nat.{add-zero}
+use native.Mathlib.Omega.{arith}
+use lib.Dec.{T, eqb}
+use lib.ListN.{length, getD, take, drop}
+use lib.Seq.{getD-take, getD-drop}
+use lib.Ieee.{Float, binary32, le, isNan, ofBits, toBits}
+use lib.Ieee.Bits.{ofBits-fits}
+use Rattle.laws.proofs.Tests.{no}
+use Rattle.words.specs.Words.{word, float, vec, canon, canons}
+use Rattle.words.proofs.Back.{word-back, bits-lt}
 use Rattle.relay_math.proofs.Order.{le-trans, le-refl-of}
 use Rattle.relay_traj.specs.Governor.{advance}
 use Rattle.relay_traj.proofs.Clock.{never-nan}
+use Rattle.relay_adrc.specs.Axis.{axisTick}
+use Rattle.relay_adrc.specs.Rate.{rateTick}
+use Rattle.relay_adrc.specs.Biquad.{biquadFilter, gyroFilter}
 use Rattle.joint_tick.specs.declared.state.State.{State}
 use Rattle.joint_tick.specs.declared.state.TickInput.{TickInput}
 use Rattle.joint_tick.specs.declared.stages.Reference.{Reference}
-use Rattle.joint_tick.specs.Tick.{prepare, stateAfter}
+use Rattle.joint_tick.specs.SetUp.{setUp}
+use Rattle.joint_tick.specs.Tick.{prepare, pick, finish, ticked, stateAfter}
 use Rattle.image.specs.Layout.{GOVERNOR}
-use Rattle.image.specs.Image.{wordsOfState}
-use Rattle.outcome.specs.Outcomes.{Called}
+use Rattle.image.specs.Parts.{gainsAt, setAt, governorAt, quinticAt, segmentAt, adrcGainsAt, axisAt, rateAt, biquadAt, lpfAt}
+use Rattle.image.specs.Image.{fixedAt, movingAt, stateAt, wordsOfState, imageOf}
+use Rattle.image.specs.Inputs.{setupAt, inputAt}
+use Rattle.image.proofs.Decoded.{decode-encode}
+use Rattle.outcome.specs.Outcomes.{number, isDone, Called}
+use Rattle.outcome.proofs.Tables.{done-none, either}
+use Rattle.calls.specs.Entry.{tickTable, tickRefusal, tickFrom}
 use Rattle.calls.specs.Ticks.{Accepted}
+use Rattle.calls.proofs.Going.{set-up-fits, count-of-image}
 use Rattle.calls.proofs.Steps.{image-runs, tick-clock}
-use Rattle.runs.specs.Runs.{Tick, Ticks, leftBy, sourceOn, imageAfter}
+use Rattle.route.specs.Form.{formTable}
+use Rattle.route.specs.Entry.{routeRefusal}
+use Rattle.runs.specs.Runs.{Course, Segment, Route, Tick, Call, Ticks, tickOf, leftBy, sourceOn, start, imageAfter}
+use Rattle.runs.specs.Kept.{Kept, SameWords, Front, BandAndSegment, RollGains, PitchGains, YawGains, RollFilter, PitchFilter, YawFilter}
 use Rattle.runs.proofs.Shown.{refusalOn, flying-is}
-use Rattle.runs.proofs.Going.{call-steps}
+use Rattle.runs.proofs.Going.{call-steps, start-accepted}
 
 one : (image : List ℕ) (t : Tick) → Accepted image → T (le (float image GOVERNOR) (float (leftBy image (Ticks t)) GOVERNOR))
 unfolding leftBy
@@ -39,9 +58,99 @@ clock-over-any-run image (t ∷ more) a =
     let r = clock-over-any-run (leftBy image (Ticks t)) more (call-steps image (Ticks t) a .accepted) in
     (le-trans (float image GOVERNOR) (float (leftBy image (Ticks t)) GOVERNOR) _ (one image t a) (r .0), r .1)
 
--- "words 0 to 14 and 17 to 40 are kept": the gains, the set, the thresholds, the governor's band and the segment, whatever a tick flies
-pub words-kept : (source : Float → Reference) (s : State) (i : TickInput)
-    → let t = stateAfter source s i in
-    (take 15 (wordsOfState t) ≡ take 15 (wordsOfState s)) × (take 24 (drop 17 (wordsOfState t)) ≡ take 24 (drop 17 (wordsOfState s)))
-unfolding prepare advance
-words-kept source s i = (refl, refl)
+-- ---- the words that no tick changes
+
+-- word i of canonical words
+canons-at : (b : List ℕ) (k n i : ℕ) → i < n → getD (canons b k n) i 0 ≡ canon (word b (k + i))
+canons-at b k zero i h = absurd (omega arith)
+canons-at b k (suc n) zero h = rw add-zero
+canons-at b k (suc n) (suc i) h =
+    let e : k + suc i ≡ suc k + i = omega arith in
+    rw e (canons-at b (suc k) n i (omega arith))
+
+same-words : (b : List ℕ) (s : State) (k n : ℕ) → take n (drop k (wordsOfState s)) ≡ canons b k n → SameWords b (imageOf s) k n
+unfolding imageOf
+same-words b s k n held i h =
+    let ws = wordsOfState s in
+    word-back {ws = ws} record { is = refl } (k + i)
+    (sym (getD-drop k ws i 0) ∙ sym (getD-take n (drop k ws) i 0 h) ∙ ap (λ (v : List ℕ). getD v i 0) held ∙ canons-at b k n i h)
+    (bits-lt _ (ofBits-fits binary32 (word b (k + i))))
+
+-- over values: what a tick writes there is what the state held ..
+state-keeps : (source : Float → Reference) (s : State) (i : TickInput) {k n : ℕ} → Kept k n
+    → take n (drop k (wordsOfState (stateAfter source s i))) ≡ take n (drop k (wordsOfState s))
+unfolding prepare advance ticked finish pick rateTick axisTick gyroFilter biquadFilter
+state-keeps source s i Front = refl
+state-keeps source s i BandAndSegment = refl
+state-keeps source s i RollGains = refl
+state-keeps source s i PitchGains = refl
+state-keeps source s i YawGains = refl
+state-keeps source s i RollFilter = refl
+state-keeps source s i PitchFilter = refl
+state-keeps source s i YawFilter = refl
+
+-- .. and that is what was read
+read-again : (image : List ℕ) → Accepted image → {k n : ℕ} → Kept k n → take n (drop k (wordsOfState (stateAt image))) ≡ canons image k n
+unfolding fixedAt movingAt gainsAt vec setAt governorAt segmentAt quinticAt rateAt axisAt adrcGainsAt lpfAt biquadAt float ofBits toBits
+read-again image a Front = rw (count-of-image image a)
+read-again image a BandAndSegment = refl
+read-again image a RollGains = refl
+read-again image a PitchGains = refl
+read-again image a YawGains = refl
+read-again image a RollFilter = refl
+read-again image a PitchFilter = refl
+read-again image a YawFilter = refl
+
+-- from any source of references
+tick-keeps : (source : Float → Reference) (image input : List ℕ) → Accepted image → {k n : ℕ} → Kept k n
+    → SameWords image (imageOf (stateAfter source (stateAt image) (inputAt input))) k n
+tick-keeps source image input a {k} {n} w =
+    same-words image (stateAfter source (stateAt image) (inputAt input)) k n (state-keeps source (stateAt image) (inputAt input) w ∙ read-again image a w)
+
+-- a tick that is not refused was handed an image that ticks take
+taken-on : (c : Course) (image : List ℕ) (inputLen answerLen : ℕ) → isDone (refusalOn c image inputLen answerLen) ≡ true → Accepted image
+unfolding tickRefusal routeRefusal
+taken-on Segment image inputLen answerLen e =
+    let t = done-none (tickTable image inputLen answerLen) refl e in
+    rw (t 0, t 3)
+taken-on (Route route) image inputLen answerLen e =
+    let t = done-none (tickTable image inputLen answerLen ++ formTable route) refl e in
+    rw (t 0, t 3)
+
+-- "words 0 to 14 and 17 to 40 are kept", and ADRC's gains and the filters' coefficients: after an accepted tick of either kind each is the word before,
+-- a NaN made 7fc00000
+pub words-kept : (image : List ℕ) (t : Tick) → number (tickOf image t .outcome) ≡ 0 → {k n : ℕ} → Kept k n → SameWords image (tickOf image t .later .image) k n
+unfolding tickFrom
+words-kept image t done {k} {n} w =
+    let o = refusalOn (t .course) image (length (t .input)) (length (t .answer)) in
+    subst (λ (c : Called). number (c .outcome) ≡ 0 → SameWords image (c .later .image) k n) (sym (flying-is (t .course) image (t .input) (t .answer)))
+    (either (λ (c : Called). number (c .outcome) ≡ 0 → SameWords image (c .later .image) k n) o
+    (λ e z. tick-keeps (sourceOn (t .course) image) image (t .input) (taken-on (t .course) image _ _ e) w)
+    (λ e z. no (sym e ∙ ap (λ (x : ℕ). eqb x 0) z))) done
+
+-- ---- over runs: what set-up wrote has no other NaN, so that these words do not change by a bit
+
+one-keeps : (image : List ℕ) (c : Call) → Accepted image → {k n : ℕ} → Kept k n → (i : ℕ) → i < n
+    → canon (word image (k + i)) ≡ word image (k + i) → word (leftBy image c) (k + i) ≡ word image (k + i)
+unfolding leftBy tickFrom
+one-keeps image (Ticks t) a {k} {n} w i h e =
+    subst (λ (c : Called). word (c .later .image) (k + i) ≡ word image (k + i)) (sym (flying-is (t .course) image (t .input) (t .answer)))
+    (either (λ (c : Called). word (c .later .image) (k + i) ≡ word image (k + i)) (refusalOn (t .course) image (length (t .input)) (length (t .answer)))
+    (λ d. tick-keeps (sourceOn (t .course) image) image (t .input) a w i h ∙ e) (λ d. refl))
+
+run-keeps : (image : List ℕ) (calls : List Call) → Accepted image → {k n : ℕ} → Kept k n → (i : ℕ) → i < n
+    → canon (word image (k + i)) ≡ word image (k + i) → word (imageAfter image calls) (k + i) ≡ word image (k + i)
+unfolding imageAfter
+run-keeps image [] a w i h e = refl
+run-keeps image (c ∷ calls) a w i h e =
+    let one = one-keeps image c a w i h e in
+    run-keeps (leftBy image c) calls (call-steps image c a .accepted) w i h (rw one e) ∙ one
+
+pub words-kept-over-any-run : (setup : List ℕ) (calls : List Call) {k n : ℕ} → Kept k n → (i : ℕ) → i < n
+    → word (imageAfter (start setup) calls) (k + i) ≡ word (start setup) (k + i)
+unfolding start
+words-kept-over-any-run setup calls {k} {n} w i h =
+    let s = setUp (setupAt setup) in
+    let same = ap imageOf (decode-encode s (set-up-fits setup)) in
+    let canonical = same-words (imageOf s) (stateAt (imageOf s)) k n (read-again (imageOf s) (start-accepted setup) w) i h in
+    run-keeps (imageOf s) calls (start-accepted setup) w i h (sym canonical ∙ ap (λ (b : List ℕ). word b (k + i)) same)

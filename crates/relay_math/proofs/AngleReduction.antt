@@ -1,15 +1,16 @@
 -- |x| in units of 2 ^ -48, by the fields of its bits; and n and r: the reduction in those units is the exact one in grains, which takes off the nearest multiple of P. Assumes nothing.
 use mathlib.Core.Path.{_≡_, refl, sym, ap, _∙_}
 use mathlib.Core.Bool.{Bool, true, false, not, cond}
+use mathlib.Core.Logic.{inl, inr}
 use Prim.Native.Nat.{ℕ, suc, _+_, _*_, _-_, _/_, _%_, _^_, _≤_, _<_}
-use native.Mathlib.Nat.{lt-of-lt-of-le, lt-of-le-of-lt, lt-of-not-le, not-le-of-lt, zero-lt-suc}
+use native.Mathlib.Nat.{le-of-lt, lt-of-lt-of-le, lt-of-le-of-lt, lt-of-not-le, not-le-of-lt, zero-lt-suc}
 use native.Mathlib.Nat.{mul-comm, mul-assoc, add-mul, mul-sub, mul-div-mul-right, mul-le-mul-right, le-of-mul-le-mul-right, mul-lt-mul-of-pos-right, add-mul-mod-self-left, mod-lt, mul-pos, div-mul-le-self, lt-div-mul-add}
 use native.Mathlib.Omega.{arith}
 use borrow.Author.Tests.{lt-ltb, le-ltb, le-leb, leb-true, ltb-true, ltb-false}
 use lib.IntN.{ℤ}
-use lib.Dec.{T, leb, ltb, lit<, lt→ltb}
-use lib.Pow.{pow-mono}
-use lib.Ieee.{Float, fin, binary32, up, down, fits, isNan, size, toBits, le}
+use lib.Dec.{T, leb, ltb, lit<, lit≤, lt→ltb}
+use lib.Pow.{pow-mono, shl-lt}
+use lib.Ieee.{Float, nan, inf, fin, binary32, up, down, fits, isNan, size, toBits, le}
 use lib.Ieee.Digits.{size-lt, size-le}
 use lib.Ieee.Fits.{down-pos}
 use lib.Ieee.Positive.{positive, between, le→cross}
@@ -17,8 +18,9 @@ use Rattle.relay_math.specs.declared.angles.Reduced.{Reduced}
 use Rattle.relay_math.specs.Exact.{gap, P, turns, rest, back, quarter}
 use Rattle.relay_math.specs.F32.{grains}
 use Rattle.relay_math.specs.Steps.{Tiny, Most, fixed, P48, reduceOf}
+use Rattle.laws.proofs.Tests.{le-or-lt}
 use Rattle.relay_math.proofs.Signs.{of-positive}
-use Rattle.relay_math.proofs.Grains.{shift, grains-exact, reads}
+use Rattle.relay_math.proofs.Grains.{shift, placed, grains-of, grains-exact, reads}
 
 -- ---- a float from 2 ^ -12 to 2 ^ 13
 pub record Parts (a : Float) : Type 0 where
@@ -96,9 +98,9 @@ nearest u p h = go (leb (2 * u) p) refl
         let b : 2 * u + p < n * (2 * p) + 2 * p = lt-div-mul-add (mul-pos (lit< tt) h) in
         omega (arith, a, b)
 
-pub turn-is-nearest : (u : ℕ) → 2 * rest u ≤ P
+rest-most : (u : ℕ) → 2 * rest u ≤ P
 unfolding rest turns
-turn-is-nearest u = nearest u P (lit< tt)
+rest-most u = nearest u P (lit< tt)
 
 -- ---- in the code's units of g = 2 ^ 101 grains
 abbrev count : ℕ → ℕ
@@ -154,3 +156,32 @@ module _ (X : ℕ) where
       (of-turns (X * 2 ^ 101) (count X) (gap X (count X * P48) * 2 ^ 101) (ltb X (count X * P48)) turns-units
       (ap (λ (n : ℕ). gap (X * 2 ^ 101) n) (sym (mul-assoc (count X) P48 (2 ^ 101))) ∙ gap-mul X (count X * P48) (2 ^ 101))
       (ap (λ (n : ℕ). ltb (X * 2 ^ 101) n) (sym (mul-assoc (count X) P48 (2 ^ 101))) ∙ ltb-mul X (count X * P48) (2 ^ 101) (lit< tt)))
+
+-- ---- "no tie occurs"
+-- P48 is odd, so no whole number of its units is half of it
+not-half : (R g : ℕ) → 0 < g → 2 * (R * g) ≤ P48 * g → 2 * (R * g) < P48 * g
+not-half R g G h =
+    let k : 2 * R ≤ P48 = le-of-mul-le-mul-right {k = g} (omega arith) G in
+    let l : 2 * R * g < P48 * g = mul-lt-mul-of-pos-right (omega arith) G in
+    omega arith
+
+twice-below : (u a b : ℕ) → u < a → 2 * a ≤ b → 2 * u < b
+twice-below u a b h k = omega arith
+
+-- An f32 is m * 2 ^ j grains, with an m of 24 digits: a whole number of units, or far below P.
+digits-rest : (m j : ℕ) → m < 2 ^ 24 → 2 * rest (m * 2 ^ j) < P
+digits-rest m j h =
+    elim (le-or-lt 101 j) [
+      | inl l ↦
+          let X = m * 2 ^ (j - 101) in
+          let e : rest (X * 2 ^ 101) ≡ reduceOf X .r * 2 ^ 101 = turn X .rest-is in
+          rw (shift m j 101 l, e) (not-half (reduceOf X .r) (2 ^ 101) (lit< tt) (rw e at (rest-most (X * 2 ^ 101))))
+      | inr g ↦
+          let b : 2 * (m * 2 ^ j) < P = twice-below (m * 2 ^ j) (2 ^ 125) P (lt-of-lt-of-le (shl-lt 24 j h) (pow-mono {j = 125} (omega arith))) (lit≤ tt) in
+          rw (no-turn (m * 2 ^ j) (le-of-lt b) .rest-is) b
+    ]
+
+pub turn-is-nearest : (x : Float) → T (fits binary32 x) → 2 * rest (grains x) < P
+turn-is-nearest nan F = unfold grains in digits-rest 0 0 (lit< tt)
+turn-is-nearest (inf s) F = unfold grains in digits-rest 0 0 (lit< tt)
+turn-is-nearest (fin s m e) F = let p = placed s m e F in rw (grains-of (fin s m e) s (m * 2 ^ p .0) (refl, p .2)) (digits-rest m (p .0) (p .1))

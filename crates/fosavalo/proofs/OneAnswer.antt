@@ -15,10 +15,10 @@ use Rattle.fosavalo.proofs.fosavalo_log_count
 use Rattle.fosavalo.proofs.fosavalo_log_record
 
 pub fosavalo-sinf-once : OneAnswer fosavalo_sinf.ended fosavalo_sinf.Reads.Post
-fosavalo-sinf-once κs a x y v w p q = (no-second p q, refl)
+fosavalo-sinf-once κs a x y v w p q = (no-second (p .1) (q .1), refl)
 
 pub fosavalo-cosf-once : OneAnswer fosavalo_cosf.ended fosavalo_cosf.Reads.Post
-fosavalo-cosf-once κs a x y v w p q = (no-second p q, refl)
+fosavalo-cosf-once κs a x y v w p q = (no-second (p .1) (q .1), refl)
 
 pub fosavalo-setup-once : OneAnswer fosavalo_setup.ended fosavalo_setup.Reads.Post
 fosavalo-setup-once κs a x y v w p q =

@@ -1,21 +1,26 @@
 // The C face: what a simulator links. Exported wrappers over the proved crates, and nothing else; include/fosavalo.h declares them.
 ghost use mathlib.Core.Path.{_≡_};
+ghost use Rattle.relay_math.specs.Exact.{Limit, IsSine, IsCosine};
 ghost use Rattle.relay_math.specs.Steps.{sinf, cosf};
 ghost use Rattle.outcome.specs.Outcomes.{left, lent, number, numbered};
 ghost use Rattle.calls.specs.Entry.{tickRefusal, setUpCall, tickCall};
 ghost use Rattle.route.specs.Entry.{routeCall};
 ghost use Rattle.log.specs.Entry.{appendCall, countCall, recordCall};
 
+// The sine of x, as `relay_math::sinf` has it.
 #[no_mangle]
 pub extern "C" fn fosavalo_sinf(x: f32) -> f32
-    ensures { λ r. ⌜ r ≡ sinf x ⌝ }
+    ensures near { λ r. ⌜ IsSine Limit 20 x r ⌝ }
+    ensures is { λ r. ⌜ r ≡ sinf x ⌝ }
 {
     relay_math::sinf(x)
 }
 
+// The cosine of x, as `relay_math::cosf` has it.
 #[no_mangle]
 pub extern "C" fn fosavalo_cosf(x: f32) -> f32
-    ensures { λ r. ⌜ r ≡ cosf x ⌝ }
+    ensures near { λ r. ⌜ IsCosine Limit 20 x r ⌝ }
+    ensures is { λ r. ⌜ r ≡ cosf x ⌝ }
 {
     relay_math::cosf(x)
 }

@@ -8,8 +8,7 @@ use Rattle.relay_math.specs.declared.Vec3.{Vec3}
 use Rattle.relay_math.specs.declared.BodyRate.{BodyRate}
 use Rattle.relay_math.specs.F32.{0·0, isFinite}
 use Rattle.relay_math.specs.Exact.{inRange}
-use Rattle.relay_math.specs.Steps.{sinf, cosf}
-use Rattle.relay_math.proofs.AngleBound.{sincos-near}
+use Rattle.relay_math.proofs.Finite.{sin-cos-far}
 use Rattle.relay_geo.specs.declared.vectors.Quat.{Quat}
 use Rattle.relay_geo.specs.declared.vectors.Unit.{Unit}
 use Rattle.relay_geo.specs.declared.vectors.Unit.the-variants as unit
@@ -47,8 +46,8 @@ free-fall-damps g q w yaw = no-attitude-tick g q w GRAVITY-NED yaw (rw (clean, f
 -- "A non-finite yaw makes the heading vector zero, so `desired_attitude` refuses", and so does one beyond the limit.
 module _ (yaw : Float) (F : T (fits binary32 yaw)) (far : T (not (inRange yaw))) where
   zero-heading : heading yaw ≡ (fin false 0 (pos 0), fin false 0 (pos 0), fin false 0 (pos 0))
-  unfolding heading sinf cosf ofBits
-  zero-heading = let z = sincos-near yaw F .far far in rw (z .0, z .1)
+  unfolding heading ofBits
+  zero-heading = let z = sin-cos-far yaw far in rw (z .0, z .1)
 
   no-columns : (u : Unit) → attitudeOf u yaw ≡ Refused
   no-columns (unit.Axis b) = rw (zero-heading, blank-refused _ (cross-blank b))

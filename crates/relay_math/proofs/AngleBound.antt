@@ -1,21 +1,22 @@
 -- The theorem on sine and cosine: for every f32 the steps meet document 01's rule. Assumes nothing.
 use mathlib.Core.Path.{_≡_, refl, sym, subst}
 use mathlib.Core.Bool.{Bool, true, false, not, cond}
-use Prim.Native.Nat.{ℕ, zero, suc, _*_, _^_, _≤_, _<_}
-use native.Mathlib.Nat.{le-of-lt, lt-of-not-le, not-le-of-lt, mul-one, one-mul}
+use Prim.Native.Nat.{ℕ, zero, suc, _+_, _*_, _^_, _≤_, _<_}
+use native.Mathlib.Nat.{le-of-lt, lt-of-not-le, not-le-of-lt, one-mul, mul-pos, zero-lt-suc}
 use native.Mathlib.Omega.{arith}
 use lib.IntN.{ℤ, pos, negsuc}
-use lib.Dec.{T, leb, lit<, lit≤, leb→le, nleb→lt}
+use lib.Dec.{T, leb, lit<, lit≤, lt→ltb}
 use lib.Ieee.{Float, nan, inf, fin, up, down, fits, binary32, lt, le, eq, neg}
 use lib.Ieee.Fits.{down-pos}
 use lib.Ieee.Bits.{is-true, is-false}
-use borrow.Author.Tests.{leb-true, leb-false}
+use lib.Ieee.Positive.{positive, le→cross, le-trans-positive}
+use borrow.Author.Tests.{leb-true, leb-false, lt-ltb}
 use Rattle.relay_math.specs.declared.angles.SineCosine.{SineCosine}
-use Rattle.relay_math.specs.Exact.{P, limitPower, limit, Near, sinAt, cosAt, Rule, inRange, isMinus, exactSine, exactCosine}
-use Rattle.relay_math.specs.F32.{grains}
-use Rattle.relay_math.specs.Steps.{square, sinPoly, cosPoly, toFloat, signed, fixed, reduceOf, quadrant, large, sincos, Zero, One}
+use Rattle.relay_math.specs.Exact.{P, Near, sinAt, cosAt, exactSine, exactCosine, Limit, upTo, inRange, isMinus, IsSine, IsCosine}
+use Rattle.relay_math.specs.F32.{grains, fabsf}
+use Rattle.relay_math.specs.Steps.{square, sinPoly, cosPoly, toFloat, signed, fixed, reduceOf, quadrant, large, Zero, One, Most, sincosTo, sincos, sinf, cosf}
 use Rattle.laws.proofs.Tests.{ordered}
-use Rattle.relay_math.proofs.Signs.{zero-is, is-below}
+use Rattle.relay_math.proofs.Signs.{zero-is, is-below, size-pos}
 use Rattle.relay_math.proofs.Grains.{grains-exact}
 use Rattle.relay_math.proofs.Horner.{sinExact, cosExact}
 use Rattle.relay_math.proofs.Fixed.{tiny-sin, tiny-cos}
@@ -56,7 +57,7 @@ tiny-near s m e F K =
     (near-of (fin false m e) u (2 ^ 125) (sinExact u (2 ^ 149)) (refl, E) (lit≤ tt) (tiny-sin u (2 ^ 149) (2 ^ 125) (le-of-lt S) (lit< tt) (lit≤ tt)))
     (near-of One (2 ^ 149) (2 ^ 125) (cosExact u (2 ^ 149)) (refl, refl) (lit≤ tt) (tiny-cos u (2 ^ 149) (2 ^ 125) (le-of-lt S) (lit< tt) (lit≤ tt))))
 
--- ---- the tests of `sincos` on a number that is not zero
+-- ---- the tests of `sincosTo`
 le-is : (m : ℕ) (e : ℤ) (n : ℕ) (d : ℤ) → le (fin false m e) (fin false n d) ≡ leb (m * up e * down d) (n * up d * down e)
 unfolding le lt eq
 le-is m e n d = ordered (m * up e * down d) (n * up d * down e)
@@ -67,58 +68,102 @@ zeros = record { sine = Zero; cosine = Zero }
 abbrev within : Bool → Bool → ℕ → ℤ → SineCosine
 within t s m e = cond t (large s (fin false m e)) record { sine = fin s m e; cosine = One }
 
-by-range : (s : Bool) (m : ℕ) (e : ℤ) → sincos (fin s (suc m) e) ≡ cond (leb (suc m * up e) (limit * down e)) (within (leb (down e) (suc m * up e * 4096)) s (suc m) e) zeros
-unfolding sincos neg
-by-range true m e = rw (is-below m e true, le-is (suc m) e 1 (pos limitPower), le-is 1 (negsuc 11) (suc m) e, mul-one (suc m * up e), one-mul (down e))
-by-range false m e = rw (is-below m e false, le-is (suc m) e 1 (pos limitPower), le-is 1 (negsuc 11) (suc m) e, mul-one (suc m * up e), one-mul (down e))
-
-zero-case : (s : Bool) (e : ℤ) → T (fits binary32 (fin s 0 e)) → sincos (fin s 0 e) ≡ record { sine = fin s 0 e; cosine = One }
-unfolding sincos lt le eq neg
-zero-case true e F = subst (λ (x : Float). sincos x ≡ record { sine = x; cosine = One }) (sym (zero-is true e F)) refl
-zero-case false e F = subst (λ (x : Float). sincos x ≡ record { sine = x; cosine = One }) (sym (zero-is false e F)) refl
-
--- ---- the theorem
 -- the sign is in neither the grains nor the digits
 signless : (s : Bool) (m : ℕ) (e : ℤ) → T (fits binary32 (fin s (suc m) e)) → T (fits binary32 (fin false (suc m) e)) × (grains (fin s (suc m) e) ≡ grains (fin false (suc m) e))
 unfolding fits grains
 signless s m e F = (F, refl)
 
-number-near : (s : Bool) (m : ℕ) (e : ℤ) → T (fits binary32 (fin s (suc m) e)) → T (leb (suc m * up e) (limit * down e)) → Both s (grains (fin s (suc m) e)) (sincos (fin s (suc m) e))
-number-near s m e F h = rw (by-range s m e, is-true (leb (suc m * up e) (limit * down e)) h) (go (leb (down e) (suc m * up e * 4096)) refl)
-  where
-    go : (t : Bool) → leb (down e) (suc m * up e * 4096) ≡ t → Both s (grains (fin s (suc m) e)) (within t s (suc m) e)
-    go true t =
-        let p = parts (suc m) e (signless s m e F .0) (leb-true _ _ t) (omega (arith, leb→le (suc m * up e) (limit * down e) h)) in
-        rw (signless s m e F .1, p .is) (large-near s (fin false (suc m) e))
-    go false t = tiny-near s (suc m) e F (leb-false _ _ t)
+-- a limit above 0 is above each zero, and below the infinity
+zero-under : (s : Bool) (e : ℤ) (limit : Float) → T (positive limit) → le (fin s 0 e) limit ≡ true
+unfolding le lt
+zero-under s e nan p = absurd p
+zero-under s e (inf t) p = absurd p
+zero-under s e (fin true m d) p = absurd p
+zero-under s e (fin false zero d) p = absurd p
+zero-under true e (fin false (suc m) d) p = rw (lt-ltb 0 (0 * up e * down d + suc m * up d * down e) (omega (arith, mul-pos (size-pos m d) (down-pos e))))
+zero-under false e (fin false (suc m) d) p = rw (lt-ltb (0 * up e * down d) (suc m * up d * down e) (omega (arith, mul-pos (size-pos m d) (down-pos e))))
 
-near-case : (x : Float) → T (fits binary32 x) → T (inRange x) → Both (isMinus x) (grains x) (sincos x)
-unfolding inRange
-near-case nan F h = absurd h
-near-case (inf s) F h = absurd h
-near-case (fin s zero e) F h = rw (zero-case s e F) (tiny-near s 0 e F (omega (arith, down-pos e)))
-near-case (fin s (suc m) e) F h = number-near s m e F h
+infinity-over : (limit : Float) → T (positive limit) → le (inf false) limit ≡ false
+unfolding le lt eq
+infinity-over nan p = absurd p
+infinity-over (inf t) p = absurd p
+infinity-over (fin s m d) p = refl
 
 abbrev Zeros : SineCosine → Type 0
 Zeros r = (r .sine ≡ fin false 0 (pos 0)) × (r .cosine ≡ fin false 0 (pos 0))
 
-number-far : (s : Bool) (m : ℕ) (e : ℤ) → T (not (leb (m * up e) (limit * down e))) → Zeros (sincos (fin s m e))
-number-far s zero e h = absurd (omega (arith, nleb→lt (zero * up e) (limit * down e) h))
-number-far s (suc m) e h = rw (by-range s m e, is-false (leb (suc m * up e) (limit * down e)) h) (refl, refl)
+-- document 01's rule for both answers
+abbrev pub Rule : Float → ℕ → Float → SineCosine → Type 0
+Rule limit k x r = IsSine limit k x (r .sine) × IsCosine limit k x (r .cosine)
 
-pub far-case : (x : Float) → T (not (inRange x)) → Zeros (sincos x)
-unfolding inRange sincos lt le eq neg
-far-case nan h = (refl, refl)
-far-case (inf true) h = (refl, refl)
-far-case (inf false) h = (refl, refl)
-far-case (fin s m e) h = number-far s m e h
+-- ---- the theorem, for every limit above 0 and up to 2 ^ 13
+module _ (limit : Float) (above : T (positive limit)) (under : T (le limit Most)) where
+  by-range : (s : Bool) (m : ℕ) (e : ℤ) → sincosTo limit (fin s (suc m) e) ≡ cond (le (fin false (suc m) e) limit) (within (leb (down e) (suc m * up e * 4096)) s (suc m) e) zeros
+  unfolding sincosTo neg
+  by-range true m e = rw (is-below m e true, le-is 1 (negsuc 11) (suc m) e, one-mul (down e))
+  by-range false m e = rw (is-below m e false, le-is 1 (negsuc 11) (suc m) e, one-mul (down e))
 
--- within 2 ^ -22
-pub sincos-near : (x : Float) → T (fits binary32 x) → Rule 22 x (sincos x .sine) (sincos x .cosine)
-sincos-near x F = record { far = far-case x; near = near-case x F; zero-kept = λ s e. rw (e, zero-case s (pos 0) (rw e at F)) (refl, refl) }
+  zero-case : (s : Bool) (e : ℤ) → T (fits binary32 (fin s 0 e)) → sincosTo limit (fin s 0 e) ≡ record { sine = fin s 0 e; cosine = One }
+  zero-case s e F = subst (λ (x : Float). sincosTo limit x ≡ record { sine = x; cosine = One }) (sym (zero-is s e F)) (go s)
+    where
+      go : (s : Bool) → sincosTo limit (fin s 0 (pos 0)) ≡ record { sine = fin s 0 (pos 0); cosine = One }
+      go true = unfold sincosTo lt in rw (zero-under true (pos 0) limit above) (unfold le in refl)
+      go false = unfold sincosTo lt in rw (zero-under false (pos 0) limit above) (unfold le in refl)
 
--- document 01's own bound, 2 ^ -20
-pub sincos-rule : (x : Float) → T (fits binary32 x) → Rule 20 x (sincos x .sine) (sincos x .cosine)
-sincos-rule x F =
-    let r = sincos-near x F in
-    record { far = r .far; near = λ h. (wider 20 (sincos x .sine) _ (r .near h .0), wider 20 (sincos x .cosine) _ (r .near h .1)); zero-kept = r .zero-kept }
+  up-to-most : (m : ℕ) (e : ℤ) → T (le (fin false (suc m) e) limit) → suc m * up e ≤ 8192 * down e
+  up-to-most m e h =
+      let x = fin false (suc m) e in
+      let p : T (positive x) = lt→ltb 0 (suc m) (zero-lt-suc m) in
+      omega (arith, le→cross x Most p tt (le-trans-positive x limit Most p above tt h under))
+
+  number-near : (s : Bool) (m : ℕ) (e : ℤ) → T (fits binary32 (fin s (suc m) e)) → T (le (fin false (suc m) e) limit) → Both s (grains (fin s (suc m) e)) (sincosTo limit (fin s (suc m) e))
+  number-near s m e F h = rw (by-range s m e, is-true (le (fin false (suc m) e) limit) h) (go (leb (down e) (suc m * up e * 4096)) refl)
+    where
+      go : (t : Bool) → leb (down e) (suc m * up e * 4096) ≡ t → Both s (grains (fin s (suc m) e)) (within t s (suc m) e)
+      go true t =
+          let p = parts (suc m) e (signless s m e F .0) (leb-true _ _ t) (up-to-most m e h) in
+          rw (signless s m e F .1, p .is) (large-near s (fin false (suc m) e))
+      go false t = tiny-near s (suc m) e F (leb-false _ _ t)
+
+  near-case : (x : Float) → T (fits binary32 x) → T (upTo limit x) → Both (isMinus x) (grains x) (sincosTo limit x)
+  unfolding fabsf
+  near-case nan F h = unfold le in absurd h
+  near-case (inf s) F h = absurd (rw (infinity-over limit above) at h)
+  near-case (fin s zero e) F h = rw (zero-case s e F) (tiny-near s 0 e F (omega (arith, down-pos e)))
+  near-case (fin s (suc m) e) F h = number-near s m e F h
+
+  pub far-case : (x : Float) → T (not (upTo limit x)) → Zeros (sincosTo limit x)
+  unfolding fabsf
+  far-case nan h = unfold sincosTo lt le in (refl, refl)
+  far-case (inf true) h = unfold sincosTo lt neg in rw (infinity-over limit above) (refl, refl)
+  far-case (inf false) h = unfold sincosTo lt in rw (infinity-over limit above) (refl, refl)
+  far-case (fin s zero e) h = absurd (rw (zero-under false e limit above) at h)
+  far-case (fin s (suc m) e) h = rw (by-range s m e, is-false (le (fin false (suc m) e) limit) h) (refl, refl)
+
+  -- within 2 ^ -22
+  pub sincos-near : (x : Float) → T (fits binary32 x) → Rule limit 22 x (sincosTo limit x)
+  sincos-near x F = (
+    record { near = λ h. near-case x F h .0; far = λ h. far-case x h .0; of-zero = λ s e. rw (e, zero-case s (pos 0) (rw e at F)) },
+    record { near = λ h. near-case x F h .1; far = λ h. far-case x h .1; of-zero = λ s e. rw (e, zero-case s (pos 0) (rw e at F)) },
+  )
+
+  -- document 01's own bound, 2 ^ -20
+  pub sincos-rule : (x : Float) → T (fits binary32 x) → Rule limit 20 x (sincosTo limit x)
+  sincos-rule x F =
+      let r = sincos-near x F in (
+        record { near = λ h. wider 20 (sincosTo limit x .sine) _ (r .0 .near h); far = r .0 .far; of-zero = r .0 .of-zero },
+        record { near = λ h. wider 20 (sincosTo limit x .cosine) _ (r .1 .near h); far = r .1 .far; of-zero = r .1 .of-zero },
+      )
+
+-- at today's limit
+pub sincos-far : (x : Float) → T (not (inRange x)) → Zeros (sincos x)
+unfolding sincos inRange
+sincos-far x h = far-case Limit tt tt x h
+
+pub sinf-rule : (x : Float) → T (fits binary32 x) → IsSine Limit 20 x (sinf x)
+unfolding sinf le lt
+sinf-rule x F = sincos-rule Limit tt tt x F .0
+
+pub cosf-rule : (x : Float) → T (fits binary32 x) → IsCosine Limit 20 x (cosf x)
+unfolding cosf le lt
+cosf-rule x F = sincos-rule Limit tt tt x F .1

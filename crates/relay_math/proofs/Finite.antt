@@ -6,9 +6,9 @@ use lib.Ieee.{Float, nan, inf, fin, binary32, fits, ofBits}
 use lib.Ieee.Bits.{is-true}
 use Rattle.relay_math.specs.Exact.{Value, Near, inRange}
 use Rattle.relay_math.specs.F32.{0·0, isFinite, finiteOr}
-use Rattle.relay_math.specs.Steps.{sincos, sinf, cosf}
+use Rattle.relay_math.specs.Steps.{sinf, cosf}
 use Rattle.laws.proofs.Tests.{held}
-use Rattle.relay_math.proofs.AngleBound.{far-case, sincos-near}
+use Rattle.relay_math.proofs.AngleBound.{sincos-far, sinf-rule, cosf-rule}
 
 pub finite-or-keeps : (x d : Float) → T (isFinite x) → finiteOr x d ≡ x
 finite-or-keeps x d h = rw (is-true (isFinite x) h)
@@ -26,18 +26,18 @@ or-zero-finite x = finite-or-finite x 0·0 tt
 
 pub sin-cos-far : (x : Float) → T (not (inRange x)) → (sinf x ≡ 0·0) × (cosf x ≡ 0·0)
 unfolding sinf cosf ofBits
-sin-cos-far x h = far-case x h
+sin-cos-far x h = sincos-far x h
 
-near-finite : (y : Float) (v : Value) → Near 22 y v → T (isFinite y)
+near-finite : (y : Float) (v : Value) → Near 20 y v → T (isFinite y)
 unfolding isFinite
 near-finite nan v h = absurd h
 near-finite (inf s) v h = absurd h
 near-finite (fin s m e) v h = tt
 
 pub sin-cos-finite : (x : Float) → T (fits binary32 x) → T (isFinite (sinf x)) × T (isFinite (cosf x))
-unfolding sinf cosf isFinite
+unfolding isFinite inRange ofBits
 sin-cos-finite x f = go (inRange x) refl
   where
-    go : (t : Bool) → inRange x ≡ t → T (isFinite (sincos x .sine)) × T (isFinite (sincos x .cosine))
-    go true e = let n = sincos-near x f .near (held e) in (near-finite (sincos x .sine) _ (n .0), near-finite (sincos x .cosine) _ (n .1))
-    go false e = let z = far-case x (subst (λ (b : Bool). T (not b)) (sym e) tt) in rw (z .0, z .1) (tt, tt)
+    go : (t : Bool) → inRange x ≡ t → T (isFinite (sinf x)) × T (isFinite (cosf x))
+    go true e = (near-finite (sinf x) _ (sinf-rule x f .near (held e)), near-finite (cosf x) _ (cosf-rule x f .near (held e)))
+    go false e = let z = sin-cos-far x (subst (λ (b : Bool). T (not b)) (sym e) tt) in rw (z .0, z .1) (tt, tt)

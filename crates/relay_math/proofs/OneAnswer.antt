@@ -13,10 +13,10 @@ pub sincos-once : OneAnswer angles.sincos.ended angles.sincos.Reads.Post
 sincos-once κs a x y v w p q = (no-second p q, refl)
 
 pub sinf-once : OneAnswer angles.sinf.ended angles.sinf.Reads.Post
-sinf-once κs a x y v w p q = (no-second p q, refl)
+sinf-once κs a x y v w p q = (no-second (p .1) (q .1), refl)
 
 pub cosf-once : OneAnswer angles.cosf.ended angles.cosf.Reads.Post
-cosf-once κs a x y v w p q = (no-second p q, refl)
+cosf-once κs a x y v w p q = (no-second (p .1) (q .1), refl)
 
 pub fabsf-once : OneAnswer fabsf.ended fabsf.Reads.Post
 fabsf-once κs a x y v w p q = (no-second p q, refl)

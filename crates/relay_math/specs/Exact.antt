@@ -4,8 +4,8 @@ use mathlib.Core.Path.{_≡_}
 use mathlib.Core.Bool.{Bool, true, false, not, cond}
 use lib.Dec.{T, leb, ltb, eqb}
 use lib.IntN.{pos}
-use lib.Ieee.{Float, nan, inf, fin, up, down, unlike}
-use Rattle.relay_math.specs.F32.{grains}
+use lib.Ieee.{Float, nan, inf, fin, up, down, unlike, le}
+use Rattle.relay_math.specs.F32.{grains, fabsf}
 
 -- ---- numbers as fractions
 
@@ -107,26 +107,31 @@ exactCosine s u = cosineBy (quarter s u) (unlike s (back u)) (rest u)
 
 -- ---- the rule
 
--- sine and cosine are served up to LIMIT = 2 ^ limitPower; what is proved holds for every power up to 13
-abbrev pub limitPower : ℕ
-limitPower = 7
+-- LIMIT = 2 ^ 7: sine and cosine are served up to this size
+abbrev pub Limit : Float
+Limit = fin false 1 (pos 7)
 
-abbrev pub limit : ℕ
-limit = 2 ^ limitPower
+-- |x| is at most the limit: of no NaN, and of no infinity where the limit is finite
+abbrev pub upTo : Float → Float → Bool
+upTo limit x = le (fabsf x) limit
 
--- x is finite and |x| is at most LIMIT
 unfoldable pub inRange : Float → Bool
-inRange nan = false
-inRange (inf s) = false
-inRange (fin s m e) = leb (m * up e) (limit * down e)
+unfolding le fabsf
+inRange x = upTo Limit x
 
 abbrev pub isMinus : Float → Bool
 isMinus nan = false
 isMinus (inf s) = s
 isMinus (fin s m e) = s
 
--- document 01's rule for the answers at x, with the bound 2 ^ -k
-pub record Rule (k : ℕ) (x sine cosine : Float) : Type 0 where
-  pub far : T (not (inRange x)) → (sine ≡ fin false 0 (pos 0)) × (cosine ≡ fin false 0 (pos 0))
-  pub near : T (inRange x) → Near k sine (exactSine (isMinus x) (grains x)) × Near k cosine (exactCosine (isMinus x) (grains x))
-  pub zero-kept : (s : Bool) → x ≡ fin s 0 (pos 0) → (sine ≡ x) × (cosine ≡ fin false 1 (pos 0))
+-- document 01's rule for y, the sine of x, with a limit and a bound 2 ^ -k: near the exact sine up to the limit, +0.0 beyond it, and of a zero that zero
+pub record IsSine (limit : Float) (k : ℕ) (x y : Float) : Type 0 where
+  pub near : T (upTo limit x) → Near k y (exactSine (isMinus x) (grains x))
+  pub far : T (not (upTo limit x)) → y ≡ fin false 0 (pos 0)
+  pub of-zero : (s : Bool) → x ≡ fin s 0 (pos 0) → y ≡ x
+
+-- and for y, the cosine of x: of a zero it is 1
+pub record IsCosine (limit : Float) (k : ℕ) (x y : Float) : Type 0 where
+  pub near : T (upTo limit x) → Near k y (exactCosine (isMinus x) (grains x))
+  pub far : T (not (upTo limit x)) → y ≡ fin false 0 (pos 0)
+  pub of-zero : (s : Bool) → x ≡ fin s 0 (pos 0) → y ≡ fin false 1 (pos 0)

@@ -7,7 +7,7 @@ use lib.Dec.{leb, ltb, eqb}
 use lib.Ieee.{Float, fin, binary32, round, neg, lt, le, toBits}
 use Rattle.relay_math.specs.declared.angles.SineCosine.{SineCosine}
 use Rattle.relay_math.specs.declared.angles.Reduced.{Reduced}
-use Rattle.relay_math.specs.Exact.{limitPower}
+use Rattle.relay_math.specs.Exact.{Limit}
 
 abbrev pub F : ℕ
 F = 4294967296
@@ -78,7 +78,7 @@ large s a =
     let z = square (d .r) in
     quadrant s (d .n) (signed (d .back) (toFloat (sinPoly (d .r) z))) (toFloat (cosPoly z))
 
--- 0.0, 1.0, 2 ^ -12, the limit, and 2 ^ 13, which no limit passes
+-- 0.0, 1.0, 2 ^ -12, and 2 ^ 13, which no limit passes
 abbrev pub Zero : Float
 Zero = fin false 0 (pos 0)
 
@@ -88,17 +88,19 @@ One = fin false 1 (pos 0)
 abbrev pub Tiny : Float
 Tiny = fin false 1 (negsuc 11)
 
-abbrev pub Limit : Float
-Limit = fin false 1 (pos limitPower)
-
 abbrev pub Most : Float
 Most = fin false 1 (pos 13)
 
-unfoldable pub sincos : Float → SineCosine
-sincos x =
+-- sine and cosine of x, served up to a limit: +0.0 beyond it, x and 1 below 2 ^ -12
+unfoldable pub sincosTo : Float → Float → SineCosine
+sincosTo limit x =
     let s = lt x Zero in
     let a = signed s x in
-    cond (le a Limit) (cond (le Tiny a) (large s a) record { sine = x; cosine = One }) record { sine = Zero; cosine = Zero }
+    cond (le a limit) (cond (le Tiny a) (large s a) record { sine = x; cosine = One }) record { sine = Zero; cosine = Zero }
+
+unfoldable pub sincos : Float → SineCosine
+unfolding sincosTo
+sincos x = sincosTo Limit x
 
 unfoldable pub sinf : Float → Float
 unfolding sincos

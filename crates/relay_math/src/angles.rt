@@ -3,6 +3,7 @@ ghost use mathlib.Core.Path.{_≡_};
 ghost use Prim.Native.Nat.{_<_, _≤_};
 ghost use lib.Dec.{T};
 ghost use lib.Ieee.{le};
+ghost use Rattle.relay_math.specs.Exact.{Limit, IsSine, IsCosine};
 ghost use Rattle.relay_math.specs.Steps.{part, square, lessPart, sinPoly, cosPoly, toFloat, signed, pick, reduceOf, quadrant, fixed, large, sincos, sinf, cosf, Tiny, Most};
 
 // Sine and cosine are served up to this size, and give +0.0 beyond it.
@@ -191,15 +192,19 @@ pub fn sincos(x: f32) -> SineCosine
     }
 }
 
+// The sine of x: document 01's rule, and our own steps to it.
 pub fn sinf(x: f32) -> f32
-    ensures { λ r. ⌜ r ≡ sinf x ⌝ }
+    ensures near { λ r. ⌜ IsSine Limit 20 x r ⌝ }
+    ensures is { λ r. ⌜ r ≡ sinf x ⌝ }
 {
     let p = sincos(x);
     p.sine
 }
 
+// The cosine of x, likewise.
 pub fn cosf(x: f32) -> f32
-    ensures { λ r. ⌜ r ≡ cosf x ⌝ }
+    ensures near { λ r. ⌜ IsCosine Limit 20 x r ⌝ }
+    ensures is { λ r. ⌜ r ≡ cosf x ⌝ }
 {
     let p = sincos(x);
     p.cosine

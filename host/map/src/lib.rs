@@ -219,7 +219,8 @@ fn definition(krate: &str, name: &str) -> Result<Option<String>, String> {
     for folder in crates.iter().map(|krate| format!("crates/{krate}/specs")) {
         for file in entries(&folder).unwrap_or_default() {
             let text = text(format!("{folder}/{file}"))?;
-            let mut heads = text.lines().filter_map(|line| line.split_once(" : ")).map(|(head, _)| head);
+            // a record's name stands before its parameters
+            let mut heads = text.lines().filter_map(|line| line.split_once(" : ")).filter_map(|(head, _)| head.split(" (").next());
             if heads.any(|head| head.split(' ').next_back() == Some(name) && !head.starts_with([' ', '-'])) {
                 return Ok(Some(format!("{folder}/{file}")));
             }

@@ -4,7 +4,8 @@ use mathlib.Core.Path.{_∙_}
 use lib.Dec.{T}
 use lib.Ieee.{Float, ofBits, le, lt}
 use lib.Ieee.Positive.{between, le-trans-positive}
-use Rattle.relay_math.specs.Steps.{sincos, Tiny, Limit, Most}
+use Rattle.relay_math.specs.Exact.{Limit}
+use Rattle.relay_math.specs.Steps.{sincos, Tiny, Most}
 use Rattle.laws.proofs.Tests.{held}
 use Rattle.relay_math.proofs.angles.sincos.Statement.{statement}
 use Rattle.relay_math.proofs.angles.sincos.Tie as tie

@@ -9,4 +9,4 @@ lowpass-spec =
     tie.close (tie.spec (λ c κs. search needs) (λ c κs. search needs)
     (λ c. simp (c .passthrough .ensures, ← c .before .before .passes-through .ensures, c .before .if1 .taken))
     (λ c κs. search needs) (λ c κs. search needs)
-    (λ c. simp (c .cosf .ensures, c .before .sinf .ensures, ← c .before .before .before .passes-through .ensures, c .before .before .if1 .left)))
+    (λ c. simp (c .cosf .ensures .1, c .before .sinf .ensures .1, ← c .before .before .before .passes-through .ensures, c .before .before .if1 .left)))

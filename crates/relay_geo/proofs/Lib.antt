@@ -6,4 +6,5 @@ pub mod Figures
 pub mod MarginRange
 pub mod SetUp
 pub mod Steps
+pub mod Products
 pub mod OneAnswer

@@ -20,7 +20,8 @@ FALCON-QUAD =
       j = (f32 0x3cb1_c433, f32 0x3cb1_c433, f32 0x3d23_d70a);
     }
 
--- ---- errors. Entry (i, j) of AᵀB is `prod3` of the columns i of A and j of B: no matrix stands between.
+-- ---- errors. Entry (i, j) of AᵀB is `prod3` of the columns i of A and j of B: no matrix stands between. proofs/Products.antt has both by
+-- `matmul3`, `transpose3` and `vee`, as the Rust writes them.
 
 unfoldable pub psi : Mat3 → Mat3 → Float
 psi r rd =

@@ -1,4 +1,4 @@
-// Of 003: angles to a quaternion. The rest of that file is cut, and is left out.
+// Of 003, `euler_to_quaternion` alone: document 01 leaves out the rest, the position controller.
 ghost use mathlib.Core.Path.{_≡_};
 ghost use Rattle.relay_pos.specs.Euler.{eulerToQuaternion};
 

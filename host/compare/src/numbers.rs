@@ -23,11 +23,23 @@ pub struct Found {
     pub ulps_at: f32,
 }
 
+/// What a sweep finds on each thread, put together.
+pub trait Sweeps: Default + Send {
+    fn of(cases: u64) -> Self;
+    fn join(&mut self, other: Self);
+}
+
 impl Found {
     fn fault(&mut self, text: impl FnOnce() -> String) {
         if self.wrong.is_none() {
             self.wrong = Some(text());
         }
+    }
+}
+
+impl Sweeps for Found {
+    fn of(cases: u64) -> Self {
+        Found { cases, ..Found::default() }
     }
 
     fn join(&mut self, other: Found) {
@@ -48,13 +60,13 @@ impl Found {
 const CHUNK: u64 = 250_000;
 
 /// Runs `one` on the patterns `first`, `first + stride`, .. up to and with `last`, on as many threads as the machine has.
-pub fn sweep(what: &'static str, first: u32, last: u32, stride: u32, one: impl Fn(f32, &mut Found) + Sync) -> Found {
+pub fn sweep<F: Sweeps>(what: &'static str, first: u32, last: u32, stride: u32, one: impl Fn(f32, &mut F) + Sync) -> F {
     let all = u64::from(last - first) / u64::from(stride) + 1;
     let progress = Progress::new(what, all);
-    let total = Mutex::new(Found::default());
+    let total = Mutex::new(F::default());
     threads::each(all.div_ceil(CHUNK), |chunk| {
         let (from, to) = (chunk * CHUNK, all.min((chunk + 1) * CHUNK));
-        let mut found = Found { cases: to - from, ..Found::default() };
+        let mut found = F::of(to - from);
         (from..to).for_each(|k| one(f32::from_bits((u64::from(first) + k * u64::from(stride)) as u32), &mut found));
         progress.add(to - from);
         total.lock().expect("a sweep's thread failed").join(found);
@@ -65,7 +77,7 @@ pub fn sweep(what: &'static str, first: u32, last: u32, stride: u32, one: impl F
 
 /// The root, the absolute value and finiteness against the hardware's.
 pub fn hardware(stride: u32) -> Found {
-    sweep("root, size and finiteness", 0, u32::MAX, stride, |x, found| {
+    sweep("root, size and finiteness", 0, u32::MAX, stride, |x, found: &mut Found| {
         let r = faces::sqrtf(x);
         if !same(r, x.sqrt()) {
             found.fault(|| format!("root of {:08x} is {:08x}, the hardware's {:08x}", x.to_bits(), r.to_bits(), x.sqrt().to_bits()));
@@ -121,7 +133,7 @@ pub fn angles(stride: u32) -> Found {
 
 /// Beyond the limit, the infinities and the NaNs: +0.0 for both signs.
 pub fn far(stride: u32) -> Found {
-    sweep("sine and cosine beyond the limit", LIMIT.to_bits() + 1, 0x7fff_ffff, stride, |x, found| {
+    sweep("sine and cosine beyond the limit", LIMIT.to_bits() + 1, 0x7fff_ffff, stride, |x, found: &mut Found| {
         for x in [x, f32::from_bits(x.to_bits() | 0x8000_0000)] {
             let (s, c) = faces::sincos(x);
             if s.to_bits() != 0 || c.to_bits() != 0 || faces::sinf(x).to_bits() != 0 || faces::cosf(x).to_bits() != 0 {
@@ -133,7 +145,7 @@ pub fn far(stride: u32) -> Found {
 
 /// Our sine and cosine against document 01's exact values, worked out from its own words: within 2^-22, which is also proved.
 pub fn document(stride: u32) -> Found {
-    sweep("sine and cosine against document 01", 0, LIMIT.to_bits(), stride, |x, found| {
+    sweep("sine and cosine against document 01", 0, LIMIT.to_bits(), stride, |x, found: &mut Found| {
         let ((s, c), (es, ec)) = (faces::sincos(x), exact::sincos(x));
         let distance = (f64::from(s) - es).abs().max((f64::from(c) - ec).abs());
         if distance > found.distance {
@@ -147,7 +159,7 @@ pub fn document(stride: u32) -> Found {
 
 /// The published f32 kernels against the true value, for the record.
 pub fn published(stride: u32) -> Found {
-    sweep("the published kernels", 0, LIMIT.to_bits(), stride, |x, found| {
+    sweep("the published kernels", 0, LIMIT.to_bits(), stride, |x, found: &mut Found| {
         let (ts, tc) = f64::from(x).sin_cos();
         let s = relay_math_published::sinf(x);
         let c = relay_math_published::cosf(x);
@@ -156,4 +168,67 @@ pub fn published(stride: u32) -> Found {
             (found.distance, found.at) = (distance, x);
         }
     })
+}
+
+/// How far apart two answers to the same angles are.
+#[derive(Clone, Default)]
+pub struct Apart {
+    pub cases: u64,
+    /// How many answers differ, and how many by more than one unit in the last place.
+    pub differ: u64,
+    pub further: u64,
+    /// The most units between the two, and the greatest distance, each with its angle.
+    pub units: u64,
+    pub at: f32,
+    pub distance: f64,
+    pub distance_at: f32,
+}
+
+/// The place of a float among all floats in their order: neighbours are one unit apart, and the two zeros share a place.
+fn place(x: f32) -> i64 {
+    let size = i64::from(x.to_bits() & 0x7fff_ffff);
+    if x.is_sign_negative() {
+        -size
+    } else {
+        size
+    }
+}
+
+impl Apart {
+    fn look(&mut self, x: f32, ours: f32, theirs: f32) {
+        let units = place(ours).abs_diff(place(theirs));
+        let distance = (f64::from(ours) - f64::from(theirs)).abs();
+        self.join(Apart { cases: 0, differ: (units > 0).into(), further: (units > 1).into(), units, at: x, distance, distance_at: x });
+    }
+}
+
+impl Sweeps for Apart {
+    fn of(cases: u64) -> Self {
+        Apart { cases, ..Apart::default() }
+    }
+
+    fn join(&mut self, other: Apart) {
+        self.cases += other.cases;
+        self.differ += other.differ;
+        self.further += other.further;
+        if other.units > self.units {
+            (self.units, self.at) = (other.units, other.at);
+        }
+        if other.distance > self.distance {
+            (self.distance, self.distance_at) = (other.distance, other.distance_at);
+        }
+    }
+}
+
+/// Ours beside a published kernel, at every angle up to the limit of either sign. The zeros are left out: -0.0 has a line of its own in
+/// docs/DIFFERENCES.md.
+pub fn apart(stride: u32, ours: fn(f32) -> f32, published: fn(f32) -> f32) -> Apart {
+    let signed = |sign: u32| {
+        sweep("ours beside the published kernel", sign + 1, sign + LIMIT.to_bits(), stride, |x, found: &mut Apart| {
+            found.look(x, ours(x), published(x));
+        })
+    };
+    let mut found = signed(0);
+    found.join(signed(0x8000_0000));
+    found
 }

@@ -32,6 +32,60 @@ fn sine_and_cosine_are_not_the_published_ones() {
     assert_eq!([faces::sinf(beyond).to_bits(), faces::cosf(beyond).to_bits()], [0, 0]);
     assert_eq!(published::sinf(beyond).to_bits(), 0x3f38_953d);
     assert_eq!([faces::sinf(1.0).to_bits(), published::sinf(1.0).to_bits()], [0x3f57_6aa4, 0x3f57_6aa5]);
+    let (three_pi, half_of_it) = (f(0x4116_cbe4), f(0x4096_cbe4));
+    assert_eq!([faces::sinf(three_pi).to_bits(), published::sinf(three_pi).to_bits()], [0xb2cc_de34, 0xb2cc_de20]);
+    assert_eq!((f64::from(three_pi).sin() as f32).to_bits(), 0xb2cc_de2e);
+    assert_eq!(faces::cosf(half_of_it).to_bits().abs_diff(published::cosf(half_of_it).to_bits()), 20);
+    let (a, b) = (f(0x4155_afd3), f(0x4016_cc3a));
+    assert_eq!([faces::sinf(a) - published::sinf(a), faces::cosf(b) - published::cosf(b)].map(f32::abs), [2f32.powi(-23); 2]);
+}
+
+/// A stride, and prime, of what `make exhaustive` runs in full.
+#[test]
+fn sine_and_cosine_are_near_the_published_ones() {
+    for found in [compare::numbers::apart(251, faces::sinf, published::sinf), compare::numbers::apart(251, faces::cosf, published::cosf)] {
+        assert!(found.cases > 8_000_000 && found.differ > 0, "{} of {}", found.differ, found.cases);
+        assert!(found.units <= 20 && found.distance <= 2f64.powi(-23), "{} units, {:e}", found.units, found.distance);
+    }
+}
+
+/// Built with its own kernels the Rust has a heading there; built with ours, as document 01 asks, it has none, and neither have we.
+#[test]
+fn headings_beyond_128_have_no_attitude() {
+    let (limit, beyond) = (f(0x4300_0000), f(0x4300_0001));
+    let down = Vec3(0.0, 0.0, 1.0);
+    let own = [published::cosf(beyond), published::sinf(beyond), 0.0];
+    assert!(rust_geo::private::normalize(rust_geo::private::cross(array(down), own)).is_some());
+    for (yaw, given) in [(limit, true), (beyond, false), (-beyond, false)] {
+        assert_eq!([geo::desired_attitude(down, yaw).given, rust_geo::desired_attitude(array(down), yaw).is_some()], [given; 2]);
+    }
+    let tilt = Vec3(0.25, 0.5, 0.75);
+    assert!(!geo::flatness_omega_ff(tilt, tilt, beyond, 0.0).given);
+    assert!(rust_geo::flatness_omega_ff(array(tilt), array(tilt), beyond, 0.0).is_none());
+    let controller = geo::geoatt_new(geo::geogains_falcon_quad());
+    let rate = geo::geoatt_desired_rate(controller, Quat(1.0, 0.0, 0.0, 0.0), tilt, beyond);
+    assert_eq!(array(rate.0).map(f32::to_bits), [0; 3]);
+    // the tick: no margin, and the fallback flies at zero though the planner flew
+    let mut image = fosavalo::Image::set_up(&fosavalo::SetUp::falcon_quad()).expect("a set-up");
+    let mut tick = |yaw| {
+        let planner = fosavalo::BodyRate([0.5, 0.0, 0.0]);
+        image.tick(&fosavalo::TickInput { yaw, planner, ..fosavalo::TickInput::default() }).expect("a tick")
+    };
+    assert_eq!(tick(0.0).pilot, fosavalo::Pilot::Planner);
+    let lost = tick(beyond);
+    assert_eq!((lost.pilot, lost.margin, lost.psi.is_nan()), (fosavalo::Pilot::Fallback, f32::NEG_INFINITY, true));
+    assert_eq!(lost.command.0.map(f32::to_bits), [0; 3]);
+    assert_eq!(tick(0.0).pilot, fosavalo::Pilot::Planner);
+    // half the angle counts, so here the limit is 256, for each of the three
+    let (at, past) = (f(0x4380_0000), f(0x4380_0001));
+    for (angle, none) in [(at, false), (past, true)] {
+        for [roll, pitch, yaw] in [[angle, 0.25, 0.5], [0.25, angle, 0.5], [0.25, 0.5, angle]] {
+            let ours = faces::pos::euler_to_quaternion(roll, pitch, yaw);
+            let theirs = oracle::pos::euler_to_quaternion(roll, pitch, yaw);
+            assert_eq!([[ours.0, ours.1, ours.2, ours.3] == [0.0; 4], theirs == [0.0; 4]], [none; 2]);
+        }
+    }
+    assert_ne!([published::cosf(past * 0.5), published::sinf(past * 0.5)], [0.0; 2]);
 }
 
 #[test]
@@ -77,6 +131,17 @@ fn some_sets_that_are_not_finite_leave_a_margin() {
     }
     let (ours, theirs) = margin(f32::INFINITY, 1.75, 0.25);
     both(ours, theirs, 1.5f32.to_bits());
+}
+
+#[test]
+fn the_edge_of_the_set_counts_as_recoverable() {
+    // psi is psi_max itself, which the comment's strict sign leaves out; and so is the squared rate its bound
+    for (psi, e_omega_sq) in [(1.75, 0.0), (1.0, 2.0)] {
+        let ours = RecoverableSet { k_r: 1.0, lambda_j: 1.0, psi_max: 1.75 };
+        let theirs = rust_geo::RecoverableSet { k_r: 1.0, lambda_j: 1.0, psi_max: 1.75 };
+        both(geo::recoverableset_margin(ours, psi, e_omega_sq), theirs.margin(psi, e_omega_sq), 0);
+        assert_eq!([geo::recoverableset_recoverable(ours, psi, e_omega_sq), theirs.recoverable(psi, e_omega_sq)], [true; 2]);
+    }
 }
 
 #[test]

@@ -17,12 +17,29 @@ fn report(name: &str, found: numbers::Found) -> bool {
     found.wrong.is_none()
 }
 
+/// For the record: docs/DIFFERENCES.md has what this prints.
+fn beside(name: &str, found: numbers::Apart) {
+    println!(
+        "{name}, ours beside the published: {} of {} answers differ, {} by more than one unit",
+        found.differ, found.cases, found.further
+    );
+    println!(
+        "  at most {} units, at {:08x}; at most {:.3e}, at {:08x}",
+        found.units,
+        found.at.to_bits(),
+        found.distance,
+        found.distance_at.to_bits()
+    );
+}
+
 fn main() {
     let mut good = report("root, size, finiteness against the hardware", numbers::hardware(1));
     good &= report("sine and cosine up to 128 against the true value", numbers::angles(1));
     good &= report("sine and cosine beyond 128", numbers::far(1));
     good &= report("sine and cosine up to 128 against document 01", numbers::document(7));
     report("the published kernels up to 128, for the record", numbers::published(7));
+    beside("sine", numbers::apart(1, faces::sinf, relay_math_published::sinf));
+    beside("cosine", numbers::apart(1, faces::cosf, relay_math_published::cosf));
     if !good {
         std::process::exit(1);
     }

@@ -57,9 +57,9 @@ closest-unique n a b (la, ha) (lb, hb) =
 pub digits : (n r : ℕ) → 2 ^ 46 ≤ n → n ≤ 2 ^ 48 - 2 ^ 24 → Closest n r → (2 ^ 23 ≤ r) × (r < 2 ^ 24)
 digits n r l h (u, o) = (le-of-suc-le-suc (lt-of-not-le (not-below n r (2 ^ 23) o (omega arith))), lt-of-not-le (not-below n (2 ^ 24 - 1) r (omega arith) u))
 
--- ---- an f32 is a multiple of P = 2 ^ k grains, or below 2 ^ 23 * P
+-- ---- an f32 is a multiple of G = 2 ^ k grains, or below 2 ^ 23 * G
 abbrev Grid : ℕ → ℕ → Type 0
-Grid P Y = ((c : ℕ) × (Y ≡ c * P)) ⊎ (Y < 2 ^ 23 * P)
+Grid G Y = ((c : ℕ) × (Y ≡ c * G)) ⊎ (Y < 2 ^ 23 * G)
 
 on-grid : (k : ℕ) (y : Float) → T (fits binary32 y) → T (natural y) → Grid (2 ^ k) (grains y)
 on-grid k y t p =
@@ -72,41 +72,41 @@ on-grid k y t p =
     ])
     y p t
 
--- ---- the squares: r * P is nearer than a Y above it, and than a Y below it
-module _ (n r P N Y : ℕ) (p : 0 < P) (e : N ≡ n * (P * P)) (y : Grid P Y) (c : Closest n r) (low : 2 ^ 23 ≤ r) (least : 2 ^ 46 ≤ n) where
-  above : r * P < Y → 4 * N < square (r * P + Y)
+-- ---- the squares: r * G is nearer than a Y above it, and than a Y below it
+module _ (n r G N Y : ℕ) (p : 0 < G) (e : N ≡ n * (G * G)) (y : Grid G Y) (c : Closest n r) (low : 2 ^ 23 ≤ r) (least : 2 ^ 46 ≤ n) where
+  above : r * G < Y → 4 * N < square (r * G + Y)
   above h =
-      let g : suc r * P ≤ Y = elim y [ inl (d, z) ↦ rw z (mul-le-mul-right P (lt-of-mul-lt-mul-right P (rw z at h))) | inr z ↦ absurd (let q : 2 ^ 23 * P ≤ r * P = mul-le-mul-right P low in omega arith) ] in
-      let s : suc (2 * r) * P * (suc (2 * r) * P) ≤ square (r * P + Y) = let b : suc (2 * r) * P ≤ r * P + Y = omega arith in mul-le-mul b b in
-      let t : 4 * n * (P * P) < suc (2 * r) * suc (2 * r) * (P * P) = mul-lt-mul-of-pos-right (omega arith) (mul-pos p p) in
+      let g : suc r * G ≤ Y = elim y [ inl (d, z) ↦ rw z (mul-le-mul-right G (lt-of-mul-lt-mul-right G (rw z at h))) | inr z ↦ absurd (let q : 2 ^ 23 * G ≤ r * G = mul-le-mul-right G low in omega arith) ] in
+      let s : suc (2 * r) * G * (suc (2 * r) * G) ≤ square (r * G + Y) = let b : suc (2 * r) * G ≤ r * G + Y = omega arith in mul-le-mul b b in
+      let t : 4 * n * (G * G) < suc (2 * r) * suc (2 * r) * (G * G) = mul-lt-mul-of-pos-right (omega arith) (mul-pos p p) in
       omega arith
 
-  -- a Y of a smaller power stands below 2 ^ 23 * P, which is r * P itself only where r * r is at most n
-  below : Y < r * P → square (r * P + Y) < 4 * N
+  -- a Y of a smaller power stands below 2 ^ 23 * G, which is r * G itself only where r * r is at most n
+  below : Y < r * G → square (r * G + Y) < 4 * N
   below h = go r refl y
     where
-      wide : (d : ℕ) → r ≡ suc d → Y ≤ d * P → square (r * P + Y) < 4 * N
+      wide : (d : ℕ) → r ≡ suc d → Y ≤ d * G → square (r * G + Y) < 4 * N
       wide d z g =
-          let b : r * P + Y ≤ suc (2 * d) * P = rw z (omega arith) in
-          let s : square (r * P + Y) ≤ suc (2 * d) * P * (suc (2 * d) * P) = mul-le-mul b b in
+          let b : r * G + Y ≤ suc (2 * d) * G = rw z (omega arith) in
+          let s : square (r * G + Y) ≤ suc (2 * d) * G * (suc (2 * d) * G) = mul-le-mul b b in
           let l : suc d * suc d < n + suc d = rw z at (c .0) in
-          let t : suc (2 * d) * suc (2 * d) * (P * P) < 4 * n * (P * P) = mul-lt-mul-of-pos-right (omega arith) (mul-pos p p) in
+          let t : suc (2 * d) * suc (2 * d) * (G * G) < 4 * n * (G * G) = mul-lt-mul-of-pos-right (omega arith) (mul-pos p p) in
           omega arith
 
-      close : r ≡ 2 ^ 23 → square (r * P + Y) < 4 * N
+      close : r ≡ 2 ^ 23 → square (r * G + Y) < 4 * N
       close z =
           let l : r * r ≤ n = rw z least in
-          let b : suc (r * P + Y) ≤ r * P + r * P = omega arith in
-          let s : suc (r * P + Y) * suc (r * P + Y) ≤ (r * P + r * P) * (r * P + r * P) = mul-le-mul b b in
-          let t : r * r * (P * P) ≤ n * (P * P) = mul-le-mul-right (P * P) l in
+          let b : suc (r * G + Y) ≤ r * G + r * G = omega arith in
+          let s : suc (r * G + Y) * suc (r * G + Y) ≤ (r * G + r * G) * (r * G + r * G) = mul-le-mul b b in
+          let t : r * r * (G * G) ≤ n * (G * G) = mul-le-mul-right (G * G) l in
           omega arith
 
-      go : (a : ℕ) → r ≡ a → Grid P Y → square (r * P + Y) < 4 * N
+      go : (a : ℕ) → r ≡ a → Grid G Y → square (r * G + Y) < 4 * N
       go zero z g = absurd (omega arith)
-      go (suc d) z (inl (q, w)) = wide d z (rw w (mul-le-mul-right P (let l : q < suc d = lt-of-mul-lt-mul-right P (rw (w, z) at h) in omega arith)))
+      go (suc d) z (inl (q, w)) = wide d z (rw w (mul-le-mul-right G (let l : q < suc d = lt-of-mul-lt-mul-right G (rw (w, z) at h) in omega arith)))
       go (suc d) z (inr w) = elim (eq-or-lt-of-le low) [
         | inl i ↦ close (sym i)
-        | inr i ↦ wide d z (let l : 2 ^ 23 * P ≤ d * P = mul-le-mul-right P (omega arith) in omega arith)
+        | inr i ↦ wide d z (let l : 2 ^ 23 * G ≤ d * G = mul-le-mul-right G (omega arith) in omega arith)
       ]
 
 pub near : (x r : Float) (k q n : ℕ) → grains x * 2 ^ 149 ≡ n * (2 ^ k * 2 ^ k) → 2 ^ 46 ≤ n → n ≤ 2 ^ 48 - 2 ^ 24 → Closest n q

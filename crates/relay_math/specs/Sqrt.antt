@@ -36,20 +36,25 @@ IsRoot (fin false (suc m) e) r = Nearest (fin false (suc m) e) r
 
 -- ---- the root as a function: it computes, and `proofs/Root.antt` proves `IsRoot x (sqrtf x)` of every f32 x
 
--- the whole part of the root of n, for an n below 4 ^ d
+-- The whole part of the root of n, for an n below 4 ^ d. Two digits of n make one of its root (digits are binary): r is the root without its last digit,
+-- which is 1 where (2 r + 1) ^ 2 is still at most n.
 unfoldable pub isqrt : ℕ → ℕ → ℕ
 isqrt zero n = 0
 isqrt (suc d) n = let r = isqrt d (n / 4) in cond (leb (square (suc (2 * r))) n) (suc (2 * r)) (2 * r)
 
--- the whole number nearest to the root of an n below 2 ^ 48. No whole number is the square of q + 1 / 2, which is q * q + q + 1 / 4.
+-- The whole number nearest to the root of an n below 2 ^ 48: q, the whole part, or q + 1 where n is above (q + 1 / 2) ^ 2 = q * q + q + 1 / 4, which no whole number is.
 unfoldable pub nearestRoot : ℕ → ℕ
 unfolding isqrt
 nearestRoot n = let q = isqrt 24 n in cond (leb n (q * q + q)) q (suc q)
 
--- The root of an x of X grains is √N grains, with N = X * 2 ^ 149. N without its last 2 k digits, which are zeros, has 47 or 48 digits, and the root of those has the 24 that an f32 keeps.
+-- An x of X grains is X / 2 ^ 149, and its root is √N grains, with N = X * 2 ^ 149. N has `size N` digits. Without its last 2 k, which are zeros, it has 47 or 48, and
+-- their root n has the 24 that an f32 keeps. So the root is n * 2 ^ k grains: `odd 25 false n k 149` is the float n * 2 ^ k / 2 ^ 149, written with an odd number.
 unfoldable pub rootGrains : ℕ → Float
 unfolding nearestRoot size odd
-rootGrains N = let k = (size N - 47) / 2 in odd 25 false (nearestRoot (N / (2 ^ k * 2 ^ k))) k 149
+rootGrains N =
+    let k = (size N - 47) / 2 in
+    let n = nearestRoot (N / (2 ^ k * 2 ^ k)) in
+    odd 25 false n k 149
 
 unfoldable pub sqrtf : Float → Float
 unfolding rootGrains

@@ -9,12 +9,42 @@ ghost use Rattle.relay_math.specs.F32.{grains};
 use crate::angles::part_of;
 use crate::reciprocal::line;
 
+// 1 in units of 2^-32.
+const ONE: u64 = 4294967296;
+
+// 7 / 4 in those units.
+const SEVEN_QUARTERS: u64 = 7516192768;
+
+// 2^17: the last 17 digits of d say how far along its part of the table a number is, and the 7 above them which part that is.
+const ALONG: u32 = 131072;
+
+// The same beside a line's own numbers.
+const ALONG_U64: u64 = 131072;
+
+// 2^23: an f32's first digit, which its pattern leaves out, and the unit of the exponent's field.
+const FIRST: u32 = 8388608;
+
+// 23 in that field.
+const FIELD_23: u32 = 192937984;
+
+// 51 in that field.
+const FIELD_51: u32 = 427819008;
+
+// The pattern of the infinity.
+const INFINITY_BITS: u32 = 0x7f80_0000;
+
+// Half the pattern of 1.0.
+const HALF_ONE_BITS: u32 = 0x1fc0_0000;
+
+// The pattern of 1.0 without its last 12 digits.
+const UPPER_ONE_BITS: u32 = 0x3f800;
+
 // The value on the line e of the table, f of the way along in units of 2^-17: in units of 2^-32.
 fn on_line(e: u64, f: u64) -> u64
-    requires { ⌜ f < 131072 ⌝ }
-    ensures { λ r. ⌜ r < 4294967296 ⌝ }
+    requires { ⌜ f < 2 ^ 17 ⌝ }
+    ensures { λ r. ⌜ r < 2 ^ 32 ⌝ }
 {
-    (e / 4294967296 + 4294967296 - e % 4294967296 * f / 131072) % 4294967296
+    (e / ONE + ONE - e % ONE * f / ALONG_U64) % ONE
 }
 
 // A whole number near the root of n = t * 2^46, right for nearly all n whose digits d has. All that is promised is its range: `nearest_root` corrects it.
@@ -22,10 +52,12 @@ fn guess(n: u64, d: u32) -> u64
     requires { ⌜ n < 2 ^ 48 ⌝ }
     ensures { λ r. ⌜ r ≤ 2 ^ 26 ⌝ }
 {
-    // y = 1 / √t; √t = t y, and Newton's step from there: t y (3 - t y^2) / 2
-    let y = on_line(line(d / 131072 % 128), (d % 131072) as u64);
+    // y = 1 / √t; √t = t y, and Newton's step from there: t y (3 - t y^2) / 2.
+    // n / 2^16 is t / 4 in units of 2^-32, so s is t y / 4, and u is (3 - t y^2) / 4, taken from 1 more so that it is not below zero.
+    // s u is √t / 8, which is 2^29 √t units, and √n is 2^23 √t.
+    let y = on_line(line(d / ALONG % 128), (d % ALONG) as u64);
     let s = part_of(n / 65536, y);
-    let u = (7516192768 - part_of(s, y)) % 4294967296;
+    let u = (SEVEN_QUARTERS - part_of(s, y)) % ONE;
     (part_of(s, u) + 32) / 64
 }
 
@@ -64,9 +96,9 @@ fn root_bits(d: u32) -> u32
     ensures finite { λ r. ⌜ r < 255 * 2 ^ 23 ⌝ }
 {
     // m shifted by 23 or 24 digits, so that what is left of the exponent is even. (As a product it is quicker than as a shift.)
-    let n = ((d % 8388608 + 8388608) as u64) * ((d / 8388608 % 2 * 8388608 + 8388608) as u64);
-    // (e + 103) / 2 above the root's own digits: 427819008 is 51 * 2^23
-    (d / 2 + 427819008) / 8388608 * 8388608 + (nearest_root(n, d) as u32)
+    let n = ((d % FIRST + FIRST) as u64) * ((d / FIRST % 2 * FIRST + FIRST) as u64);
+    // (e + 103) / 2 above the root's own digits
+    (d / 2 + FIELD_51) / FIRST * FIRST + (nearest_root(n, d) as u32)
 }
 
 // The number that the pattern b has as e * 2^23 + m, with an m of 24 digits: a subnormal one is shifted up.
@@ -75,11 +107,11 @@ fn digits(b: u32) -> u32
     ensures sized { λ d. ⌜ (2 ^ 23 ≤ d) × (d < 301 * 2 ^ 23) ⌝ }
     ensures is { λ d. ⌜ ((x : Float) → T (fits binary32 x) → T (positive x) → toBits binary32 x ≡ b → grains x * 2 ^ 23 ≡ (d % 2 ^ 23 + 2 ^ 23) * 2 ^ (d / 2 ^ 23 - 1)) ⌝ }
 {
-    if b < 8388608 {
+    if b < FIRST {
         let z = u32::leading_zeros(b);
-        (31 - z) * 8388608 + (b << (z - 8))
+        (31 - z) * FIRST + (b << (z - 8))
     } else {
-        b + 192937984 // 23 * 2^23: e is 22 more than the pattern's own exponent
+        b + FIELD_23 // e is 22 more than the pattern's own exponent, and m has its first digit
     }
 }
 
@@ -99,7 +131,7 @@ pub fn sqrtf(x: f32) -> f32
 {
     if x > 0.0 {
         let b = f32::to_bits(x);
-        if b < 0x7f80_0000 {
+        if b < INFINITY_BITS {
             f32::from_bits(positive_root(b))
         } else {
             x
@@ -115,8 +147,8 @@ pub fn sqrtf_near_one(x: f32) -> f32
 {
     if x > 0.0 {
         let b = f32::to_bits(x);
-        if (b / 2048 + 1) / 2 == 0x3f800 {
-            return f32::from_bits(b / 2 + 0x1fc0_0000);
+        if (b / 2048 + 1) / 2 == UPPER_ONE_BITS {
+            return f32::from_bits(b / 2 + HALF_ONE_BITS);
         }
     }
     sqrtf(x)

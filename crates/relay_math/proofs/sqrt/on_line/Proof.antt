@@ -6,8 +6,8 @@ use native.Mathlib.Omega.{arith}
 use Rattle.relay_math.proofs.sqrt.on_line.Statement.{statement}
 use Rattle.relay_math.proofs.sqrt.on_line.Tie as tie
 
-short : (e f : ℕ) → f < 131072 → e % 4294967296 * f ≤ e % 4294967296 * 131072
-short e f h = mul-le-mul-left (e % 4294967296) (le-of-lt h)
+short : (e f : ℕ) → f < 2 ^ 17 → e % 2 ^ 32 * f ≤ e % 2 ^ 32 * 2 ^ 17
+short e f h = mul-le-mul-left (e % 2 ^ 32) (le-of-lt h)
 
 pub on-line-spec : {M : Type 1} → statement M
 on-line-spec =

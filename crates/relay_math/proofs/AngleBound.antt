@@ -1,4 +1,4 @@
--- The theorem on sine and cosine: for every f32 the steps meet document 01's rule. Assumes nothing.
+-- The theorem on sine and cosine: with any limit up to 2 ^ 13 the steps meet document 01's rule, for every f32. Assumes nothing.
 use mathlib.Core.Path.{_≡_, refl, sym, subst}
 use mathlib.Core.Bool.{Bool, true, false, not, cond}
 use Prim.Native.Nat.{ℕ, zero, suc, _+_, _*_, _^_, _≤_, _<_}
@@ -12,9 +12,9 @@ use lib.Ieee.Bits.{is-true, is-false}
 use lib.Ieee.Positive.{positive, le→cross, le-trans-positive}
 use borrow.Author.Tests.{leb-true, leb-false, lt-ltb}
 use Rattle.relay_math.specs.declared.angles.SineCosine.{SineCosine}
-use Rattle.relay_math.specs.Exact.{P, Near, sinAt, cosAt, exactSine, exactCosine, Limit, upTo, inRange, isMinus, IsSine, IsCosine}
+use Rattle.relay_math.specs.Exact.{P149, Near, sinAt, cosAt, exactSine, exactCosine, Limit, upTo, inRange, isMinus, IsSine, IsCosine}
 use Rattle.relay_math.specs.F32.{grains, fabsf}
-use Rattle.relay_math.specs.Steps.{square, sinPoly, cosPoly, toFloat, signed, fixed, reduceOf, quadrant, large, Zero, One, Most, sincosTo, sincos, sinf, cosf}
+use Rattle.relay_math.specs.Steps.{cutSquare, sinPoly, cosPoly, toFloat, signed, fixed, reduceOf, quadrant, large, Zero, One, Most, sincosTo, sincos, sinf, cosf}
 use Rattle.laws.proofs.Tests.{ordered}
 use Rattle.relay_math.proofs.Signs.{zero-is, is-below, size-pos}
 use Rattle.relay_math.proofs.Grains.{grains-exact}
@@ -35,7 +35,7 @@ large-near : (s : Bool) (a : Float) → Both s (fixed a * 2 ^ 101) (large s a)
 unfolding large
 large-near s a =
     let d = reduceOf (fixed a) in
-    by-turn s (d .back) (fixed a * 2 ^ 101) (d .n) (d .r * 2 ^ 101) (toFloat (sinPoly (d .r) (square (d .r)))) (toFloat (cosPoly (square (d .r))))
+    by-turn s (d .back) (fixed a * 2 ^ 101) (d .n) (d .r * 2 ^ 101) (toFloat (sinPoly (d .r) (cutSquare (d .r)))) (toFloat (cosPoly (cutSquare (d .r))))
     (turn (fixed a)) (few (fixed a)) (sin-near (d .r) (small (fixed a))) (cos-near (d .r) (small (fixed a)))
 
 -- ---- below 2 ^ -12 nothing is taken off
@@ -53,7 +53,7 @@ tiny-near s m e F K =
     let E = grains-exact s m e F in
     let S : u * 4096 < 2 ^ 149 = lt-of-not-le (λ (g : 2 ^ 149 ≤ u * 4096). not-le-of-lt K (at-least u (2 ^ 149) (m * up e) (down e) 4096 (lit< tt) (sym E) g)) in
     subst (Both s u) (own-size s m e)
-    (by-turn s false u 0 u (fin false m e) One (no-turn u (half-below u (2 ^ 149) P S (lit≤ tt))) (lit< tt)
+    (by-turn s false u 0 u (fin false m e) One (no-turn u (half-below u (2 ^ 149) P149 S (lit≤ tt))) (lit< tt)
     (near-of (fin false m e) u (2 ^ 125) (sinExact u (2 ^ 149)) (refl, E) (lit≤ tt) (tiny-sin u (2 ^ 149) (2 ^ 125) (le-of-lt S) (lit< tt) (lit≤ tt)))
     (near-of One (2 ^ 149) (2 ^ 125) (cosExact u (2 ^ 149)) (refl, refl) (lit≤ tt) (tiny-cos u (2 ^ 149) (2 ^ 125) (le-of-lt S) (lit< tt) (lit≤ tt))))
 

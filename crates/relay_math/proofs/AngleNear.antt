@@ -9,7 +9,7 @@ use lib.Pow.{pow-mono}
 use lib.Ieee.{Float, nan, inf, fin, up, down, neg, unlike}
 use lib.Ieee.Exact.{HasValue}
 use Rattle.relay_math.specs.Exact.{gap, Value, negated, Near, sinAt, cosAt, sineBy, cosineBy}
-use Rattle.relay_math.specs.Steps.{square, sinPoly, cosPoly, toFloat, signed, quadrant}
+use Rattle.relay_math.specs.Steps.{cutSquare, sinPoly, cosPoly, toFloat, signed, quadrant}
 use Rattle.relay_math.proofs.Signs.{of-value}
 use Rattle.relay_math.proofs.Horner.{Nest, Close, carry}
 use Rattle.relay_math.proofs.Round.{rounded}
@@ -102,8 +102,8 @@ rounded-near v x h c =
     near-of (toFloat v) (y .0) (2 ^ 127) x (y .1) (lit≤ tt) (carry (2 ^ 149) (2 ^ 126) (2 ^ 127) (y .0) (lit< tt) (y .2) (y .3) (lit≤ tt) c)
 
 module _ (R : ℕ) (S : R < One) where
-  pub sin-near : Near 22 (toFloat (sinPoly R (square R))) (sinAt false (R * 2 ^ 101))
-  sin-near = rounded-near (sinPoly R (square R)) _ (sin-most R (square R) S) (sin-fixed R (2 ^ 101) (lit< tt) S)
+  pub sin-near : Near 22 (toFloat (sinPoly R (cutSquare R))) (sinAt false (R * 2 ^ 101))
+  sin-near = rounded-near (sinPoly R (cutSquare R)) _ (sin-most R (cutSquare R) S) (sin-fixed R (2 ^ 101) (lit< tt) S)
 
-  pub cos-near : Near 22 (toFloat (cosPoly (square R))) (cosAt (R * 2 ^ 101))
-  cos-near = rounded-near (cosPoly (square R)) _ (cos-most (square R)) (cos-fixed R (2 ^ 101) (lit< tt) S)
+  pub cos-near : Near 22 (toFloat (cosPoly (cutSquare R))) (cosAt (R * 2 ^ 101))
+  cos-near = rounded-near (cosPoly (cutSquare R)) _ (cos-most (cutSquare R)) (cos-fixed R (2 ^ 101) (lit< tt) S)

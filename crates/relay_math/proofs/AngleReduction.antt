@@ -15,7 +15,7 @@ use lib.Ieee.Digits.{size-lt, size-le}
 use lib.Ieee.Fits.{down-pos}
 use lib.Ieee.Positive.{positive, between, le→cross}
 use Rattle.relay_math.specs.declared.angles.Reduced.{Reduced}
-use Rattle.relay_math.specs.Exact.{gap, P, turns, rest, back, quarter}
+use Rattle.relay_math.specs.Exact.{gap, P149, turns, rest, back, quarter}
 use Rattle.relay_math.specs.F32.{grains}
 use Rattle.relay_math.specs.Steps.{Tiny, Most, fixed, P48, reduceOf}
 use Rattle.laws.proofs.Tests.{le-or-lt}
@@ -70,7 +70,7 @@ pub record Turn (u n R : ℕ) (b : Bool) : Type 0 where
   pub rest-is : rest u ≡ R
   pub back-is : back u ≡ b
 
-of-turns : (u n R : ℕ) (b : Bool) → turns u ≡ n → gap u (n * P) ≡ R → ltb u (n * P) ≡ b → Turn u (n % 4) R b
+of-turns : (u n R : ℕ) (b : Bool) → turns u ≡ n → gap u (n * P149) ≡ R → ltb u (n * P149) ≡ b → Turn u (n % 4) R b
 unfolding quarter rest back
 of-turns u n R b e r c = record { quarter-is = λ s. rw e (go s); rest-is = rw e r; back-is = rw e c }
   where
@@ -82,9 +82,9 @@ of-turns u n R b e r c = record { quarter-is = λ s. rw e (go s); rest-is = rw e
 at-zero : (u p : ℕ) → (gap u (0 * p) ≡ u) × (ltb u (0 * p) ≡ false)
 at-zero u p = (omega arith, le-ltb u (0 * p) (omega arith))
 
-pub no-turn : (u : ℕ) → 2 * u ≤ P → Turn u 0 u false
+pub no-turn : (u : ℕ) → 2 * u ≤ P149 → Turn u 0 u false
 unfolding turns
-no-turn u h = of-turns u 0 u false (rw (le-leb (2 * u) P h)) (at-zero u P .0) (at-zero u P .1)
+no-turn u h = of-turns u 0 u false (rw (le-leb (2 * u) P149 h)) (at-zero u P149 .0) (at-zero u P149 .1)
 
 -- "else n is the whole number nearest x/P": the rest is at most P / 2 for every u
 nearest : (u p : ℕ) → 0 < p → 2 * gap u (cond (leb (2 * u) p) 0 ((2 * u + p) / (2 * p)) * p) ≤ p
@@ -98,9 +98,9 @@ nearest u p h = go (leb (2 * u) p) refl
         let b : 2 * u + p < n * (2 * p) + 2 * p = lt-div-mul-add (mul-pos (lit< tt) h) in
         omega (arith, a, b)
 
-rest-most : (u : ℕ) → 2 * rest u ≤ P
+rest-most : (u : ℕ) → 2 * rest u ≤ P149
 unfolding rest turns
-rest-most u = nearest u P (lit< tt)
+rest-most u = nearest u P149 (lit< tt)
 
 -- ---- in the code's units of g = 2 ^ 101 grains
 abbrev count : ℕ → ℕ
@@ -169,7 +169,7 @@ twice-below : (u a b : ℕ) → u < a → 2 * a ≤ b → 2 * u < b
 twice-below u a b h k = omega arith
 
 -- An f32 is m * 2 ^ j grains, with an m of 24 digits: a whole number of units, or far below P.
-digits-rest : (m j : ℕ) → m < 2 ^ 24 → 2 * rest (m * 2 ^ j) < P
+digits-rest : (m j : ℕ) → m < 2 ^ 24 → 2 * rest (m * 2 ^ j) < P149
 digits-rest m j h =
     elim (le-or-lt 101 j) [
       | inl l ↦
@@ -177,11 +177,11 @@ digits-rest m j h =
           let e : rest (X * 2 ^ 101) ≡ reduceOf X .r * 2 ^ 101 = turn X .rest-is in
           rw (shift m j 101 l, e) (not-half (reduceOf X .r) (2 ^ 101) (lit< tt) (rw e at (rest-most (X * 2 ^ 101))))
       | inr g ↦
-          let b : 2 * (m * 2 ^ j) < P = twice-below (m * 2 ^ j) (2 ^ 125) P (lt-of-lt-of-le (shl-lt 24 j h) (pow-mono {j = 125} (omega arith))) (lit≤ tt) in
+          let b : 2 * (m * 2 ^ j) < P149 = twice-below (m * 2 ^ j) (2 ^ 125) P149 (lt-of-lt-of-le (shl-lt 24 j h) (pow-mono {j = 125} (omega arith))) (lit≤ tt) in
           rw (no-turn (m * 2 ^ j) (le-of-lt b) .rest-is) b
     ]
 
-pub turn-is-nearest : (x : Float) → T (fits binary32 x) → 2 * rest (grains x) < P
+pub turn-is-nearest : (x : Float) → T (fits binary32 x) → 2 * rest (grains x) < P149
 turn-is-nearest nan F = unfold grains in digits-rest 0 0 (lit< tt)
 turn-is-nearest (inf s) F = unfold grains in digits-rest 0 0 (lit< tt)
 turn-is-nearest (fin s m e) F = let p = placed s m e F in rw (grains-of (fin s m e) s (m * 2 ^ p .0) (refl, p .2)) (digits-rest m (p .0) (p .1))

@@ -6,7 +6,7 @@ use native.Mathlib.Omega.{arith}
 use lib.Dec.{lit<, lit≤}
 use mir.Val.{Fits}
 use mir.Syntax.{w64}
-use Rattle.relay_math.specs.Steps.{F, part, square, turn, lessPart, sinPoly, cosPoly}
+use Rattle.relay_math.specs.Steps.{F, part, cutSquare, horner, lessPart, sinPoly, cosPoly}
 use Rattle.relay_math.proofs.Horner.{Nest, by, nest, scaled, sinExact, cosExact, sin-terms, cos-terms, Close, Square, cut, step, times, carry}
 
 -- 1 in units of 2 ^ -48, and the error that is left for the steps: 2 ^ -23
@@ -38,12 +38,12 @@ unfolding cosPoly
 cos-most z = mul-le-mul-right 65536 (sub-le F _)
 
 -- ---- the square
-square-small : (R : ℕ) → R < One → square R < F
-unfolding square
+square-small : (R : ℕ) → R < One → cutSquare R < F
+unfolding cutSquare
 square-small R S = part-small (R / 65536) (R / 65536) (omega arith) (omega arith)
 
-square-is : (R g : ℕ) → R < One → Square (square R) (R * g * (R * g)) (One * g * (One * g))
-unfolding square
+square-is : (R g : ℕ) → R < One → Square (cutSquare R) (R * g * (R * g)) (One * g * (One * g))
+unfolding cutSquare
 square-is R g S =
     let h = R / 65536 in
     let x : h < F = omega arith in
@@ -56,7 +56,7 @@ square-is R g S =
     record { top = le-of-lt (part-small h h x (le-of-lt x)); under = omega (arith, u); over = omega (arith, v); small = mul-le-mul w w }
 
 -- ---- the chains, each from 1 for the terms cut off
-first : (z d : ℕ) → F - z / d ≡ turn z d F
+first : (z d : ℕ) → F - z / d ≡ horner z d F
 first z d = ap (λ (x : ℕ). F - x / d) (sym (mul-div-cancel z (lit< tt)))
 
 module _ {z a b : ℕ} (s : Square z a b) where
@@ -66,10 +66,10 @@ module _ {z a b : ℕ} (s : Square z a b) where
       let i : 2 * F * b ≤ e * by k * b = mul-le-mul-right b E in
       cut a b (s .small) F e k c (omega (arith, h, i))
 
-  cos-chain : Close F 22 (turn z 2 (turn z 12 (turn z 30 (turn z 56 (turn z 90 F))))) (nest a b 0 7)
+  cos-chain : Close F 22 (horner z 2 (horner z 12 (horner z 30 (horner z 56 (horner z 90 F))))) (nest a b 0 7)
   cos-chain = step 0 6 s (sub-le F _) (step 2 5 s (sub-le F _) (step 4 4 s (sub-le F _) (step 6 3 s (sub-le F _) (step 8 2 s (lit≤ tt) (start 65075263 10 1 (lit≤ tt))))))
 
-  sin-chain : Close F 218 (turn z 6 (turn z 20 (turn z 42 (turn z 72 F)))) (nest a b 1 7)
+  sin-chain : Close F 218 (horner z 6 (horner z 20 (horner z 42 (horner z 72 F)))) (nest a b 1 7)
   sin-chain = step 1 6 s (sub-le F _) (step 3 5 s (sub-le F _) (step 5 4 s (sub-le F _) (step 7 3 s (lit≤ tt) (start 78090315 9 2 (lit≤ tt)))))
 
 -- ---- from units of 2 ^ -32 to units of 2 ^ -48
@@ -97,15 +97,15 @@ times-close {e} {t} R g v G S E hi lo c =
     carry One 65537 Err v (mul-pos (lit< tt) (mul-pos (lit< tt) G)) (omega (arith, h)) (omega (arith, k)) (omega (arith, i)) (times (R * g) l (mul-le-mul-right g (le-of-lt S)) c)
 
 module _ (R g : ℕ) (G : 0 < g) (S : R < One) where
-  pub cos-fixed : Close One Err (cosPoly (square R)) (cosExact (R * g) (One * g))
+  pub cos-fixed : Close One Err (cosPoly (cutSquare R)) (cosExact (R * g) (One * g))
   unfolding cosPoly
-  cos-fixed = rw (first (square R) 90) (subst (Close One Err _) (cos-terms (R * g) (One * g)) (finer (lit≤ tt) (cos-chain (square-is R g S))))
+  cos-fixed = rw (first (cutSquare R) 90) (subst (Close One Err _) (cos-terms (R * g) (One * g)) (finer (lit≤ tt) (cos-chain (square-is R g S))))
 
-  pub sin-fixed : Close One Err (sinPoly R (square R)) (sinExact (R * g) (One * g))
+  pub sin-fixed : Close One Err (sinPoly R (cutSquare R)) (sinExact (R * g) (One * g))
   unfolding sinPoly
   sin-fixed =
-      let z = square R in
-      let t = turn z 20 (turn z 42 (turn z 72 F)) in
+      let z = cutSquare R in
+      let t = horner z 20 (horner z 42 (horner z 72 F)) in
       let Q : part z t / 6 < F = lt-of-le-of-lt (div-le-self (part z t) 6) (part-small z t (square-small R S) (sub-le F _)) in
       let d = less-close R (part z t / 6) Q in
       rw (first z 72) (subst (Close One Err _) (sin-terms (R * g) (One * g)) (times-close R g (lessPart R (part z t / 6)) G S (lit≤ tt) (d .0) (d .1) (sin-chain (square-is R g S))))

@@ -25,15 +25,15 @@ abbrev pub gap : ℕ → ℕ → ℕ
 gap a b = (a - b) + (b - a)
 
 -- u and v are at most 2 ^ -k apart, multiplied out
-abbrev pub Within : ℕ → Value → Value → Type 0
-Within k u v = 2 ^ k * gap (u .plus * v .over + v .minus * u .over) (v .plus * u .over + u .minus * v .over) ≤ u .over * v .over
+abbrev pub NearValue : ℕ → Value → Value → Type 0
+NearValue k u v = 2 ^ k * gap (u .plus * v .over + v .minus * u .over) (v .plus * u .over + u .minus * v .over) ≤ u .over * v .over
 
 -- the float y is a number at most 2 ^ -k from v
 abbrev pub Near : ℕ → Float → Value → Type 0
 Near k nan v = ⊥
 Near k (inf s) v = ⊥
-Near k (fin false m e) v = Within k record { plus = m * up e; minus = 0; over = down e } v
-Near k (fin true m e) v = Within k record { plus = 0; minus = m * up e; over = down e } v
+Near k (fin false m e) v = NearValue k record { plus = m * up e; minus = 0; over = down e } v
+Near k (fin true m e) v = NearValue k record { plus = 0; minus = m * up e; over = down e } v
 
 -- ---- the first eight Taylor terms
 
@@ -45,8 +45,8 @@ fact (suc n) = suc n * fact n
 abbrev pub term : ℕ → ℕ → ℕ → ℕ → ℕ
 term top R B k = R ^ k * B ^ (top - k) * (fact top / fact k)
 
-abbrev pub over : ℕ → ℕ → ℕ
-over top B = fact top * B ^ top
+abbrev pub denominator : ℕ → ℕ → ℕ
+denominator top B = fact top * B ^ top
 
 -- sine: r - r ^ 3 / 3! + .. - r ^ 15 / 15!
 abbrev pub sinPlus : ℕ → ℕ → ℕ
@@ -64,27 +64,27 @@ cosMinus R B = term 14 R B 2 + term 14 R B 6 + term 14 R B 10 + term 14 R B 14
 
 -- at r = ±R grains, b saying that r is negative: sine is odd, cosine even
 abbrev pub sinAt : Bool → ℕ → Value
-sinAt b R = negatedIf b record { plus = sinPlus R (2 ^ 149); minus = sinMinus R (2 ^ 149); over = over 15 (2 ^ 149) }
+sinAt b R = negatedIf b record { plus = sinPlus R (2 ^ 149); minus = sinMinus R (2 ^ 149); over = denominator 15 (2 ^ 149) }
 
 abbrev pub cosAt : ℕ → Value
-cosAt R = record { plus = cosPlus R (2 ^ 149); minus = cosMinus R (2 ^ 149); over = over 14 (2 ^ 149) }
+cosAt R = record { plus = cosPlus R (2 ^ 149); minus = cosMinus R (2 ^ 149); over = denominator 14 (2 ^ 149) }
 
 -- ---- n and r, from |x| = u grains
 
--- P = 0x1921FB54442D1 / 2 ^ 48 in grains
-abbrev pub P : ℕ
-P = 0x1921FB54442D1 * 2 ^ 101
+-- P = 0x1921FB54442D1 / 2 ^ 48 in grains of 2 ^ -149
+abbrev pub P149 : ℕ
+P149 = 0x1921FB54442D1 * 2 ^ 101
 
 -- |n|: 0 up to P / 2, else the whole number nearest u / P
 unfoldable pub turns : ℕ → ℕ
-turns u = cond (leb (2 * u) P) 0 ((2 * u + P) / (2 * P))
+turns u = cond (leb (2 * u) P149) 0 ((2 * u + P149) / (2 * P149))
 
 -- |r| = |u - n P|, and whether u - n P is negative
 unfoldable pub rest : ℕ → ℕ
-rest u = gap u (turns u * P)
+rest u = gap u (turns u * P149)
 
 unfoldable pub back : ℕ → Bool
-back u = ltb u (turns u * P)
+back u = ltb u (turns u * P149)
 
 -- n modulo 4, n having the sign s of x: -n is 3 n modulo 4
 unfoldable pub quarter : Bool → ℕ → ℕ

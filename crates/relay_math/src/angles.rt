@@ -1,10 +1,10 @@
 // Sine and cosine of an f32: our own steps, in whole numbers, within 2^-22 of document 01's exact values. docs/ANGLES.md tells them in words.
 ghost use mathlib.Core.Path.{_≡_};
-ghost use Prim.Native.Nat.{_<_, _≤_};
+ghost use Prim.Native.Nat.{_^_, _<_, _≤_};
 ghost use lib.Dec.{T};
 ghost use lib.Ieee.{le};
 ghost use Rattle.relay_math.specs.Exact.{Limit, IsSine, IsCosine};
-ghost use Rattle.relay_math.specs.Steps.{part, square, lessPart, sinPoly, cosPoly, toFloat, signed, pick, reduceOf, quadrant, fixed, large, sincos, sinf, cosf, Tiny, Most};
+ghost use Rattle.relay_math.specs.Steps.{part, cutSquare, lessPart, sinPoly, cosPoly, toFloat, signed, pick, reduceOf, quadrant, fixed, large, sincos, sinf, cosf, Tiny, Most};
 
 // Sine and cosine are served up to this size, and give +0.0 beyond it.
 const LIMIT: f32 = 128.0;
@@ -33,18 +33,18 @@ struct Reduced {
 
 // The product of two fractions in units of 2^-32, cut.
 pub(crate) fn part_of(z: u64, t: u64) -> u64
-    requires { ⌜ z < 4294967296 ⌝ ∗ ⌜ t ≤ 4294967296 ⌝ }
+    requires { ⌜ z < 2 ^ 32 ⌝ ∗ ⌜ t ≤ 2 ^ 32 ⌝ }
     ensures is { λ r. ⌜ r ≡ part z t ⌝ }
-    ensures small { λ r. ⌜ r < 4294967296 ⌝ }
+    ensures small { λ r. ⌜ r < 2 ^ 32 ⌝ }
 {
     z * t / ONE
 }
 
 // r^2 in units of 2^-32, for an r in units of 2^-48.
 fn square_of(r: u64) -> u64
-    requires { ⌜ r < 281474976710656 ⌝ }
-    ensures is { λ z. ⌜ z ≡ square r ⌝ }
-    ensures small { λ z. ⌜ z < 4294967296 ⌝ }
+    requires { ⌜ r < 2 ^ 48 ⌝ }
+    ensures is { λ z. ⌜ z ≡ cutSquare r ⌝ }
+    ensures small { λ z. ⌜ z < 2 ^ 32 ⌝ }
 {
     let h = r / 65536;
     part_of(h, h)
@@ -52,18 +52,18 @@ fn square_of(r: u64) -> u64
 
 // r less the fraction q of it, q in units of 2^-32.
 fn less_part(r: u64, q: u64) -> u64
-    requires { ⌜ r < 281474976710656 ⌝ ∗ ⌜ q < 4294967296 ⌝ }
+    requires { ⌜ r < 2 ^ 48 ⌝ ∗ ⌜ q < 2 ^ 32 ⌝ }
     ensures is { λ v. ⌜ v ≡ lessPart r q ⌝ }
-    ensures small { λ v. ⌜ v ≤ 281474976710656 ⌝ }
+    ensures small { λ v. ⌜ v ≤ 2 ^ 48 ⌝ }
 {
     r - r / 65536 * q / 65536
 }
 
 // A size of at most 2^62 in units of 2^-48, reduced.
 fn reduce(x: u64) -> Reduced
-    requires { ⌜ x < 4611686018427387904 ⌝ }
+    requires { ⌜ x < 2 ^ 62 ⌝ }
     ensures is { λ d. ⌜ d ≡ reduceOf x ⌝ }
-    ensures small { λ d. ⌜ d .r < 281474976710656 ⌝ }
+    ensures small { λ d. ⌜ d .r < 2 ^ 48 ⌝ }
     ensures few { λ d. ⌜ d .n < 4 ⌝ }
 {
     let n = (x + P / 2) / P;
@@ -85,9 +85,9 @@ fn reduce(x: u64) -> Reduced
 
 // The sine of r, in units of 2^-48, with z its square: r (1 - z/6 (1 - z/20 (1 - z/42 (1 - z/72)))).
 fn sin_poly(r: u64, z: u64) -> u64
-    requires { ⌜ r < 281474976710656 ⌝ ∗ ⌜ z < 4294967296 ⌝ }
+    requires { ⌜ r < 2 ^ 48 ⌝ ∗ ⌜ z < 2 ^ 32 ⌝ }
     ensures is { λ v. ⌜ v ≡ sinPoly r z ⌝ }
-    ensures small { λ v. ⌜ v ≤ 281474976710656 ⌝ }
+    ensures small { λ v. ⌜ v ≤ 2 ^ 48 ⌝ }
 {
     let t1 = ONE - z / 72;
     let t2 = ONE - part_of(z, t1) / 42;
@@ -97,9 +97,9 @@ fn sin_poly(r: u64, z: u64) -> u64
 
 // The cosine: 1 - z/2 (1 - z/12 (1 - z/30 (1 - z/56 (1 - z/90)))).
 fn cos_poly(z: u64) -> u64
-    requires { ⌜ z < 4294967296 ⌝ }
+    requires { ⌜ z < 2 ^ 32 ⌝ }
     ensures is { λ v. ⌜ v ≡ cosPoly z ⌝ }
-    ensures small { λ v. ⌜ v ≤ 281474976710656 ⌝ }
+    ensures small { λ v. ⌜ v ≤ 2 ^ 48 ⌝ }
 {
     let c1 = ONE - z / 90;
     let c2 = ONE - part_of(z, c1) / 56;
@@ -110,7 +110,7 @@ fn cos_poly(z: u64) -> u64
 
 // The f32 nearest v, which is in units of 2^-48: two halves, each an f32 exactly, whose sum rounds once.
 fn to_float(v: u64) -> f32
-    requires { ⌜ v ≤ 281474976710656 ⌝ }
+    requires { ⌜ v ≤ 2 ^ 48 ⌝ }
     ensures { λ r. ⌜ r ≡ toFloat v ⌝ }
 {
     ((v / 16777216) as f32) * 0.000000059604644775390625
@@ -121,7 +121,7 @@ fn to_float(v: u64) -> f32
 fn fixed_of(a: f32) -> u64
     requires { ⌜ T (le Tiny a) ⌝ ∗ ⌜ T (le a Most) ⌝ }
     ensures is { λ r. ⌜ r ≡ fixed a ⌝ }
-    ensures small { λ r. ⌜ r < 4611686018427387904 ⌝ }
+    ensures small { λ r. ⌜ r < 2 ^ 62 ⌝ }
 {
     let b = f32::to_bits(a);
     let m = (b % 8388608 + 8388608) as u64;

@@ -3,3 +3,4 @@ pub mod Going
 pub mod DemandThree
 pub mod Middle
 pub mod Kept
+pub mod Shams

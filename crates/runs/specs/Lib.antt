@@ -1,3 +1,4 @@
 pub mod Runs
 pub mod DemandThree
 pub mod Kept
+pub mod Shams

@@ -1,6 +1,5 @@
 -- `psi` and `attitudeError` go by entries, so that no matrix stands between; here they are by whole matrices, as the Rust writes them. Assumes nothing.
 use mathlib.Core.Path.{_≡_, refl}
-use lib.Ieee.{Float}
 use Rattle.relay_math.specs.declared.Vec3.{Vec3}
 use Rattle.relay_math.specs.F32.{_⊕_, _⊖_, _⊗_, 0·5, 3·0}
 use Rattle.relay_geo.specs.declared.vectors.Mat3.{Mat3}

@@ -72,8 +72,8 @@ fn heading(yaw: f32) -> Vec3
     Vec3(p.cosine, p.sine, 0.0)
 }
 
-// The desired attitude, whose columns are the desired body axes in NED, from the desired body-down (thrust) axis and the heading.
-// It is refused where the axis or the heading gives no direction, or the two are parallel.
+// The desired attitude: its columns are the desired body axes in NED, the third the given body-down (thrust) axis brought to length 1. It is
+// refused where that axis or the heading gives no direction, or the cross product of the two is not above 1e-9 in norm (they are parallel).
 pub fn desired_attitude(b3_d: Vec3, yaw: f32) -> Attitude
     ensures { λ r. ⌜ r ≡ desiredAttitude «b3_d» yaw ⌝ }
 {

@@ -10,7 +10,6 @@ use lib.ListN.{length, replicate}
 use Rattle.words.specs.Words.{word, float, flag}
 use Rattle.latch.specs.Latch.{Flies}
 use Rattle.joint_tick.proofs.NoAttitude.{nan-heading-tick}
-use Rattle.outcome.specs.declared.Outcome.the-variants.{Done}
 use Rattle.outcome.specs.Outcomes.{Filled, Called}
 use Rattle.image.specs.Layout.{FLAG, INPUT-BYTES}
 use Rattle.image.specs.Image.{stateAt}

@@ -7,4 +7,5 @@ pub mod MarginRange
 pub mod SetUp
 pub mod Steps
 pub mod Products
+pub mod ZeroQuaternion
 pub mod OneAnswer

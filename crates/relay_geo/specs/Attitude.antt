@@ -1,6 +1,8 @@
 -- Attitudes, line by line as the Rust has them. Definitions only.
+use mathlib.Core.Path.{_≡_}
 use mathlib.Core.Bool.{Bool, true, false, not, _||_, cond}
-use lib.Ieee.{Float, neg, le}
+use lib.Dec.{T}
+use lib.Ieee.{Float, neg, le, eq}
 use Rattle.relay_math.specs.declared.Vec3.{Vec3}
 use Rattle.relay_math.specs.declared.BodyRate.{BodyRate}
 use Rattle.relay_math.specs.F32.{_⊕_, _⊖_, _⊗_, _⊘_, 0·0, 1e-3, 1·0, 2·0, isFinite}
@@ -95,3 +97,16 @@ givesMatrix Refused = false
 abbrev pub givesRate : Feedforward → Bool
 givesRate (rate.Rate w) = true
 givesRate rate.Refused = false
+
+-- four zeros, each of either sign
+pub record Zeros (q : Quat) : Type 0 where
+  pub w : T (eq (q .0) 0·0)
+  pub x : T (eq (q .1) 0·0)
+  pub y : T (eq (q .2) 0·0)
+  pub z : T (eq (q .3) 0·0)
+
+-- the identity, but that a zero of it may have either sign
+pub record Level (m : Mat3) : Type 0 where
+  pub ones : (m .0 .0 ≡ 1·0) × (m .1 .1 ≡ 1·0) × (m .2 .2 ≡ 1·0)
+  pub above : T (eq (m .0 .1) 0·0) × T (eq (m .0 .2) 0·0) × T (eq (m .1 .2) 0·0)
+  pub below : T (eq (m .1 .0) 0·0) × T (eq (m .2 .0) 0·0) × T (eq (m .2 .1) 0·0)

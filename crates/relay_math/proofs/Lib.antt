@@ -3,6 +3,7 @@ pub mod Signs
 pub mod Order
 pub mod Grains
 pub mod Sums
+pub mod Zeros
 pub mod RootNear
 pub mod Root
 pub mod Round
@@ -12,5 +13,6 @@ pub mod AngleNear
 pub mod AngleReduction
 pub mod AngleBound
 pub mod Finite
+pub mod Sizes
 pub mod Squares
 pub mod OneAnswer

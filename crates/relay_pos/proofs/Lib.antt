@@ -1,1 +1,2 @@
+pub mod BadAngle
 pub mod OneAnswer

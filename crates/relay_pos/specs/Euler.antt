@@ -1,6 +1,12 @@
 -- `euler_to_quaternion` of document 003. Definitions only.
-use lib.Ieee.{Float}
-use Rattle.relay_math.specs.F32.{_⊕_, _⊖_, _⊗_, 0·5}
+use Prim.Native.Nat.{_+_}
+use mathlib.Core.Logic.{_⊎_}
+use mathlib.Core.Bool.{Bool, false, not}
+use lib.Dec.{T}
+use lib.IntN.{pos}
+use lib.Ieee.{Float, fin, le, eq}
+use Rattle.relay_math.specs.F32.{_⊕_, _⊖_, _⊗_, 0·0, 0·5, fabsf}
+use Rattle.relay_math.specs.Exact.{limitPower}
 use Rattle.relay_math.specs.Steps.{sinf, cosf}
 use Rattle.relay_pos.specs.declared.Quaternion.{Quaternion}
 
@@ -17,3 +23,20 @@ eulerToQuaternion roll pitch yaw =
       cr ⊗ sp ⊗ cy ⊕ sr ⊗ cp ⊗ sy,
       cr ⊗ cp ⊗ sy ⊖ sr ⊗ sp ⊗ cy,
     )
+
+-- ---- for what is proved of it
+
+-- an angle of size at most 256, twice the limit of sine and cosine: false of a NaN
+abbrev pub served : Float → Bool
+served angle = le (fabsf angle) (fin false 1 (pos (limitPower + 1)))
+
+-- one of the three angles, at least, is not
+abbrev pub Bad : Float → Float → Float → Type 0
+Bad roll pitch yaw = T (not (served roll)) ⊎ (T (not (served pitch)) ⊎ T (not (served yaw)))
+
+-- four zeros, each of either sign
+pub record Zeros (q : Quaternion) : Type 0 where
+  pub w : T (eq (q .0) 0·0)
+  pub x : T (eq (q .1) 0·0)
+  pub y : T (eq (q .2) 0·0)
+  pub z : T (eq (q .3) 0·0)

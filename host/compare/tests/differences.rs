@@ -1,8 +1,8 @@
 //! docs/DIFFERENCES.md, line by line: the input that shows a difference is run through the archive's own calls and through the Rust as published.
 
 use faces::geo::{Mat3, Quat, RecoverableSet};
-use faces::{adrc, geo, traj, BodyRate, Vec3};
-use oracle::{adrc as rust_adrc, geo as rust_geo, traj as rust_traj};
+use faces::{adrc, geo, pos, traj, BodyRate, Vec3};
+use oracle::{adrc as rust_adrc, geo as rust_geo, pos as rust_pos, traj as rust_traj};
 use relay_math_published as published;
 
 const ZERO: Vec3 = Vec3(0.0, 0.0, 0.0);
@@ -169,6 +169,35 @@ fn a_zero_quaternion_counts_as_level() {
     let ours = geo::quat_to_rotmat(Quat(0.0, 0.0, 0.0, 0.0));
     assert_eq!([rows(ours), rust_geo::quat_to_rotmat([0.0; 4])], [rows(LEVEL); 2]);
     both(geo::geoatt_psi(ours, LEVEL), rust_geo::GeoAtt::psi(&rows(ours), &rows(LEVEL)), 0);
+}
+
+/// Our quaternion of three angles, which is the Rust's by bits.
+fn quaternion(roll: f32, pitch: f32, yaw: f32) -> [f32; 4] {
+    let q = pos::euler_to_quaternion(roll, pitch, yaw);
+    let ours = [q.0, q.1, q.2, q.3];
+    for (x, y) in ours.into_iter().zip(rust_pos::euler_to_quaternion(roll, pitch, yaw)) {
+        both(x, y, x.to_bits());
+    }
+    ours
+}
+
+#[test]
+fn an_angle_that_is_not_served_counts_as_level() {
+    let beyond = f(0x4380_0001);
+    for bad in [beyond, -beyond, f(0x7fc0_0000), f32::INFINITY, f32::NEG_INFINITY] {
+        for [roll, pitch, yaw] in [[bad, 0.5, 0.5], [0.5, bad, 0.5], [0.5, 0.5, bad], [4.0, -1.0, bad]] {
+            let q = quaternion(roll, pitch, yaw);
+            assert_eq!(q, [0.0; 4]);
+            // the zeros of a matrix may have a minus sign, which `==` does not see
+            let ours = geo::quat_to_rotmat(Quat(q[0], q[1], q[2], q[3]));
+            assert_eq!([rows(ours), rust_geo::quat_to_rotmat(q)], [rows(LEVEL); 2]);
+        }
+    }
+    assert_eq!(quaternion(4.0, -1.0, beyond)[0].to_bits(), 0x8000_0000);
+    // twice the limit itself is served, and the published kernels serve what is beyond it
+    assert_ne!(quaternion(0.0, 0.0, f(0x4380_0000)), [0.0; 4]);
+    let (sine, cosine) = (published::sinf(beyond * 0.5), published::cosf(beyond * 0.5));
+    assert!((sine * sine + cosine * cosine - 1.0).abs() < 1e-6);
 }
 
 #[test]

@@ -1,0 +1,63 @@
+-- Zeros of either sign: what is made of them, or by a product with one, is one again. Assumes nothing.
+use mathlib.Core.Path.{subst}
+use mathlib.Core.Bool.{Bool, true, false, not}
+use Prim.Native.Nat.{ℕ, zero, suc, _*_}
+use native.Mathlib.Nat.{zero-mul, mul-zero}
+use lib.IntN.{ℤ, pos}
+use lib.Dec.{T}
+use lib.Ieee.{Float, nan, inf, fin, binary32, up, down, unlike, round, neg, sum, add, sub, mul, eq, ofBits}
+use Rattle.relay_math.specs.F32.{_⊕_, _⊖_, _⊗_, 0·0, isFinite}
+use Rattle.relay_math.proofs.Signs.{not-zero}
+use Rattle.relay_math.proofs.Sums.{round-zero}
+
+pub data IsZero : Float → Type 0 where
+  none : (s : Bool) (e : ℤ) → IsZero (fin s 0 e)
+
+-- they are what `==` takes for 0.0
+pub equal : {x : Float} → IsZero x → T (eq x 0·0)
+unfolding eq ofBits
+equal (none true e) = rw (zero-mul (up e), zero-mul (down e)) tt
+equal (none false e) = rw (zero-mul (up e), zero-mul (down e)) tt
+
+pub is-zero : (x : Float) → T (eq x 0·0) → IsZero x
+unfolding eq ofBits
+is-zero nan h = absurd h
+is-zero (inf s) h = absurd h
+is-zero (fin s zero e) h = none s e
+is-zero (fin s (suc m) e) h = absurd (subst T (not-zero m e s) h)
+
+pub finite : {x : Float} → IsZero x → T (isFinite x)
+unfolding isFinite
+finite (none s e) = tt
+
+rounded : (s : Bool) (c : ℕ) → IsZero (round binary32 s 0 c)
+rounded s c = rw (round-zero s c) (none s (pos 0))
+
+-- ---- products with a finite number, sums, differences
+
+pub times : (x : Float) {y : Float} → T (isFinite x) → IsZero y → IsZero (x ⊗ y)
+unfolding mul isFinite
+times nan f z = absurd f
+times (inf s) f z = absurd f
+times (fin s m e) f (none t d) = simp (zero-mul, mul-zero) (rounded (unlike s t) (down e * down d))
+
+pub by : {x : Float} (y : Float) → IsZero x → T (isFinite y) → IsZero (x ⊗ y)
+unfolding mul isFinite
+by nan z f = absurd f
+by (inf s) z f = absurd f
+by (fin t n d) (none s e) f = simp zero-mul (rounded (unlike s t) (down e * down d))
+
+zeros : (s t : Bool) (c : ℕ) → IsZero (sum binary32 s 0 t 0 c)
+unfolding sum
+zeros true true c = rounded true c
+zeros true false c = rounded false c
+zeros false true c = rounded false c
+zeros false false c = rounded false c
+
+pub plus : {x y : Float} → IsZero x → IsZero y → IsZero (x ⊕ y)
+unfolding add
+plus (none s e) (none t d) = simp zero-mul (zeros s t (down e * down d))
+
+pub minus : {x y : Float} → IsZero x → IsZero y → IsZero (x ⊖ y)
+unfolding sub neg
+minus p (none t d) = plus p (none (not t) d)

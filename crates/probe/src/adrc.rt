@@ -264,7 +264,7 @@ pub extern "C" fn probe_commandfilter3_new(
 }
 
 #[no_mangle]
-pub extern "C" fn probe_commandfilter3_step(f: CommandFilter3, u: Vec3, dt: f32) -> Stepped3
+pub extern "C" fn probe_commandfilter3_step(f: CommandFilter3, u: BodyRate, dt: f32) -> Stepped3
     ensures { λ r. ⌜ r ≡ filter3Step f u dt ⌝ }
 {
     f.step(u, dt)

@@ -3,7 +3,7 @@ use mathlib.Core.Bool.{_||_, cond}
 use mathlib.Core.List.{List, [], _∷_}
 use lib.Ieee.{Float, lt, neg, isNan}
 use Rattle.relay_math.specs.F32.{_⊕_, _⊖_, _⊗_, 0·0, 1·0, 2·0, finiteOr}
-use Rattle.relay_math.specs.declared.Vec3.{Vec3}
+use Rattle.relay_math.specs.declared.BodyRate.{BodyRate}
 use Rattle.relay_adrc.specs.declared.filter.CommandFilter.{CommandFilter}
 use Rattle.relay_adrc.specs.declared.filter.Stepped.{Stepped}
 use Rattle.relay_adrc.specs.declared.filter.CommandFilter3.{CommandFilter3}
@@ -44,15 +44,15 @@ filter3New ωn maxMag maxRate =
     let f = filterNew ωn maxMag maxRate in
     record { roll = f; pitch = f; yaw = f }
 
-unfoldable pub filter3Step : CommandFilter3 → Vec3 → Float → Stepped3
+unfoldable pub filter3Step : CommandFilter3 → BodyRate → Float → Stepped3
 unfolding filterStep
 filter3Step f u dt =
-    let roll = filterStep (f .roll) (u .0) dt in
-    let pitch = filterStep (f .pitch) (u .1) dt in
-    let yaw = filterStep (f .yaw) (u .2) dt in
+    let roll = filterStep (f .roll) (u .0 .0) dt in
+    let pitch = filterStep (f .pitch) (u .0 .1) dt in
+    let yaw = filterStep (f .yaw) (u .0 .2) dt in
     record {
       filter = record { roll = roll .filter; pitch = pitch .filter; yaw = yaw .filter };
-      y = (roll .y, pitch .y, yaw .y);
+      y = record { 0 = (roll .y, pitch .y, yaw .y) };
     }
 
 abbrev pub filter3Reset : CommandFilter3 → CommandFilter3

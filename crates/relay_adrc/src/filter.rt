@@ -4,6 +4,7 @@ ghost use lib.Ieee.{isNan};
 ghost use Rattle.relay_adrc.specs.Filter.{clampSym, filterNew, filterStep, filterReset, filter3New, filter3Step, filter3Reset};
 use crate::axis::mend_dt;
 use crate::axis::positive_or;
+use relay_math::BodyRate;
 use relay_math::Vec3;
 
 fn is_nan(x: f32) -> bool
@@ -117,7 +118,7 @@ pub struct CommandFilter3 {
 #[repr(C)]
 pub struct Stepped3 {
     pub filter: CommandFilter3,
-    pub y: Vec3,
+    pub y: BodyRate,
 }
 
 impl CommandFilter3 {
@@ -132,12 +133,14 @@ impl CommandFilter3 {
         }
     }
 
-    pub fn step(self, u: Vec3, dt: f32) -> Stepped3
+    // A desired body rate, shaped axis by axis.
+    pub fn step(self, u: BodyRate, dt: f32) -> Stepped3
         ensures { λ r. ⌜ r ≡ filter3Step self u dt ⌝ }
     {
-        let roll = self.roll.step(u.0, dt);
-        let pitch = self.pitch.step(u.1, dt);
-        let yaw = self.yaw.step(u.2, dt);
+        let w = u.0;
+        let roll = self.roll.step(w.0, dt);
+        let pitch = self.pitch.step(w.1, dt);
+        let yaw = self.yaw.step(w.2, dt);
         let fx = roll.filter;
         let fy = pitch.filter;
         let fz = yaw.filter;
@@ -147,7 +150,7 @@ impl CommandFilter3 {
                 pitch: fy,
                 yaw: fz,
             },
-            y: Vec3(roll.y, pitch.y, yaw.y),
+            y: BodyRate(Vec3(roll.y, pitch.y, yaw.y)),
         }
     }
 

@@ -128,7 +128,7 @@ fn three_filters(n: u32, i: &Row, o: &mut Row) {
             o,
             CommandFilter3::new(float_at(i, 0), float_at(i, 1), float_at(i, 2)),
         ),
-        229 => put_stepped3(o, f.step(vec_at(i, 15), float_at(i, 18))),
+        229 => put_stepped3(o, f.step(body_rate_at(i, 15), float_at(i, 18))),
         _ => put_filter3(o, f.reset()),
     }
 }
@@ -162,5 +162,5 @@ fn put_stepped(o: &mut Row, s: Stepped) {
 
 fn put_stepped3(o: &mut Row, s: Stepped3) {
     put_filter3(o, s.filter);
-    put_vec(o, 15, s.y);
+    put_vec(o, 15, s.y.0);
 }

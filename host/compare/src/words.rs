@@ -223,7 +223,7 @@ mod ours {
         CommandFilter { omega_n: f32, max_mag: f32, max_rate: f32, y: f32, yd: f32 }
         Stepped { filter: CommandFilter, y: f32 }
         CommandFilter3 { roll: CommandFilter, pitch: CommandFilter, yaw: CommandFilter }
-        Stepped3 { filter: CommandFilter3, y: Vec3 }
+        Stepped3 { filter: CommandFilter3, y: BodyRate }
         Quaternion { 0: f32, 1: f32, 2: f32, 3: f32 }
     }
 }

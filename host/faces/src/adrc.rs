@@ -15,7 +15,7 @@ structs! {
     CommandFilter { omega_n: f32, max_mag: f32, max_rate: f32, y: f32, yd: f32 }
     Stepped { filter: CommandFilter, y: f32 }
     CommandFilter3 { roll: CommandFilter, pitch: CommandFilter, yaw: CommandFilter }
-    Stepped3 { filter: CommandFilter3, y: Vec3 }
+    Stepped3 { filter: CommandFilter3, y: BodyRate }
 }
 
 calls! {
@@ -48,6 +48,6 @@ calls! {
     probe_commandfilter_rate = commandfilter_rate(f: CommandFilter) -> f32;
     probe_commandfilter_reset = commandfilter_reset(f: CommandFilter) -> CommandFilter;
     probe_commandfilter3_new = commandfilter3_new(omega_n: f32, max_mag: f32, max_rate: f32) -> CommandFilter3;
-    probe_commandfilter3_step = commandfilter3_step(f: CommandFilter3, u: Vec3, dt: f32) -> Stepped3;
+    probe_commandfilter3_step = commandfilter3_step(f: CommandFilter3, u: BodyRate, dt: f32) -> Stepped3;
     probe_commandfilter3_reset = commandfilter3_reset(f: CommandFilter3) -> CommandFilter3;
 }

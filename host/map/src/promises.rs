@@ -12,14 +12,14 @@ const EXCEPTIONS: [(&str, &str, &str); 7] = [
     (
         "relay_geo::lent::SimplexShield::step_lent",
         "step-lent-once",
-        "The state is lent, and such a function is proved by a walk of our own, of which the toolchain makes no contract with a name. \
-         The theorem is about the promise as it is written.",
+        "The state is lent, and such a function is proved by a walk of our own: the toolchain makes no `Reads.Post` of its contract. \
+         The theorem is `OneAnswer` of the promise written out, and `step-lent-says` that the function's own clause is that promise.",
     ),
-    ("relay_traj::lent::RefGovernor::advance_lent", "advance-lent-once", "The same."),
-    ("log::reader::open", "open-once", "The same, of a struct that holds a reference."),
-    ("log::reader::has_next", "has-next-once", "The same."),
-    ("log::reader::moved", "moved-once", "The same."),
-    ("log::reader::next", "next-once", "The same; and see `read`."),
+    ("relay_traj::lent::RefGovernor::advance_lent", "advance-lent-once", "The same, with `advance-lent-says`."),
+    ("log::reader::open", "open-once", "The same, of a struct that holds a reference, with `open-says`."),
+    ("log::reader::has_next", "has-next-once", "The same, with `has-next-says`."),
+    ("log::reader::moved", "moved-once", "The same, with `moved-says`."),
+    ("log::reader::next", "next-once", "The same, with `next-says`; and see `read`."),
     (
         "log::reader::read",
         "read-once",
@@ -180,7 +180,7 @@ pub(crate) fn page() -> Result<String, String> {
          the later contents of every lent buffer) that both meet it are equal. Each crate's `proofs/OneAnswer.antt` proves it of each public function, by one law,\n\
          `no-second`: a promise that names its one value has one. NaNs are counted alike, as everywhere.\n\n\
          ## Exceptions\n\n\
-         Of these `OneAnswer` cannot be stated. Each has a theorem of its own beside the others.\n\n\
+         Of these the toolchain makes no contract that `OneAnswer` could be stated of as it stands. Each has a theorem of its own beside the others.\n\n\
          | function | theorem | reason |\n|---|---|---|\n",
     );
     for (name, theorem, reason) in EXCEPTIONS {

@@ -2,20 +2,20 @@
 use mathlib.Core.Path.{_≡_, refl, sym, _∙_}
 use mathlib.Core.Bool.{Bool, true, false, cond}
 use Prim.Native.Nat.{ℕ, zero, suc, _+_, _-_, _*_, _/_, _%_, _^_, _≤_, _<_, compare}
-use native.Mathlib.Nat.{le-of-lt, mul-one, one-mul, mul-pos, mul-le-mul}
+use native.Mathlib.Nat.{mul-pos, mul-le-mul}
 use native.Mathlib.Omega.{arith}
-use borrow.Author.Tests.{leb-true, leb-false, le-leb}
+use borrow.Author.Tests.{leb-false}
 use lib.IntN.{ℤ, pos, negsuc}
 use lib.Dec.{T, leb, ltb, eqb, lit<, lit≤, leb→le, le→leb}
 use lib.Ieee.{Float, nan, inf, fin, binary32, up, down, unlike, neg, lt, le, eq, mul, round, units, odd, nearest, size, ofBits}
-use lib.Ieee.Fits.{down-pos, round-is}
+use lib.Ieee.Fits.{down-pos}
 use lib.Ieee.Order.{round-mono}
 use Rattle.relay_math.specs.declared.angles.SineCosine.{SineCosine}
-use Rattle.relay_math.specs.F32.{_⊗_, 0·0, 1·0, isFinite, fabsf}
+use Rattle.relay_math.specs.F32.{_⊗_, 1·0, isFinite, fabsf}
 use Rattle.relay_math.specs.Steps.{sinPoly, cosPoly, toFloat, signed, pick, fixed, square, reduceOf, quadrant, large, sincos, sinf, cosf, Zero, One, Tiny, Limit}
-use Rattle.laws.proofs.Tests.{held, no, ordered}
+use Rattle.laws.proofs.Tests.{no, ordered}
 use Rattle.relay_math.proofs.Signs.{is-below}
-use Rattle.relay_math.proofs.Order.{not-lt-of-le, within-finite}
+use Rattle.relay_math.proofs.Order.{not-lt-of-le}
 use Rattle.relay_math.proofs.AngleReduction.{small}
 
 -- a number of size at most 1, as a fraction

@@ -1,7 +1,7 @@
 -- Sine and cosine are at most 1 in size, for every f32, and so a product of two of them is finite. Assumes nothing.
 use mathlib.Core.Path.{_≡_, refl, sym, _∙_}
 use mathlib.Core.Bool.{Bool, true, false, cond}
-use Prim.Native.Nat.{ℕ, zero, suc, _+_, _-_, _*_, _/_, _%_, _^_, _≤_, _<_, compare}
+use Prim.Native.Nat.{ℕ, zero, suc, _-_, _*_, _/_, _%_, _^_, _≤_, _<_, compare}
 use native.Mathlib.Nat.{mul-pos, mul-le-mul}
 use native.Mathlib.Omega.{arith}
 use borrow.Author.Tests.{leb-false}
@@ -12,7 +12,8 @@ use lib.Ieee.Fits.{down-pos}
 use lib.Ieee.Order.{round-mono}
 use Rattle.relay_math.specs.declared.angles.SineCosine.{SineCosine}
 use Rattle.relay_math.specs.F32.{_⊗_, 1·0, isFinite, fabsf}
-use Rattle.relay_math.specs.Steps.{sinPoly, cosPoly, toFloat, signed, pick, fixed, square, reduceOf, quadrant, large, sincos, sinf, cosf, Zero, One, Tiny, Limit}
+use Rattle.relay_math.specs.Exact.{Limit}
+use Rattle.relay_math.specs.Steps.{sinPoly, cosPoly, toFloat, signed, pick, fixed, cutSquare, reduceOf, quadrant, large, sincosTo, sincos, sinf, cosf, Zero, One, Tiny}
 use Rattle.laws.proofs.Tests.{no, ordered}
 use Rattle.relay_math.proofs.Signs.{is-below}
 use Rattle.relay_math.proofs.Order.{not-lt-of-le}
@@ -93,9 +94,10 @@ pick-small false x y h k = k
 quadrant-small : (s : Bool) (n : ℕ) (x y : Float) → Small x → Small y → Pair (quadrant s n x y)
 unfolding quadrant
 quadrant-small s n x y h k =
-    let even = eqb (n % 2) 0 in (
-      signed-small s (signed (leb 2 n) (pick even x y)) (signed-small (leb 2 n) (pick even x y) (pick-small even x y h k)),
-      signed-small (leb 2 ((n + 1) % 4)) (pick even y x) (pick-small even y x k h),
+    let a = pick (eqb n 2) (neg x) (neg y) in
+    let b = pick (eqb n 2) (neg y) x in (
+      signed-small s (pick (eqb n 0) x (pick (eqb n 1) y a)) (pick-small (eqb n 0) x (pick (eqb n 1) y a) h (pick-small (eqb n 1) y a k (pick-small (eqb n 2) (neg x) (neg y) (neg-small x h) (neg-small y k)))),
+      pick-small (eqb n 0) y (pick (eqb n 1) (neg x) b) k (pick-small (eqb n 1) (neg x) b (neg-small x h) (pick-small (eqb n 2) (neg y) x (neg-small y k) h)),
     )
 
 poly-small : (s b : Bool) (n R z : ℕ) → R < 2 ^ 48 → Pair (quadrant s n (signed b (toFloat (sinPoly R z))) (toFloat (cosPoly z)))
@@ -106,7 +108,7 @@ poly-small s b n R z h =
 
 large-small : (s : Bool) (a : Float) → Pair (large s a)
 unfolding large
-large-small s a = let d = reduceOf (fixed a) in poly-small s (d .back) (d .n) (d .r) (square (d .r)) (small (fixed a))
+large-small s a = let d = reduceOf (fixed a) in poly-small s (d .back) (d .n) (d .r) (cutSquare (d .r)) (small (fixed a))
 
 -- below 2 ^ -12 the sine is x itself
 tiny-small : (x : Float) → le (signed (lt x Zero) x) Limit ≡ true → le Tiny (signed (lt x Zero) x) ≡ false → Small x
@@ -119,7 +121,7 @@ tiny-small (fin true (suc m) e) p q = tiny m e (rw (is-below m e true) at q)
 tiny-small (fin false (suc m) e) p q = tiny m e (rw (is-below m e false) at q)
 
 pair : (x : Float) → Pair (sincos x)
-unfolding sincos
+unfolding sincos sincosTo
 pair x = go (le (signed (lt x Zero) x) Limit) (le Tiny (signed (lt x Zero) x)) refl refl
   where
     go : (t u : Bool) → le (signed (lt x Zero) x) Limit ≡ t → le Tiny (signed (lt x Zero) x) ≡ u

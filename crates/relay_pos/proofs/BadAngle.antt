@@ -2,7 +2,7 @@
 use mathlib.Core.Path.{_≡_, refl, sym, ap, _∙_, subst}
 use mathlib.Core.Logic.{inl, inr}
 use mathlib.Core.Bool.{Bool, false, not}
-use Prim.Native.Nat.{ℕ, zero, suc, _+_, _*_, _^_, _≤_, _<_}
+use Prim.Native.Nat.{ℕ, zero, suc, _*_, _^_, _≤_, _<_}
 use native.Mathlib.Nat.{le-trans, le-of-lt, lt-of-le-of-lt, lt-of-not-le, mul-pos, mul-assoc, mul-le-mul-right, mul-one, pow-suc}
 use native.Mathlib.Omega.{arith}
 use lib.IntN.{ℤ, pos}
@@ -12,7 +12,7 @@ use lib.Ieee.{Float, nan, inf, fin, binary32, fits, up, down, unlike, round, mul
 use lib.Ieee.Fits.{down-pos}
 use lib.Ieee.Exact.{HasValue, round-exact}
 use Rattle.relay_math.specs.F32.{_⊗_, 0·5, 1·0, fabsf, grains}
-use Rattle.relay_math.specs.Exact.{limitPower, limit, inRange}
+use Rattle.relay_math.specs.Exact.{inRange}
 use Rattle.relay_math.specs.Steps.{sinf, cosf}
 use Rattle.laws.proofs.Tests.{ordered}
 use Rattle.relay_math.proofs.Grains.{placed, grains-of, grains-under}
@@ -30,11 +30,15 @@ half-over N d A D l e z h k =
     let j : suc (2 * l * D) * d ≤ A * d = mul-le-mul-right d h in
     omega (arith, i, j, e, z)
 
-value-far : (x : Float) (s : Bool) (A D : ℕ) → HasValue x s A (D * 2) → 2 * limit * D < A → T (not (inRange x))
-unfolding inRange
+le-is : (m : ℕ) (e : ℤ) (n : ℕ) (d : ℤ) → le (fin false m e) (fin false n d) ≡ leb (m * up e * down d) (n * up d * down e)
+unfolding le lt eq
+le-is m e n d = ordered (m * up e * down d) (n * up d * down e)
+
+value-far : (x : Float) (s : Bool) (A D : ℕ) → HasValue x s A (D * 2) → 2 ^ 8 * D < A → T (not (inRange x))
+unfolding inRange le fabsf
 value-far nan s A D v h = absurd v
 value-far (inf t) s A D v h = absurd v
-value-far (fin t n d) s A D v h = rw (lt-leb (n * up d) (limit * down d) (lt-of-not-le (half-over (n * up d) (down d) A D limit (v .1) (down-pos d) h))) tt
+value-far (fin t n d) s A D v h = rw (le-is n d 1 (pos 7), mul-one (n * up d), lt-leb (n * up d) (2 ^ 7 * down d) (lt-of-not-le (half-over (n * up d) (down d) A D (2 ^ 7) (v .1) (down-pos d) h))) tt
 
 -- m * 2 ^ j grains of A / D with j = 0 would be less than D
 few : (m D A L : ℕ) → m ≤ L → m * 1 * D ≡ A * L → D < A → 0 < L → ⊥
@@ -49,7 +53,7 @@ doubled a = omega arith
 regrouped : (a D : ℕ) → a * 2 * D ≡ a * (D * 2)
 regrouped a D = omega arith
 
-half-value : (s : Bool) (m : ℕ) (e : ℤ) → T (fits binary32 (fin s m e)) → 2 * limit * down e < m * up e → HasValue (fin s m e ⊗ 0·5) (unlike s false) (m * up e) (down e * 2)
+half-value : (s : Bool) (m : ℕ) (e : ℤ) → T (fits binary32 (fin s m e)) → 2 ^ 8 * down e < m * up e → HasValue (fin s m e ⊗ 0·5) (unlike s false) (m * up e) (down e * 2)
 unfolding mul ofBits
 half-value s m e F h = let p = placed s m e F in go (p .0) (p .1) (p .2)
   where
@@ -63,16 +67,12 @@ half-value s m e F h = let p = placed s m e F in go (p .0) (p .1) (p .2)
         subst (λ (a : ℕ). HasValue (round binary32 (unlike s false) a (down e * 2)) (unlike s false) (m * up e) (down e * 2)) (sym (mul-one (m * up e)))
         (round-exact binary32 (unlike s false) (m * up e) (down e * 2) m j (mul-pos (down-pos e) (lit< tt)) l u v)
 
-le-is : (m : ℕ) (e : ℤ) (n : ℕ) (d : ℤ) → le (fin false m e) (fin false n d) ≡ leb (m * up e * down d) (n * up d * down e)
-unfolding le lt eq
-le-is m e n d = ordered (m * up e * down d) (n * up d * down e)
-
 half-far : (x : Float) → T (fits binary32 x) → T (not (served x)) → T (not (inRange (x ⊗ 0·5)))
-unfolding mul inRange fabsf ofBits
+unfolding mul inRange le fabsf ofBits
 half-far nan F h = tt
 half-far (inf s) F h = tt
 half-far (fin s m e) F h =
-    let l : 2 * limit * down e < m * up e = omega (arith, nleb→lt (m * up e * 1) (1 * (2 * limit) * down e) (subst (λ (b : Bool). T (not b)) (le-is m e 1 (pos (limitPower + 1))) h)) in
+    let l : 2 ^ 8 * down e < m * up e = omega (arith, nleb→lt (m * up e * 1) (1 * 2 ^ 8 * down e) (subst (λ (b : Bool). T (not b)) (le-is m e 1 (pos 8)) h)) in
     value-far (fin s m e ⊗ 0·5) (unlike s false) (m * up e) (down e) (half-value s m e F l) l
 
 -- ---- sine and cosine of the half: both at most 1 in size, both zero for such an angle

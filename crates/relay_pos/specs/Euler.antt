@@ -1,12 +1,11 @@
 -- `euler_to_quaternion` of document 003. Definitions only.
-use Prim.Native.Nat.{_+_}
 use mathlib.Core.Logic.{_⊎_}
 use mathlib.Core.Bool.{Bool, false, not}
 use lib.Dec.{T}
 use lib.IntN.{pos}
-use lib.Ieee.{Float, fin, le, eq}
-use Rattle.relay_math.specs.F32.{_⊕_, _⊖_, _⊗_, 0·0, 0·5, fabsf}
-use Rattle.relay_math.specs.Exact.{limitPower}
+use lib.Ieee.{Float, fin, eq}
+use Rattle.relay_math.specs.F32.{_⊕_, _⊖_, _⊗_, 0·0, 0·5}
+use Rattle.relay_math.specs.Exact.{upTo}
 use Rattle.relay_math.specs.Steps.{sinf, cosf}
 use Rattle.relay_pos.specs.declared.Quaternion.{Quaternion}
 
@@ -28,7 +27,7 @@ eulerToQuaternion roll pitch yaw =
 
 -- an angle of size at most 256, twice the limit of sine and cosine: false of a NaN
 abbrev pub served : Float → Bool
-served angle = le (fabsf angle) (fin false 1 (pos (limitPower + 1)))
+served angle = upTo (fin false 1 (pos 8)) angle
 
 -- one of the three angles, at least, is not
 abbrev pub Bad : Float → Float → Float → Type 0

@@ -14,7 +14,9 @@ pub mod table;
 pub mod threads;
 pub mod words;
 
+use joint::bytes::canonical;
+
 /// Equal bits, all NaNs counted alike.
 pub fn same(a: f32, b: f32) -> bool {
-    a.to_bits() == b.to_bits() || (a.is_nan() && b.is_nan())
+    canonical(a) == canonical(b)
 }

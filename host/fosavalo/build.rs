@@ -1,17 +1,31 @@
-use std::path::{Path, PathBuf};
+use std::path::{absolute, Path, PathBuf};
+use std::{env, fs};
 
 /// Links the archive that the manifest's `links` names: from FOSAVALO_LIB_DIR where that is set, else from where `make archives` puts it.
+///
+/// In a copy of the checkout cargo takes what this printed in the original as current. So it prints no path of the checkout: the archive is
+/// named from the package, in whose folder a build script runs, and linked as a copy in OUT_DIR, which cargo replaces by the copy's own.
 fn main() {
     println!("cargo:rerun-if-env-changed=FOSAVALO_LIB_DIR");
-    let name = std::env::var("CARGO_MANIFEST_LINKS").expect("cargo sets what the manifest links");
-    let built = Path::new(env!("CARGO_MANIFEST_DIR")).join("../../target/staticlib");
-    let folder = std::env::var_os("FOSAVALO_LIB_DIR").map_or(built, PathBuf::from);
+    let (name, out) = (set_by_cargo("CARGO_MANIFEST_LINKS"), set_by_cargo("OUT_DIR"));
+    let folder = env::var_os("FOSAVALO_LIB_DIR").map_or("../../target/staticlib".into(), PathBuf::from);
     let archive = folder.join(format!("lib{name}.a"));
     println!("cargo:rerun-if-changed={}", archive.display());
-    if !archive.exists() {
-        eprintln!("{} is missing: run `make archives` at the top of the repository, or set FOSAVALO_LIB_DIR", archive.display());
-        std::process::exit(1);
-    }
-    println!("cargo:rustc-link-search=native={}", folder.display());
+    let bytes = fs::read(&archive).unwrap_or_else(|error| {
+        let place = absolute(&archive).unwrap_or(archive);
+        fail(&format!("{}: {error}; run `make archives` at the top of the repository, or set FOSAVALO_LIB_DIR", place.display()))
+    });
+    let linked = Path::new(&out).join(format!("lib{name}.a"));
+    fs::write(&linked, bytes).unwrap_or_else(|error| fail(&format!("{}: {error}", linked.display())));
+    println!("cargo:rustc-link-search=native={out}");
     println!("cargo:rustc-link-lib=static={name}");
+}
+
+fn set_by_cargo(name: &str) -> String {
+    env::var(name).unwrap_or_else(|error| fail(&format!("{name}, which cargo sets: {error}")))
+}
+
+fn fail(text: &str) -> ! {
+    eprintln!("{text}");
+    std::process::exit(1)
 }

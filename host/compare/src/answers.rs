@@ -31,8 +31,8 @@ const ROUTE_TICKS: u64 = 8;
 const LOGS: u64 = 40;
 
 /// Where the list stands.
-pub fn path() -> PathBuf {
-    [env!("CARGO_MANIFEST_DIR"), "../../crates/replay/stdin"].iter().collect()
+pub fn path() -> Result<PathBuf, String> {
+    Ok(checkout::root()?.join("crates/replay/stdin"))
 }
 
 /// Rows of one routine or call, or one of document 01's figures.

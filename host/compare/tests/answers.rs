@@ -4,13 +4,12 @@ use compare::answers::{self, Section};
 use compare::joint::fault::Fault;
 use compare::joint::route::Route;
 use std::fs::{self, File};
-use std::path::{Path, PathBuf};
 use std::process::Command;
 
 /// What the oracle makes now, byte for byte.
 #[test]
 fn the_stored_list_is_the_oracle_s() {
-    let stored = fs::read(answers::path()).expect("the stored list");
+    let stored = fs::read(answers::path().expect("a checkout")).expect("the stored list");
     let made = answers::list();
     let at = stored.iter().zip(&made).position(|(a, b)| a != b);
     assert!(
@@ -92,8 +91,8 @@ fn the_route_ticks_are_on_every_part_of_a_route() {
 
 /// What the proved program prints of a list.
 fn replayed(name: &str, list: &[u8]) -> Vec<String> {
-    let program: PathBuf = [env!("CARGO_MANIFEST_DIR"), "../../target/bin/replay"].iter().collect();
-    let path = Path::new(env!("CARGO_TARGET_TMPDIR")).join(name);
+    let program = checkout::root().expect("a checkout").join("target/bin/replay");
+    let path = checkout::scratch(&format!("replayed-{name}")).join("list");
     fs::write(&path, list).expect("the list is written");
     let run = Command::new(&program).stdin(File::open(&path).expect("the list is read")).output();
     let printed = run.unwrap_or_else(|error| panic!("{}: {error}; `rt check replay` builds it", program.display())).stdout;

@@ -83,16 +83,9 @@ fn the_csv_has_every_bit() {
     }
 }
 
-/// A folder of a test's own.
-fn folder(name: &str) -> PathBuf {
-    let folder = PathBuf::from(env!("CARGO_TARGET_TMPDIR")).join(name);
-    std::fs::create_dir_all(&folder).expect("a folder");
-    folder
-}
-
 /// The command; it finds no gnuplot, which it does not need.
 fn command(arguments: &[&str], folder: &PathBuf) -> Command {
-    let mut command = Command::new(env!("CARGO_BIN_EXE_log"));
+    let mut command = Command::new(checkout::program("log"));
     command.args(arguments).arg("--out").arg(folder).current_dir(folder).env("PATH", "");
     command
 }
@@ -104,7 +97,7 @@ fn said(output: &Output) -> (Option<i32>, String, String) {
 
 #[test]
 fn the_command_prints_a_log() {
-    let folder = folder("prints");
+    let folder = checkout::scratch("prints");
     let flight = flown(include_bytes!("../scenarios/headings.txt"));
     std::fs::write(folder.join("flown.log"), output::log(&flight).expect("it fits").as_bytes()).expect("it is written");
     for more in [&[][..], &["--enter", "0.2", "--exit", "0.4"], &["--enter", "nan", "--exit", "-1"]] {
@@ -119,7 +112,7 @@ fn the_command_prints_a_log() {
 
 #[test]
 fn the_command_refuses_what_is_no_log() {
-    let folder = folder("refuses");
+    let folder = checkout::scratch("refuses");
     let whole = output::log(&flown(b"tick 20")).expect("it fits").as_bytes().to_vec();
     let short = whole[..whole.len() - 1].to_vec();
     let mut counted = whole.clone();
@@ -147,7 +140,7 @@ fn the_command_refuses_what_is_no_log() {
 /// A reader that goes away early is no mistake, and nothing panics.
 #[test]
 fn the_command_s_reader_may_go_away() {
-    let folder = folder("goes-away");
+    let folder = checkout::scratch("goes-away");
     let mut log = Log::new();
     let answer = flown(b"tick 1").ticks[0].answer;
     (0..MOST_RECORDS).for_each(|_| log.append(&TickInput::default(), &answer).expect("it fits"));

@@ -235,7 +235,7 @@ fn wrong_lengths() {
 /// The header says the same lengths and numbers.
 #[test]
 fn the_header() {
-    let header = include_str!("../../../include/fosavalo.h");
+    let header = std::fs::read_to_string("../../include/fosavalo.h").expect("a test runs in its package's folder");
     let defined = |name: &str| {
         let line = header.lines().find_map(|line| line.strip_prefix("#define FOSAVALO_")?.strip_prefix(name)?.strip_prefix(' '));
         line.and_then(|rest| rest.split_whitespace().next()?.parse::<usize>().ok())

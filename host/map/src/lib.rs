@@ -5,7 +5,7 @@ pub mod promises;
 
 use functions::Function;
 use std::fmt::Write;
-use std::path::{Path, PathBuf};
+use std::path::Path;
 
 /// A module of the Rust: its number, its crate here, its text, the host's comparison, its routines in the Rust's order.
 struct Module {
@@ -154,12 +154,8 @@ const ADDED: [(&str, &str, &str); 12] = [
     ("fosavalo", "fosavalo_route_tick", "the C call"),
 ];
 
-pub fn root() -> PathBuf {
-    Path::new(env!("CARGO_MANIFEST_DIR")).join("../..")
-}
-
 fn text(path: impl AsRef<Path>) -> Result<String, String> {
-    let path = root().join(path);
+    let path = checkout::root()?.join(path);
     std::fs::read_to_string(&path).map_err(|error| format!("{}: {error}", path.display()))
 }
 
@@ -189,7 +185,7 @@ fn line_of(text: &str, routine: &str) -> Option<usize> {
 
 /// The names of a folder's files, in order.
 fn entries(folder: &str) -> Result<Vec<String>, String> {
-    let entries = std::fs::read_dir(root().join(folder)).map_err(|error| format!("{folder}: {error}"))?;
+    let entries = std::fs::read_dir(checkout::root()?.join(folder)).map_err(|error| format!("{folder}: {error}"))?;
     let mut names: Vec<String> = entries.flatten().map(|entry| entry.file_name().to_string_lossy().into_owned()).collect();
     names.sort();
     Ok(names)

@@ -4,7 +4,7 @@ use std::process::ExitCode;
 
 fn main() -> ExitCode {
     for (file, page) in map::pages() {
-        let written = page.and_then(|page| std::fs::write(map::root().join(file), page).map_err(|error| error.to_string()));
+        let written = page.and_then(|page| std::fs::write(checkout::root()?.join(file), page).map_err(|error| error.to_string()));
         if let Err(text) = written {
             eprintln!("{file}: {text}");
             return ExitCode::FAILURE;

@@ -4,7 +4,7 @@
 fn the_pages_are_current() {
     for (file, now) in map::pages() {
         let now = now.unwrap_or_else(|text| panic!("{file}: {text}"));
-        let kept = std::fs::read_to_string(map::root().join(file)).unwrap_or_default();
+        let kept = checkout::root().map(|top| std::fs::read_to_string(top.join(file)).unwrap_or_default()).expect("a checkout");
         let differs = now.lines().zip(kept.lines()).find(|(now, kept)| now != kept);
         assert!(now == kept, "{file} is not what the sources say; `make map` writes it anew. First line that differs: {differs:?}");
     }

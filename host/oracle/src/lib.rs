@@ -40,22 +40,24 @@ pub use libm::{atan2f, fabsf, sqrtf};
 
 #[cfg(test)]
 mod tests {
-    /// What was compiled, the published text and our harness.
-    macro_rules! texts {
-        ($name:literal) => {
-            (
-                &include_bytes!(concat!(env!("OUT_DIR"), "/", $name, ".rs"))[..],
-                &include_bytes!(concat!("../../../docs/src/crates/relay-", $name, "/plain/src/lib.rs"))[..],
-                &include_bytes!(concat!("../harness/", $name, ".rs"))[..],
-            )
+    /// A module, and what was compiled of it.
+    macro_rules! compiled {
+        ($($name:literal),*) => {
+            [$(($name, &include_bytes!(concat!(env!("OUT_DIR"), "/", $name, ".rs"))[..])),*]
         };
+    }
+
+    /// A file of this checkout; a test runs in its package's folder.
+    fn file(path: String) -> Vec<u8> {
+        std::fs::read(&path).unwrap_or_else(|error| panic!("{path}: {error}"))
     }
 
     #[test]
     fn what_is_compiled_is_the_published_text_and_the_harness_after_it() {
-        for (compiled, published, harness) in [texts!("geo"), texts!("traj"), texts!("adrc"), texts!("pos")] {
+        for (name, compiled) in compiled!("geo", "traj", "adrc", "pos") {
+            let published = file(format!("../../docs/src/crates/relay-{name}/plain/src/lib.rs"));
             assert!(published.len() > 10_000);
-            assert_eq!(compiled.strip_prefix(published), Some(harness));
+            assert_eq!(compiled.strip_prefix(&published[..]), Some(&file(format!("harness/{name}.rs"))[..]));
         }
     }
 }

@@ -122,7 +122,7 @@ fn the_command_refuses_what_is_no_log() {
         let (code, out, err) = said(&command(&["bad.log"], &folder).output().expect("it runs"));
         assert_eq!((code, out.as_str()), (Some(2), ""));
         let refusal = fosavalo::LogView::from_bytes(bytes).expect_err("it is no log");
-        assert_eq!((err, refusal.number()), (format!("log: bad.log: {refusal}\n"), 8));
+        assert_eq!((err, refusal.number()), (format!("log: bad.log: {refusal}\n"), Some(8)));
     }
     for (arguments, what) in [
         (&["missing.log"][..], "log: missing.log: "),

@@ -55,7 +55,7 @@ fn legs() {
     assert!(psi(&two) > 0.1 && psi(&scenario("")) == 0.0);
     assert_eq!(
         mistake(&(leg("0", "1") + &leg("2", "0") + "tick 1")),
-        "leg: refused (7): a leg of the route does not start where the one before it ends"
+        "leg: refused (7): leg 2 of the route does not start where leg 1 ends"
     );
     assert_eq!(mistake(&(leg("0", "0").repeat(9) + "tick 1")), "leg: refused (5): a route has 1 to 8 legs");
     assert_eq!(mistake("leg 1 2 3\ntick 1"), "line 1: leg: takes 19 numbers, here are 3");

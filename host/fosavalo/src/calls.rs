@@ -1,5 +1,5 @@
 //! The C calls as they are, on slices of any length and content. Each gives the number of the refusal, 0 for none; unless it is 0, no
-//! byte is changed.
+//! byte is changed. They do not ask for the floating-point environment ([`FloatFault`](crate::FloatFault)).
 //!
 //! ```
 //! use fosavalo::{calls, Refusal, ANSWER_BYTES, IMAGE_BYTES, SETUP_BYTES, TICK_BYTES};
@@ -13,6 +13,13 @@
 //! assert_eq!(Refusal::check(number), Err(Refusal::AnswerLength));
 //! assert_eq!(image, before);
 //! ```
+
+/// The number as one that no compiler knows: nothing is worked out with it before the program runs, and it is there before the next call.
+#[inline]
+pub(crate) fn hidden(x: f32) -> f32 {
+    // SAFETY: a reference may be read.
+    unsafe { core::ptr::read_volatile(&x) }
+}
 
 mod raw {
     extern "C" {

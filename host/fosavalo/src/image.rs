@@ -1,6 +1,6 @@
 use crate::words::Take;
-use crate::{calls, Answer, Pilot, Refusal, Route, SetUp, TickInput, ANSWER_BYTES, IMAGE_BYTES, TICK_BYTES};
-use std::fmt;
+use crate::{calls, Answer, FloatFault, Pilot, Refusal, Route, SetUp, TickInput, ANSWER_BYTES, IMAGE_BYTES, TICK_BYTES};
+use core::fmt;
 
 /// The state that goes from tick to tick: 380 bytes that may be copied, stored and sent.
 ///
@@ -22,8 +22,9 @@ pub struct Image {
 }
 
 impl Image {
-    /// A fresh image. Today no set-up is refused.
+    /// A fresh image. Today the core refuses no set-up; what it mended, [`SetUp::mended`] tells.
     pub fn set_up(set_up: &SetUp) -> Result<Self, Refusal> {
+        FloatFault::check()?;
         let mut bytes = [0; IMAGE_BYTES];
         Refusal::check(calls::setup(&mut bytes, &set_up.to_bytes()))?;
         Ok(Image { bytes })
@@ -49,8 +50,14 @@ impl Image {
         &self.bytes
     }
 
+    /// The bytes, and the image is gone.
+    pub fn into_bytes(self) -> [u8; IMAGE_BYTES] {
+        self.bytes
+    }
+
     /// One tick. Where it is refused the image stays as it is.
     pub fn tick(&mut self, input: &TickInput) -> Result<Answer, Refusal> {
+        FloatFault::check()?;
         let mut answer = [0; ANSWER_BYTES];
         Refusal::check(calls::tick(&mut self.bytes, &input.to_bytes(), &mut answer))?;
         Answer::from_bytes(&answer)
@@ -59,6 +66,7 @@ impl Image {
     /// One tick toward a route in place of the segment, which stays in the image. The clock runs on over both kinds of tick: a route that is
     /// begun late is entered where the clock is. Where it is refused the image stays as it is.
     pub fn route_tick(&mut self, input: &TickInput, route: &Route) -> Result<Answer, Refusal> {
+        FloatFault::check()?;
         let mut answer = [0; ANSWER_BYTES];
         Refusal::check(calls::route_tick(&mut self.bytes, &input.to_bytes(), route.as_bytes(), &mut answer))?;
         Answer::from_bytes(&answer)
@@ -66,6 +74,7 @@ impl Image {
 
     /// Whether a tick would take this image, and why not: what [`Image::tick`] would be refused for.
     pub fn check(&self) -> Result<(), Refusal> {
+        FloatFault::check()?;
         Refusal::check(calls::tick_refusal(&self.bytes, TICK_BYTES, ANSWER_BYTES))
     }
 

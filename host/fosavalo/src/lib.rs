@@ -29,14 +29,21 @@
 //! | a refusal's number | [`Refusal`] |
 //! | an angle | [`sinf`], [`cosf`] |
 //!
+//! It needs a floating-point environment that rounds to nearest and keeps subnormal numbers, on the calling thread; set-up and ticks
+//! are refused in any other ([`FloatFault`]).
+//!
 //! Words are little-endian, floats as their bits; `include/fosavalo.h` is the same face for C. The crate has no dependency but
-//! `libfosavalo.a`, which `make archives` builds.
+//! `libfosavalo.a`, which `make core` builds, and needs no `std`, but `alloc` for a [`Log`].
 
+#![no_std]
 #![warn(missing_docs)]
 // no input makes a call panic
 #![deny(clippy::panic, clippy::unwrap_used, clippy::expect_used, clippy::indexing_slicing)]
 
+extern crate alloc;
+
 pub mod calls;
+mod floats;
 mod image;
 mod log;
 mod refusal;
@@ -46,6 +53,7 @@ mod tick;
 mod words;
 
 pub use calls::{cosf, sinf};
+pub use floats::FloatFault;
 pub use image::Image;
 pub use log::{Log, LogView, Record, Records};
 pub use refusal::Refusal;
@@ -75,3 +83,26 @@ pub const LOG_TRAILER_BYTES: usize = 12;
 pub const MOST_RECORDS: usize = 65_535;
 /// A log of no record: no count, nothing back, and the length of a record.
 pub const EMPTY_LOG: [u8; LOG_TRAILER_BYTES] = [0, 0, 0, 0, 0, 0, 0, 0, RECORD_BYTES as u8, 0, 0, 0];
+
+/// What has a `from_bytes` is made by `try_from` as well.
+macro_rules! try_from_bytes {
+    ($($type:ty),*) => {
+        $(impl TryFrom<&[u8]> for $type {
+            type Error = Refusal;
+
+            fn try_from(bytes: &[u8]) -> Result<Self, Refusal> {
+                <$type>::from_bytes(bytes)
+            }
+        })*
+    };
+}
+
+try_from_bytes!(Image, SetUp, TickInput, Answer, Route, Log, Record);
+
+impl<'a> TryFrom<&'a [u8]> for LogView<'a> {
+    type Error = Refusal;
+
+    fn try_from(bytes: &'a [u8]) -> Result<Self, Refusal> {
+        LogView::from_bytes(bytes)
+    }
+}

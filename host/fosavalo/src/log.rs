@@ -1,6 +1,7 @@
 use crate::words::Take;
 use crate::{calls, Answer, Refusal, TickInput, EMPTY_LOG, LOG_TRAILER_BYTES, MOST_RECORDS, RECORD_BYTES, TICK_BYTES};
-use std::fmt;
+use alloc::vec::Vec;
+use core::fmt;
 
 const LONGEST: usize = MOST_RECORDS * RECORD_BYTES + LOG_TRAILER_BYTES;
 
@@ -17,8 +18,8 @@ const LONGEST: usize = MOST_RECORDS * RECORD_BYTES + LOG_TRAILER_BYTES;
 /// }
 ///
 /// // another program, another day
-/// let file = log.as_bytes().to_vec();
-/// let flown = LogView::from_bytes(&file)?;
+/// let file = log.into_bytes();
+/// let flown = LogView::try_from(&file[..])?;
 /// assert_eq!(flown.len(), 3);
 /// let margins: Vec<f32> = flown.iter().map(|record| record.answer().margin).collect();
 /// assert_eq!(margins.last(), Some(&f32::NEG_INFINITY));
@@ -87,9 +88,34 @@ impl Log {
         Ok(())
     }
 
+    /// Appends records, as they are; refused at the first for which there is no room, and those before it are kept.
+    ///
+    /// ```
+    /// use fosavalo::{Log, Record, Refusal, TickInput, MOST_RECORDS};
+    ///
+    /// let record = Record::from_bytes(&[7; 108])?;
+    /// let mut log = Log::new();
+    /// log.try_extend([record; 3])?;
+    /// assert_eq!(log.try_extend(std::iter::repeat(record)), Err(Refusal::NoRoom));
+    /// assert_eq!(log.len(), MOST_RECORDS);
+    /// # Ok::<(), Refusal>(())
+    /// ```
+    pub fn try_extend(&mut self, records: impl IntoIterator<Item = Record>) -> Result<(), Refusal> {
+        records.into_iter().try_for_each(|record| {
+            let (input, answer) = record.bytes.split_at(TICK_BYTES);
+            self.append_bytes(input, answer)
+        })
+    }
+
     /// The bytes: 108 for each record, then the count, how many bytes back the first record starts, and 108.
     pub fn as_bytes(&self) -> &[u8] {
         self.buffer.get(..self.len).unwrap_or_default()
+    }
+
+    /// The bytes, and the log is gone; nothing is copied.
+    pub fn into_bytes(mut self) -> Vec<u8> {
+        self.buffer.truncate(self.len);
+        self.buffer
     }
 
     /// The same, to be read.
@@ -136,6 +162,13 @@ impl Eq for Log {}
 impl fmt::Debug for Log {
     fn fmt(&self, f: &mut fmt::Formatter<'_>) -> fmt::Result {
         f.debug_struct("Log").field("len", &self.len()).finish_non_exhaustive()
+    }
+}
+
+impl Extend<Record> for Log {
+    /// A full log takes no more, and nothing says so: [`Log::try_extend`] does.
+    fn extend<I: IntoIterator<Item = Record>>(&mut self, records: I) {
+        let _ = self.try_extend(records);
     }
 }
 
@@ -211,6 +244,15 @@ impl<'a> IntoIterator for LogView<'a> {
     }
 }
 
+impl<'a> IntoIterator for &LogView<'a> {
+    type Item = Record;
+    type IntoIter = Records<'a>;
+
+    fn into_iter(self) -> Records<'a> {
+        self.iter()
+    }
+}
+
 fn count(bytes: &[u8]) -> Result<usize, Refusal> {
     let mut count = [0; 4];
     Refusal::check(calls::log_count(bytes, &mut count))?;
@@ -248,7 +290,7 @@ impl Iterator for Records<'_> {
 
 impl ExactSizeIterator for Records<'_> {}
 
-impl std::iter::FusedIterator for Records<'_> {}
+impl core::iter::FusedIterator for Records<'_> {}
 
 /// One tick of a log: 108 bytes, its input and its answer, as they were appended.
 #[derive(Clone, Copy, PartialEq, Eq, Hash)]
@@ -275,6 +317,11 @@ impl Record {
         Record { bytes }
     }
 
+    /// From bytes; refused where these are not 108.
+    pub fn from_bytes(bytes: &[u8]) -> Result<Self, Refusal> {
+        Ok(Record { bytes: bytes.try_into().map_err(|_| Refusal::RecordLength)? })
+    }
+
     /// What the tick was given.
     pub fn input(&self) -> TickInput {
         TickInput::take(&mut Take(&self.bytes))
@@ -288,7 +335,7 @@ impl Record {
     /// The twenty-seven words: the seventeen of the input, the ten of the answer, a float as its bits.
     pub fn words(&self) -> [u32; RECORD_BYTES / 4] {
         let mut from = Take(&self.bytes);
-        std::array::from_fn(|_| from.word())
+        core::array::from_fn(|_| from.word())
     }
 
     /// The bytes.

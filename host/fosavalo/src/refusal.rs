@@ -1,13 +1,15 @@
-use std::fmt;
+use crate::{FloatFault, ANSWER_BYTES, IMAGE_BYTES, LEG_BYTES, MOST_LEGS, MOST_RECORDS};
+use crate::{RECORD_BYTES, ROUTE_TRAILER_BYTES, SETUP_BYTES, TICK_BYTES};
+use core::fmt;
 
 /// Why a call was refused: the documents' number, with its meaning in words. Of 1 to 4 it is the lowest that holds; what is wrong with a
-/// route or a log comes after these. A refused call changed no byte.
+/// route or a log comes after these. A refused call changed no byte. One refusal is the crate's own, before the core is called.
 ///
 /// ```
 /// use fosavalo::Refusal;
 ///
 /// let refusal = Refusal::BrokenImage;
-/// assert_eq!(refusal.number(), 4);
+/// assert_eq!(refusal.number(), Some(4));
 /// assert_eq!(refusal.to_string(), "refused (4): the image is none that set-up or a tick leaves");
 ///
 /// // an error like any other
@@ -33,8 +35,9 @@ pub enum Refusal {
     LegCount,
     /// 6: the route is under 8 bytes long, or its length or its bytes back do not go with its count.
     RouteLength,
-    /// 7: a leg of the route does not start where the one before it ends.
-    LegsApart,
+    /// 7: a leg of the route does not start where the one before it ends. Which, counted from 0 (in words from 1), is told where a
+    /// [`Route`](crate::Route) is made; a number alone does not tell.
+    LegsApart(Option<usize>),
     /// 8: a log's length and its last three words do not go together.
     BrokenLog,
     /// 9: the buffer has under 108 bytes beyond the log, or the log has 65,535 records.
@@ -43,6 +46,8 @@ pub enum Refusal {
     NoRecord,
     /// 14: what takes a record is not 108 bytes long.
     RecordLength,
+    /// The core was not called: the thread's floating-point environment is not the one that it computes in.
+    Floats(FloatFault),
     /// A number that this version of the crate has no words for.
     Other(u32),
 }
@@ -66,7 +71,7 @@ impl Refusal {
             4 => Refusal::BrokenImage,
             5 => Refusal::LegCount,
             6 => Refusal::RouteLength,
-            7 => Refusal::LegsApart,
+            7 => Refusal::LegsApart(None),
             8 => Refusal::BrokenLog,
             9 => Refusal::NoRoom,
             13 => Refusal::NoRecord,
@@ -75,47 +80,89 @@ impl Refusal {
         })
     }
 
-    /// The documents' number.
-    pub fn number(self) -> u32 {
-        match self {
+    /// The documents' number; None where the core was not called.
+    pub fn number(self) -> Option<u32> {
+        Some(match self {
             Refusal::ImageLength => 1,
             Refusal::InputLength => 2,
             Refusal::AnswerLength => 3,
             Refusal::BrokenImage => 4,
             Refusal::LegCount => 5,
             Refusal::RouteLength => 6,
-            Refusal::LegsApart => 7,
+            Refusal::LegsApart(_) => 7,
             Refusal::BrokenLog => 8,
             Refusal::NoRoom => 9,
             Refusal::NoRecord => 13,
             Refusal::RecordLength => 14,
+            Refusal::Floats(_) => return None,
             Refusal::Other(number) => number,
-        }
+        })
     }
 
     /// The meaning in words.
-    pub fn meaning(self) -> &'static str {
-        match self {
-            Refusal::ImageLength => "the image is not 380 bytes long",
-            Refusal::InputLength => "the input is not 200 bytes long at set-up, 68 at a tick and in a log, or a log's count is not 4",
-            Refusal::AnswerLength => "the answer is not 40 bytes long",
-            Refusal::BrokenImage => "the image is none that set-up or a tick leaves",
-            Refusal::LegCount => "a route has 1 to 8 legs",
-            Refusal::RouteLength => "the route's length or its bytes back do not go with its count of legs of 76 bytes, with 8 more",
-            Refusal::LegsApart => "a leg of the route does not start where the one before it ends",
-            Refusal::BrokenLog => "the log's length, its count, its bytes back and its last word, 108, do not go together",
-            Refusal::NoRoom => "the buffer has no room for 108 bytes more, or the log has 65535 records",
-            Refusal::NoRecord => "the log has no record at that place",
-            Refusal::RecordLength => "the record is not 108 bytes long",
-            Refusal::Other(_) => "a number that this version of the crate has no words for",
+    ///
+    /// ```
+    /// assert_eq!(fosavalo::Refusal::LegCount.meaning().to_string(), "a route has 1 to 8 legs");
+    /// ```
+    pub fn meaning(self) -> impl fmt::Display {
+        Meaning(self)
+    }
+}
+
+struct Meaning(Refusal);
+
+impl fmt::Display for Meaning {
+    fn fmt(&self, f: &mut fmt::Formatter<'_>) -> fmt::Result {
+        match self.0 {
+            Refusal::ImageLength => write!(f, "the image is not {IMAGE_BYTES} bytes long"),
+            Refusal::InputLength => write!(
+                f,
+                "the input is not {SETUP_BYTES} bytes long at set-up, {TICK_BYTES} at a tick and in a log, or a log's count is not 4"
+            ),
+            Refusal::AnswerLength => write!(f, "the answer is not {ANSWER_BYTES} bytes long"),
+            Refusal::BrokenImage => f.write_str("the image is none that set-up or a tick leaves"),
+            Refusal::LegCount => write!(f, "a route has 1 to {MOST_LEGS} legs"),
+            Refusal::RouteLength => write!(
+                f,
+                "the route's length or its bytes back do not go with its count of legs of {LEG_BYTES} bytes, with {ROUTE_TRAILER_BYTES} more"
+            ),
+            Refusal::LegsApart(None) => f.write_str("a leg of the route does not start where the one before it ends"),
+            Refusal::LegsApart(Some(leg)) => {
+                write!(f, "leg {} of the route does not start where leg {leg} ends", leg.saturating_add(1))
+            }
+            Refusal::BrokenLog => {
+                write!(f, "the log's length, its count, its bytes back and its last word, {RECORD_BYTES}, do not go together")
+            }
+            Refusal::NoRoom => write!(f, "the buffer has no room for {RECORD_BYTES} bytes more, or the log has {MOST_RECORDS} records"),
+            Refusal::NoRecord => f.write_str("the log has no record at that place"),
+            Refusal::RecordLength => write!(f, "the record is not {RECORD_BYTES} bytes long"),
+            Refusal::Floats(fault) => fault.fmt(f),
+            Refusal::Other(_) => f.write_str("a number that this version has no words for"),
         }
     }
 }
 
 impl fmt::Display for Refusal {
     fn fmt(&self, f: &mut fmt::Formatter<'_>) -> fmt::Result {
-        write!(f, "refused ({}): {}", self.number(), self.meaning())
+        f.write_str("refused")?;
+        if let Some(number) = self.number() {
+            write!(f, " ({number})")?;
+        }
+        write!(f, ": {}", self.meaning())
     }
 }
 
-impl std::error::Error for Refusal {}
+impl core::error::Error for Refusal {
+    fn source(&self) -> Option<&(dyn core::error::Error + 'static)> {
+        match self {
+            Refusal::Floats(fault) => Some(fault),
+            _ => None,
+        }
+    }
+}
+
+impl From<FloatFault> for Refusal {
+    fn from(fault: FloatFault) -> Self {
+        Refusal::Floats(fault)
+    }
+}

@@ -1,6 +1,6 @@
 use crate::words::{Put, Take};
-use crate::{calls, Refusal, Segment, SetUp, TickInput, ANSWER_BYTES, IMAGE_BYTES, LEG_BYTES, MOST_LEGS, ROUTE_TRAILER_BYTES};
-use std::fmt;
+use crate::{calls, FloatFault, Refusal, Segment, SetUp, TickInput, ANSWER_BYTES, IMAGE_BYTES, LEG_BYTES, MOST_LEGS, ROUTE_TRAILER_BYTES};
+use core::fmt;
 
 /// A leg of a route: what a [`Segment`] is to a set-up.
 pub type Leg = Segment;
@@ -24,7 +24,8 @@ const LONGEST: usize = MOST_LEGS * LEG_BYTES + ROUTE_TRAILER_BYTES;
 /// let answer = image.route_tick(&TickInput { dt: 2.0, ..TickInput::default() }, &route)?;
 /// assert_eq!(answer.time, 2.0); // a second into the second leg
 ///
-/// assert_eq!(Route::new(&[out, rest]), Err(Refusal::LegsApart));
+/// let apart = Route::new(&[rest, out, rest]);
+/// assert_eq!(apart, Err(Refusal::LegsApart(Some(2)))); // the leg, counted from 0
 /// assert_eq!(Route::new(&[]), Err(Refusal::LegCount));
 /// assert_eq!(Route::new(&[rest; 9]), Err(Refusal::LegCount));
 /// # Ok::<(), Refusal>(())
@@ -76,8 +77,18 @@ impl Route {
         self.bytes.get(..self.len).unwrap_or_default()
     }
 
+    /// How many legs.
+    pub fn len(&self) -> usize {
+        self.len / LEG_BYTES
+    }
+
+    /// Whether there is none: never.
+    pub fn is_empty(&self) -> bool {
+        self.len() == 0
+    }
+
     /// The legs, in the order in which they are flown.
-    pub fn legs(&self) -> impl Iterator<Item = Leg> + '_ {
+    pub fn legs(&self) -> impl ExactSizeIterator<Item = Leg> + '_ {
         self.as_bytes().chunks_exact(LEG_BYTES).map(|leg| Leg::take(&mut Take(leg)))
     }
 
@@ -86,8 +97,25 @@ impl Route {
     }
 }
 
-/// What a tick says of these bytes: one with an image of its own, which is then let go. So no second judge has to agree with the core.
+/// What a tick says of these bytes: one with an image of its own, which is then let go. So no second judge has to agree with the core. Where
+/// legs are apart, it is asked of each two in turn.
 fn check(route: &[u8]) -> Result<(), Refusal> {
+    FloatFault::check()?;
+    let said = ask(route);
+    if said != Err(Refusal::LegsApart(None)) {
+        return said;
+    }
+    let two = |at: usize| {
+        let mut bytes = [0; 2 * LEG_BYTES + ROUTE_TRAILER_BYTES];
+        let legs = route.iter().skip(at * LEG_BYTES).take(2 * LEG_BYTES);
+        let trailer = [2, 2 * LEG_BYTES as u32].map(u32::to_le_bytes);
+        bytes.iter_mut().zip(legs.chain(trailer.iter().flatten())).for_each(|(own, byte)| *own = *byte);
+        bytes
+    };
+    Err(Refusal::LegsApart((1..MOST_LEGS).find(|leg| ask(&two(leg - 1)).is_err())))
+}
+
+fn ask(route: &[u8]) -> Result<(), Refusal> {
     let mut image = [0; IMAGE_BYTES];
     Refusal::check(calls::setup(&mut image, &SetUp::falcon_quad().to_bytes()))?;
     Refusal::check(calls::route_tick(&mut image, &TickInput::default().to_bytes(), route, &mut [0; ANSWER_BYTES]))

@@ -175,7 +175,7 @@ impl SetUp {
             exit: from.float(),
             governor: Governor { err_lo: from.float(), err_hi: from.float(), g_min: from.float() },
             segment: Segment::take(&mut from),
-            adrc: std::array::from_fn(|_| AdrcGains { omega_o: from.float(), omega_c: from.float(), b0: from.float(), tau: from.float() }),
+            adrc: core::array::from_fn(|_| AdrcGains { omega_o: from.float(), omega_c: from.float(), b0: from.float(), tau: from.float() }),
             filter: GyroFilter { fc: from.float(), fs: from.float() },
         })
     }

@@ -1,5 +1,6 @@
 use crate::words::{Put, Take};
 use crate::{Refusal, ANSWER_BYTES, TICK_BYTES};
+use core::fmt;
 
 /// An angular velocity about the body's axes, rad/s.
 #[derive(Clone, Copy, Debug, Default, PartialEq)]
@@ -9,7 +10,23 @@ pub struct BodyRate(pub [f32; 3]);
 #[derive(Clone, Copy, Debug, Default, PartialEq)]
 pub struct Torque(pub [f32; 3]);
 
+impl From<[f32; 3]> for BodyRate {
+    fn from(axes: [f32; 3]) -> Self {
+        BodyRate(axes)
+    }
+}
+
+impl From<[f32; 3]> for Torque {
+    fn from(axes: [f32; 3]) -> Self {
+        Torque(axes)
+    }
+}
+
 /// Whose rate command is flown.
+///
+/// ```
+/// assert_eq!(format!("{:>8}, {}", fosavalo::Pilot::Planner, fosavalo::Pilot::Fallback), " planner, fallback");
+/// ```
 #[derive(Clone, Copy, Debug, PartialEq, Eq, Hash)]
 pub enum Pilot {
     /// The flag is 0.
@@ -18,12 +35,22 @@ pub enum Pilot {
     Fallback,
 }
 
+impl fmt::Display for Pilot {
+    fn fmt(&self, f: &mut fmt::Formatter<'_>) -> fmt::Result {
+        f.pad(match self {
+            Pilot::Planner => "planner",
+            Pilot::Fallback => "fallback",
+        })
+    }
+}
+
 /// What a tick is given. Every bit pattern is taken.
 ///
 /// ```
 /// use fosavalo::{BodyRate, TickInput};
 ///
-/// let input = TickInput { planner: BodyRate([0.0, 0.0, 0.2]), yaw: 0.5, ..TickInput::default() };
+/// let input = TickInput { planner: [0.0, 0.0, 0.2].into(), yaw: 0.5, ..TickInput::default() };
+/// assert_eq!(input.planner, BodyRate([0.0, 0.0, 0.2]));
 /// assert_eq!(TickInput::from_bytes(&input.to_bytes()), Ok(input));
 /// ```
 #[derive(Clone, Copy, Debug, PartialEq)]

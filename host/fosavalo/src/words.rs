@@ -19,11 +19,11 @@ impl Take<'_> {
     }
 
     pub fn floats<const N: usize>(&mut self) -> [f32; N] {
-        std::array::from_fn(|_| self.float())
+        core::array::from_fn(|_| self.float())
     }
 }
 
-pub struct Put<'a>(std::slice::ChunksExactMut<'a, u8>);
+pub struct Put<'a>(core::slice::ChunksExactMut<'a, u8>);
 
 impl<'a> Put<'a> {
     pub fn to(bytes: &'a mut [u8]) -> Self {

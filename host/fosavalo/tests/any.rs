@@ -62,10 +62,14 @@ fn the_typed_calls_are_the_c_calls() {
     }
 }
 
+fn floats(bytes: &[u8]) -> impl Iterator<Item = f32> + '_ {
+    bytes.chunks_exact(4).map(|four| f32::from_le_bytes([four[0], four[1], four[2], four[3]]))
+}
+
 /// Legs of any bits that meet or do not, and bytes that are any: a route is made exactly where a tick takes it, and then it is those bytes.
 #[test]
 fn routes_of_any_legs() {
-    let (mut rng, mut seen) = (Bytes(4), [0u32; 8]);
+    let (mut rng, mut seen, mut apart) = (Bytes(4), [0u32; 8], [0u32; MOST_LEGS]);
     let mut fresh = [0; IMAGE_BYTES];
     assert_eq!(calls::setup(&mut fresh, &SetUp::falcon_quad().to_bytes()), 0);
     let mut tick = [0; TICK_BYTES];
@@ -74,9 +78,8 @@ fn routes_of_any_legs() {
         let mut bytes = vec![0; LEG_BYTES * (rng.next() % 9) as usize + ROUTE_TRAILER_BYTES];
         rng.fill(&mut bytes);
         let (count, back) = (bytes.len() / LEG_BYTES, bytes.len() - ROUTE_TRAILER_BYTES);
-        if round % 4 != 0 {
-            (1..count).for_each(|leg| bytes.copy_within(LEG_BYTES * leg - 40..LEG_BYTES * leg - 4, LEG_BYTES * leg));
-        }
+        let apart_from = if round % 4 == 0 { 1 + (rng.next() % MOST_LEGS as u64) as usize } else { count };
+        (1..count.min(apart_from)).for_each(|leg| bytes.copy_within(LEG_BYTES * leg - 40..LEG_BYTES * leg - 4, LEG_BYTES * leg));
         if round % 8 != 1 {
             bytes[back..back + 4].copy_from_slice(&(count as u32).to_le_bytes());
         }
@@ -86,12 +89,21 @@ fn routes_of_any_legs() {
         let (mut image, mut answer) = (fresh, [0xa5; ANSWER_BYTES]);
         let number = calls::route_tick(&mut image, &tick, &bytes, &mut answer);
         seen[number as usize] += 1;
-        match Route::from_bytes(&bytes) {
-            Err(refusal) => assert_eq!(refusal.number(), number),
+        match Route::try_from(&bytes[..]) {
+            Err(Refusal::LegsApart(leg)) => {
+                // the first of which a number differs from the one before it, or is none
+                let meets = |leg: &usize| {
+                    let (end, start) = (LEG_BYTES * leg - 40, LEG_BYTES * leg);
+                    floats(&bytes[end..end + 36]).eq(floats(&bytes[start..start + 36]))
+                };
+                assert_eq!((number, leg), (7, (1..count).find(|leg| !meets(leg))));
+                apart[leg.unwrap_or(0)] += 1;
+            }
+            Err(refusal) => assert_eq!(refusal.number(), Some(number)),
             Ok(route) => {
                 assert_eq!((number, route.as_bytes()), (0, &bytes[..]));
                 let legs: Vec<Leg> = route.legs().collect();
-                assert_eq!((legs.len(), Route::new(&legs)), (count, Ok(route.clone())));
+                assert_eq!((legs.len(), route.len(), Route::new(&legs)), (count, count, Ok(route.clone())));
                 let mut typed = Image::from_bytes(&fresh).expect("it is 380 bytes long");
                 let said = TickInput::from_bytes(&tick).and_then(|t| typed.route_tick(&t, &route)).expect("a route is checked");
                 assert_eq!((said.to_bytes(), typed.as_bytes()), (answer, &image));
@@ -100,6 +112,7 @@ fn routes_of_any_legs() {
         }
     }
     assert!([0, 5, 6, 7].iter().all(|number| seen[*number] > 500), "{seen:?}");
+    assert!(apart[0] == 0 && apart[1..].iter().all(|count| *count > 10), "{apart:?}");
 }
 
 /// What is appended is read back, byte for byte, and the log is that of the C calls; it may be stored and gone on with at any time.
@@ -145,6 +158,13 @@ fn logs_of_any_records() {
             (0, None, None, None, None)
         );
         assert_eq!(log.iter().count(), records.len());
+        let (mut copy, view) = (Log::new(), log.view());
+        for record in &view {
+            copy.extend([record]);
+        }
+        copy.extend(&view);
+        assert_eq!(copy.iter().map(|record| *record.as_bytes()).collect::<Vec<_>>(), [&records[..], &records[..]].concat());
+        assert_eq!(log.clone().into_bytes(), log.as_bytes());
     }
 }
 
@@ -162,10 +182,10 @@ fn logs_of_any_bytes() {
         }
         let mut count = [0xa5; 4];
         let number = calls::log_count(&bytes, &mut count);
-        match LogView::from_bytes(&bytes) {
+        match LogView::try_from(&bytes[..]) {
             Err(refusal) => {
                 assert_eq!((refusal, number, count), (Refusal::BrokenLog, 8, [0xa5; 4]));
-                assert_eq!(Log::from_bytes(&bytes), Err(Refusal::BrokenLog));
+                assert_eq!(Log::try_from(&bytes[..]), Err(Refusal::BrokenLog));
             }
             Ok(log) => {
                 assert_eq!((number, log.len()), (0, u32::from_le_bytes(count) as usize));
@@ -192,6 +212,8 @@ fn a_full_log() {
         assert_eq!(log.append_bytes(&[0; 67], &[]), Err(Refusal::InputLength));
         assert_eq!(log.append_bytes(&[0; 68], &[]), Err(Refusal::AnswerLength));
     }
+    assert_eq!(log.try_extend(&full), Err(Refusal::NoRoom));
+    log.extend(full.view());
     assert!(log == full && log.len() == MOST_RECORDS && log.iter().all(|record| record == Record::new(&input, &answer)));
     assert_eq!(Log::with_capacity(usize::MAX), Log::new());
 }
@@ -225,50 +247,12 @@ fn images_of_any_bytes() {
 fn wrong_lengths() {
     for n in 0..500 {
         let bytes = vec![0; n];
-        assert_eq!(Image::from_bytes(&bytes).is_ok(), n == IMAGE_BYTES);
-        assert_eq!(SetUp::from_bytes(&bytes).is_ok(), n == SETUP_BYTES);
-        assert_eq!(TickInput::from_bytes(&bytes).is_ok(), n == TICK_BYTES);
-        assert_eq!(Answer::from_bytes(&bytes).is_ok(), n == ANSWER_BYTES);
-    }
-}
-
-/// The header says the same lengths and numbers.
-#[test]
-fn the_header() {
-    let header = std::fs::read_to_string("../../include/fosavalo.h").expect("a test runs in its package's folder");
-    let defined = |name: &str| {
-        let line = header.lines().find_map(|line| line.strip_prefix("#define FOSAVALO_")?.strip_prefix(name)?.strip_prefix(' '));
-        line.and_then(|rest| rest.split_whitespace().next()?.parse::<usize>().ok())
-    };
-    for (name, length) in [
-        ("IMAGE_BYTES", IMAGE_BYTES),
-        ("SETUP_BYTES", SETUP_BYTES),
-        ("TICK_BYTES", TICK_BYTES),
-        ("ANSWER_BYTES", ANSWER_BYTES),
-        ("LEG_BYTES", LEG_BYTES),
-        ("ROUTE_TRAILER_BYTES", ROUTE_TRAILER_BYTES),
-        ("MOST_LEGS", MOST_LEGS),
-        ("RECORD_BYTES", RECORD_BYTES),
-        ("LOG_TRAILER_BYTES", LOG_TRAILER_BYTES),
-        ("MOST_RECORDS", MOST_RECORDS),
-    ] {
-        assert_eq!(defined(name), Some(length), "{name}");
-    }
-    for (name, refusal, lengths) in [
-        ("WRONG_IMAGE_LENGTH", Refusal::ImageLength, vec![IMAGE_BYTES]),
-        ("WRONG_INPUT_LENGTH", Refusal::InputLength, vec![SETUP_BYTES, TICK_BYTES]),
-        ("WRONG_ANSWER_LENGTH", Refusal::AnswerLength, vec![ANSWER_BYTES]),
-        ("BROKEN_IMAGE", Refusal::BrokenImage, vec![]),
-        ("WRONG_LEG_COUNT", Refusal::LegCount, vec![MOST_LEGS]),
-        ("WRONG_ROUTE_LENGTH", Refusal::RouteLength, vec![LEG_BYTES, ROUTE_TRAILER_BYTES]),
-        ("LEGS_APART", Refusal::LegsApart, vec![]),
-        ("BROKEN_LOG", Refusal::BrokenLog, vec![RECORD_BYTES]),
-        ("NO_ROOM", Refusal::NoRoom, vec![RECORD_BYTES, MOST_RECORDS]),
-        ("NO_RECORD", Refusal::NoRecord, vec![]),
-        ("WRONG_RECORD_LENGTH", Refusal::RecordLength, vec![RECORD_BYTES]),
-    ] {
-        assert_eq!(defined(name), Some(refusal.number() as usize), "{name}");
-        assert!(lengths.iter().all(|length| refusal.meaning().contains(&length.to_string())), "{refusal}");
+        let bytes = &bytes[..];
+        assert_eq!(Image::try_from(bytes).map(Image::into_bytes).is_ok_and(|own| own == bytes), n == IMAGE_BYTES);
+        assert_eq!(SetUp::try_from(bytes).is_ok(), n == SETUP_BYTES);
+        assert_eq!(TickInput::try_from(bytes).is_ok(), n == TICK_BYTES);
+        assert_eq!(Answer::try_from(bytes).is_ok(), n == ANSWER_BYTES);
+        assert_eq!(Record::try_from(bytes).is_ok_and(|own| own.as_bytes() == bytes), n == RECORD_BYTES);
     }
 }
 
@@ -278,7 +262,7 @@ fn refusals() {
     assert_eq!(Refusal::check(0), Ok(()));
     for number in (1..20).chain([u32::MAX]) {
         let refusal = Refusal::check(number).expect_err("a number above 0 is a refusal");
-        assert_eq!(refusal.number(), number);
+        assert_eq!(refusal.number(), Some(number));
         assert!(refusal.to_string().contains(&format!("({number}): ")));
     }
 }

@@ -1,0 +1,70 @@
+use crate::calls::hidden;
+use core::fmt;
+
+/// What is wrong with the floating-point environment of the calling thread.
+///
+/// The core computes in the environment of the thread that calls it, and what is proved holds where that rounds to nearest and keeps
+/// subnormal numbers, as operands and as results. A thread that nobody told otherwise has it so. It has not after C's `fesetround`, nor
+/// once a library is loaded that was linked with gcc's `-ffast-math`: its start code sets the processor to take subnormal numbers for
+/// zero. So each typed call that computes asks first, a tick too, for a library may be loaded in flight: [`Image::set_up`], [`Image::tick`],
+/// [`Image::route_tick`], [`Image::check`], and the making of a [`Route`]. What moves bytes alone does not ask, and what gives no `Result` cannot:
+/// before [`sinf`], [`cosf`] and [`calls`], ask [`FloatFault::check`].
+///
+/// [`Image::set_up`]: crate::Image::set_up
+/// [`Image::tick`]: crate::Image::tick
+/// [`Image::route_tick`]: crate::Image::route_tick
+/// [`Image::check`]: crate::Image::check
+/// [`Route`]: crate::Route
+/// [`sinf`]: crate::sinf
+/// [`cosf`]: crate::cosf
+/// [`calls`]: crate::calls
+///
+/// ```
+/// use fosavalo::{FloatFault, Refusal};
+///
+/// assert_eq!(FloatFault::check(), Ok(()));
+/// let refusal = Refusal::from(FloatFault::Subnormals);
+/// assert_eq!(refusal.to_string(), "refused: the floating-point environment of this thread does not keep subnormal numbers");
+/// assert_eq!(refusal.number(), None); // the core was not called
+/// ```
+#[derive(Clone, Copy, Debug, PartialEq, Eq, Hash)]
+pub enum FloatFault {
+    /// It does not round to nearest, ties to even.
+    Rounding,
+    /// It takes subnormal numbers for zero, or makes them zero.
+    Subnormals,
+    /// Neither.
+    Both,
+}
+
+impl FloatFault {
+    /// What is wrong, if anything, on this thread, now: found by computing, as bits.
+    #[inline]
+    pub fn check() -> Result<(), FloatFault> {
+        let number = |bits| hidden(f32::from_bits(bits));
+        let sum = |a, b| hidden(number(a) + number(b)).to_bits();
+        // 1 and half a unit of its last place, 1 and one and a half: midway between two floats, of which the even ones are 1 and 1 and two units
+        let nearest = sum(0x3f80_0000, 0x3380_0000) == 0x3f80_0000 && sum(0x3f80_0000, 0x3440_0000) == 0x3f80_0002;
+        // both operands and the result are subnormal; a sum, since processors take long over a product with them
+        let subnormals = sum(0x0000_0001, 0x0000_0001) == 0x0000_0002;
+        match (nearest, subnormals) {
+            (true, true) => Ok(()),
+            (false, true) => Err(FloatFault::Rounding),
+            (true, false) => Err(FloatFault::Subnormals),
+            (false, false) => Err(FloatFault::Both),
+        }
+    }
+}
+
+impl fmt::Display for FloatFault {
+    fn fmt(&self, f: &mut fmt::Formatter<'_>) -> fmt::Result {
+        f.write_str("the floating-point environment of this thread ")?;
+        f.write_str(match self {
+            FloatFault::Rounding => "does not round to nearest",
+            FloatFault::Subnormals => "does not keep subnormal numbers",
+            FloatFault::Both => "neither rounds to nearest nor keeps subnormal numbers",
+        })
+    }
+}
+
+impl core::error::Error for FloatFault {}

@@ -30,7 +30,7 @@
 //! | an angle | [`sinf`], [`cosf`] |
 //!
 //! It needs a floating-point environment that rounds to nearest and keeps subnormal numbers, on the calling thread; set-up and ticks
-//! are refused in any other ([`FloatFault`]).
+//! are refused in any other ([`FloatFault`]). What set-up mends of the numbers that it is given, [`SetUp::mended`] tells.
 //!
 //! Words are little-endian, floats as their bits; `include/fosavalo.h` is the same face for C. The crate has no dependency but
 //! `libfosavalo.a`, which `make core` builds, and needs no `std`, but `alloc` for a [`Log`].
@@ -46,6 +46,7 @@ pub mod calls;
 mod floats;
 mod image;
 mod log;
+mod mended;
 mod refusal;
 mod route;
 mod setup;
@@ -56,6 +57,7 @@ pub use calls::{cosf, sinf};
 pub use floats::FloatFault;
 pub use image::Image;
 pub use log::{Log, LogView, Record, Records};
+pub use mended::Mended;
 pub use refusal::Refusal;
 pub use route::{Leg, Route};
 pub use setup::{AdrcGains, Gains, Governor, GyroFilter, RecoverableSet, Segment, SetUp};

@@ -1,15 +1,63 @@
-/* Fosavalo: the C face of the proved flight core. Link target/staticlib/libfosavalo.a.
+/* Fosavalo: the C face of the proved flight core. Link libfosavalo.a, of this header's version.
  *
- * Every call is defined for every argument. Nothing here allocates, keeps state or writes anywhere but where it says. */
+ * Every call is defined for every argument. Nothing here allocates, keeps state or writes anywhere but where it says. A buffer of length 0 may
+ * be NULL: it is then one of a wrong length, as any other. */
 #ifndef FOSAVALO_H
 #define FOSAVALO_H
 
 #include <stddef.h>
 #include <stdint.h>
+#include <string.h>
 
 #ifdef __cplusplus
 extern "C" {
 #endif
+
+/* The version of this header. fosavalo_header_fits, below, asks the archive whether it goes with it. */
+#define FOSAVALO_VERSION_MAJOR 0
+#define FOSAVALO_VERSION_MINOR 1
+#define FOSAVALO_VERSION_PATCH 0
+#define FOSAVALO_VERSION FOSAVALO_TEXT(FOSAVALO_VERSION_MAJOR) "." FOSAVALO_TEXT(FOSAVALO_VERSION_MINOR) "." FOSAVALO_TEXT(FOSAVALO_VERSION_PATCH)
+#define FOSAVALO_TEXT(number) FOSAVALO_TEXT_AS_IT_IS(number)
+#define FOSAVALO_TEXT_AS_IT_IS(number) #number
+
+/* The floating-point environment. Every call computes in that of the thread which makes it, and what is proved holds where it rounds to
+ * nearest, keeps subnormal numbers as operands and as results, and traps no exception. A thread that nobody told otherwise has it so. It has not
+ * after fesetround; nor in a program linked with gcc's -ffast-math, -Ofast or -funsafe-math-optimizations, or one that loads a library linked so:
+ * these set the processor to take subnormal numbers for zero. The calls do not ask. Ask before set-up, on the thread that ticks, and after
+ * loading a library there. */
+#define FOSAVALO_FLOATS_RIGHT 0
+#define FOSAVALO_ROUNDING_WRONG 1   /* not to nearest, ties to even */
+#define FOSAVALO_SUBNORMALS_WRONG 2 /* taken for zero, or made zero */
+
+/* A float from bits that no compiler knows, and the bits of a result that it has to have by then: volatile, so that nothing is worked out
+ * before the program runs, nor moved past another call. */
+static inline float fosavalo_hidden(uint32_t bits) {
+    volatile uint32_t hidden = bits;
+    uint32_t seen = hidden;
+    float x;
+    memcpy(&x, &seen, sizeof x);
+    return x;
+}
+
+static inline uint32_t fosavalo_bits(float x) {
+    volatile float kept = x;
+    float seen = kept;
+    uint32_t bits;
+    memcpy(&bits, &seen, sizeof bits);
+    return bits;
+}
+
+/* FOSAVALO_FLOATS_RIGHT, or what is wrong, added up; on this thread, now. Found by computing, and compared as bits, so that it tells the truth
+ * under -ffast-math too. (With gcc's -mfpmath=387 it would ask another unit than the one that the calls compute on.) */
+static inline uint32_t fosavalo_float_environment(void) {
+    /* 1 and half a unit of its last place, 1 and one and a half: midway between two floats, of which the even ones are 1 and 1 and two units */
+    uint32_t down = fosavalo_bits(fosavalo_hidden(0x3f800000u) + fosavalo_hidden(0x33800000u));
+    uint32_t up = fosavalo_bits(fosavalo_hidden(0x3f800000u) + fosavalo_hidden(0x34400000u));
+    /* both operands and the result are subnormal; a sum, since processors take long over a product with them */
+    uint32_t subnormal = fosavalo_bits(fosavalo_hidden(0x00000001u) + fosavalo_hidden(0x00000001u));
+    return (down == 0x3f800000u && up == 0x3f800002u ? 0u : FOSAVALO_ROUNDING_WRONG) + (subnormal == 0x00000002u ? 0u : FOSAVALO_SUBNORMALS_WRONG);
+}
 
 /* Sine and cosine of x, in radians: within 2^-22 of the exact value up to 128 in size; +0.0 beyond it, for an infinity and for a NaN.
  * The sine of a zero is that zero. */
@@ -45,10 +93,135 @@ float fosavalo_cosf(float x);
 #define FOSAVALO_NO_RECORD 13           /* record only: the log has no record at that place */
 #define FOSAVALO_WRONG_RECORD_LENGTH 14 /* record only: record_len is not FOSAVALO_RECORD_BYTES */
 
+/* What a returned number means, in words; never NULL. */
+static inline const char *fosavalo_meaning(uint32_t number) {
+    switch (number) {
+    case FOSAVALO_DONE:
+        return "done";
+    case FOSAVALO_WRONG_IMAGE_LENGTH:
+        return "the image is not " FOSAVALO_TEXT(FOSAVALO_IMAGE_BYTES) " bytes long";
+    case FOSAVALO_WRONG_INPUT_LENGTH:
+        return "the input is not " FOSAVALO_TEXT(FOSAVALO_SETUP_BYTES) " bytes long at set-up, " FOSAVALO_TEXT(
+            FOSAVALO_TICK_BYTES) " at a tick and in a log, or a log's count is not 4";
+    case FOSAVALO_WRONG_ANSWER_LENGTH:
+        return "the answer is not " FOSAVALO_TEXT(FOSAVALO_ANSWER_BYTES) " bytes long";
+    case FOSAVALO_BROKEN_IMAGE:
+        return "the image is none that set-up or a tick leaves";
+    case FOSAVALO_WRONG_LEG_COUNT:
+        return "a route has 1 to " FOSAVALO_TEXT(FOSAVALO_MOST_LEGS) " legs";
+    case FOSAVALO_WRONG_ROUTE_LENGTH:
+        return "the route's length or its bytes back do not go with its count of legs of " FOSAVALO_TEXT(
+            FOSAVALO_LEG_BYTES) " bytes, with " FOSAVALO_TEXT(FOSAVALO_ROUTE_TRAILER_BYTES) " more";
+    case FOSAVALO_LEGS_APART:
+        return "a leg of the route does not start where the one before it ends";
+    case FOSAVALO_BROKEN_LOG:
+        return "the log's length, its count, its bytes back and its last word, " FOSAVALO_TEXT(FOSAVALO_RECORD_BYTES) ", do not go together";
+    case FOSAVALO_NO_ROOM:
+        return "the buffer has no room for " FOSAVALO_TEXT(FOSAVALO_RECORD_BYTES) " bytes more, or the log has " FOSAVALO_TEXT(
+            FOSAVALO_MOST_RECORDS) " records";
+    case FOSAVALO_NO_RECORD:
+        return "the log has no record at that place";
+    case FOSAVALO_WRONG_RECORD_LENGTH:
+        return "the record is not " FOSAVALO_TEXT(FOSAVALO_RECORD_BYTES) " bytes long";
+    default:
+        return "a number that this version has no words for";
+    }
+}
+
+/* Where each number stands, in words from the start of its buffer: the first of three where a vector stands (x, y, z), else the one.
+ * Axes are 0 to 2. */
+
+/* What set-up is given. */
+#define FOSAVALO_SETUP_K_R 0        /* 3: attitude gains */
+#define FOSAVALO_SETUP_K_OMEGA 3    /* 3: rate gains */
+#define FOSAVALO_SETUP_J 6          /* 3: inertia, kg m^2 */
+#define FOSAVALO_SETUP_SET_K_R 9    /* the recoverable set */
+#define FOSAVALO_SETUP_LAMBDA_J 10
+#define FOSAVALO_SETUP_PSI_MAX 11
+#define FOSAVALO_SETUP_ENTER 12     /* kept if finite and above 0, else 0.1 */
+#define FOSAVALO_SETUP_EXIT 13      /* kept if finite and above enter, else twice enter */
+#define FOSAVALO_SETUP_ERR_LO 14    /* the governor */
+#define FOSAVALO_SETUP_ERR_HI 15
+#define FOSAVALO_SETUP_G_MIN 16
+#define FOSAVALO_SETUP_LEG 17       /* the segment's 19 words, FOSAVALO_LEG_P0 to FOSAVALO_LEG_T from here */
+#define FOSAVALO_SETUP_OMEGA_O(axis) (36 + 4 * (axis)) /* rate control */
+#define FOSAVALO_SETUP_OMEGA_C(axis) (37 + 4 * (axis))
+#define FOSAVALO_SETUP_B0(axis) (38 + 4 * (axis))
+#define FOSAVALO_SETUP_TAU(axis) (39 + 4 * (axis))
+#define FOSAVALO_SETUP_FC 48        /* the gyro's filter, Hz */
+#define FOSAVALO_SETUP_FS 49
+
+/* A leg of a route, and the segment of a set-up. */
+#define FOSAVALO_LEG_P0 0  /* 3 */
+#define FOSAVALO_LEG_V0 3  /* 3 */
+#define FOSAVALO_LEG_A0 6  /* 3 */
+#define FOSAVALO_LEG_PF 9  /* 3 */
+#define FOSAVALO_LEG_VF 12 /* 3 */
+#define FOSAVALO_LEG_AF 15 /* 3 */
+#define FOSAVALO_LEG_T 18  /* the duration, s */
+
+/* What a tick is given. */
+#define FOSAVALO_TICK_GYRO 0           /* 3: rad/s */
+#define FOSAVALO_TICK_ATTITUDE 3       /* 4: a quaternion, w x y z */
+#define FOSAVALO_TICK_TRACKING_ERROR 7 /* m */
+#define FOSAVALO_TICK_YAW 8            /* rad */
+#define FOSAVALO_TICK_YAW_RATE 9       /* rad/s */
+#define FOSAVALO_TICK_DT 10            /* s */
+#define FOSAVALO_TICK_PLANNER 11       /* 3: the planner's rate command, rad/s */
+#define FOSAVALO_TICK_DELIVERED 14     /* 3: the fraction of the last torque that was delivered */
+
+/* What a tick answers. */
+#define FOSAVALO_ANSWER_TORQUE 0  /* 3 */
+#define FOSAVALO_ANSWER_COMMAND 3 /* 3: rad/s */
+#define FOSAVALO_ANSWER_FLAG 6    /* a whole number: 1 the fallback's command, 0 the planner's */
+#define FOSAVALO_ANSWER_TIME 7    /* the governor's, s */
+#define FOSAVALO_ANSWER_PSI 8
+#define FOSAVALO_ANSWER_MARGIN 9
+
+/* The image. To look at: only set-up and the ticks write one. */
+#define FOSAVALO_IMAGE_COUNT 0    /* a whole number: how many words an image has */
+#define FOSAVALO_IMAGE_K_R 1      /* 3; these to G_MIN are set-up's, but for the flag and the time */
+#define FOSAVALO_IMAGE_K_OMEGA 4  /* 3 */
+#define FOSAVALO_IMAGE_J 7        /* 3 */
+#define FOSAVALO_IMAGE_SET_K_R 10
+#define FOSAVALO_IMAGE_LAMBDA_J 11
+#define FOSAVALO_IMAGE_PSI_MAX 12
+#define FOSAVALO_IMAGE_ENTER 13   /* as set-up kept it */
+#define FOSAVALO_IMAGE_EXIT 14    /* as set-up kept it */
+#define FOSAVALO_IMAGE_ENGAGED 15 /* a whole number: the last answer's flag, 1 before the first */
+#define FOSAVALO_IMAGE_TIME 16    /* the governor's */
+#define FOSAVALO_IMAGE_ERR_LO 17
+#define FOSAVALO_IMAGE_ERR_HI 18
+#define FOSAVALO_IMAGE_G_MIN 19
+#define FOSAVALO_IMAGE_C5(axis) (20 + 7 * (axis)) /* the segment's coefficients, of time to the fifth .. to the zeroth */
+#define FOSAVALO_IMAGE_C4(axis) (21 + 7 * (axis))
+#define FOSAVALO_IMAGE_C3(axis) (22 + 7 * (axis))
+#define FOSAVALO_IMAGE_C2(axis) (23 + 7 * (axis))
+#define FOSAVALO_IMAGE_C1(axis) (24 + 7 * (axis))
+#define FOSAVALO_IMAGE_C0(axis) (25 + 7 * (axis))
+#define FOSAVALO_IMAGE_T_END(axis) (26 + 7 * (axis))
+#define FOSAVALO_IMAGE_Z1(axis) (41 + 9 * (axis)) /* rate control: its state, the fraction delivered, its gains */
+#define FOSAVALO_IMAGE_Z2(axis) (42 + 9 * (axis))
+#define FOSAVALO_IMAGE_U_PREV(axis) (43 + 9 * (axis))
+#define FOSAVALO_IMAGE_U_ACT(axis) (44 + 9 * (axis))
+#define FOSAVALO_IMAGE_FRACTION(axis) (45 + 9 * (axis))
+#define FOSAVALO_IMAGE_OMEGA_O(axis) (46 + 9 * (axis))
+#define FOSAVALO_IMAGE_OMEGA_C(axis) (47 + 9 * (axis))
+#define FOSAVALO_IMAGE_B0(axis) (48 + 9 * (axis))
+#define FOSAVALO_IMAGE_TAU(axis) (49 + 9 * (axis))
+#define FOSAVALO_IMAGE_FILTER_B0(axis) (68 + 9 * (axis)) /* the gyro's filter: its coefficients, its last inputs and outputs */
+#define FOSAVALO_IMAGE_FILTER_B1(axis) (69 + 9 * (axis))
+#define FOSAVALO_IMAGE_FILTER_B2(axis) (70 + 9 * (axis))
+#define FOSAVALO_IMAGE_FILTER_A1(axis) (71 + 9 * (axis))
+#define FOSAVALO_IMAGE_FILTER_A2(axis) (72 + 9 * (axis))
+#define FOSAVALO_IMAGE_FILTER_X1(axis) (73 + 9 * (axis))
+#define FOSAVALO_IMAGE_FILTER_X2(axis) (74 + 9 * (axis))
+#define FOSAVALO_IMAGE_FILTER_Y1(axis) (75 + 9 * (axis))
+#define FOSAVALO_IMAGE_FILTER_Y2(axis) (76 + 9 * (axis))
+
 /* Writes a fresh image, the state that goes from tick to tick; what stood in it is not read.
  *
- * input, 50 words: k_r 3, k_omega 3, j 3; the set's k_r, lambda_j, psi_max; enter, exit; err_lo, err_hi, g_min; p0, v0, a0, pf, vf,
- * af (3 each), t; for each of three axes omega_o, omega_c, b0, tau; fc, fs. Every bit pattern is taken and mended where it is no use.
+ * The input is the words FOSAVALO_SETUP_.. Every bit pattern is taken and mended where it is no use.
  *
  * Returns 0, 1 or 2. Unless it is 0 no byte is changed; the input never is. Each pointer has to be good for its length, whatever
  * that is, and the two buffers must not overlap. */
@@ -56,10 +229,7 @@ uint32_t fosavalo_setup(uint8_t *image, size_t image_len, const uint8_t *input, 
 
 /* One tick on an image that set-up or the last tick left.
  *
- * input, 17 words: gyro 3 (rad/s), quaternion w x y z, tracking error, yaw, yaw rate, dt (s), the planner's rate command 3 (rad/s), the
- * fraction of the last torque that was delivered 3. Every bit pattern is taken.
- * answer, 10 words: torque 3, rate command 3 (rad/s), the flag (1: the fallback's command, 0: the planner's; a whole number), the
- * governor's time, psi, margin.
+ * The input is the words FOSAVALO_TICK_.., of which every bit pattern is taken; the answer is the words FOSAVALO_ANSWER_..
  *
  * Returns 0 to 4. Unless it is 0 no byte of the image or the answer is changed; the input never is. Each pointer has to be good for
  * its length, whatever that is, and no two of the three buffers may overlap. */
@@ -69,10 +239,19 @@ uint32_t fosavalo_tick(uint8_t *image, size_t image_len, const uint8_t *input, s
  * Nothing is changed. For a caller that has a state of its own to keep in step. */
 uint32_t fosavalo_tick_refusal(const uint8_t *image, size_t image_len, size_t input_len, size_t answer_len);
 
+/* Whether the archive takes this header's lengths: 1, or 0 where it is of a version with other buffers. To be asked once, at the start. */
+static inline int fosavalo_header_fits(void) {
+    uint8_t image[FOSAVALO_IMAGE_BYTES] = {0}, input[FOSAVALO_SETUP_BYTES] = {0};
+    uint32_t setup = fosavalo_setup(image, sizeof image, input, sizeof input);
+    uint32_t tick = fosavalo_tick_refusal(image, sizeof image, FOSAVALO_TICK_BYTES, FOSAVALO_ANSWER_BYTES);
+    return setup != FOSAVALO_WRONG_IMAGE_LENGTH && setup != FOSAVALO_WRONG_INPUT_LENGTH &&
+           (tick == FOSAVALO_DONE || tick >= FOSAVALO_BROKEN_IMAGE);
+}
+
 /* One tick toward a route in place of the image's segment, which is not looked at and kept; image, input and answer are those of a tick.
  * Plain ticks and route ticks may follow each other in any order; the governor's time runs on over both.
  *
- * route: 1 to 8 legs of 19 words each, p0, v0, a0, pf, vf, af (3 each), t; then two words, the count and how many bytes back from there
+ * route: 1 to 8 legs, the words FOSAVALO_LEG_.. each; then two words, the count and how many bytes back from there
  * the first leg starts, 76 times the count. Legs meet: each p0, v0, a0 equals the pf, vf, af before it as numbers, so that -0.0 meets 0.0
  * and a NaN meets nothing. A leg ends at the sum of the durations up to it, as set-up mends them; the first leg whose end is above the
  * governor's time is flown, at the time less the end before it; past all ends it is the last leg at its duration.

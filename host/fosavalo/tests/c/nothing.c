@@ -1,0 +1,34 @@
+/* Buffers of no byte at no place: each call on none at all, and with one that is missing among others that are right. */
+#include "fosavalo.h"
+
+#include <stdio.h>
+
+int main(void) {
+    uint8_t image[FOSAVALO_IMAGE_BYTES], set_up[FOSAVALO_SETUP_BYTES] = {0}, input[FOSAVALO_TICK_BYTES] = {0}, answer[FOSAVALO_ANSWER_BYTES] = {0};
+    uint8_t log[FOSAVALO_LOG_TRAILER_BYTES + FOSAVALO_RECORD_BYTES] = FOSAVALO_EMPTY_LOG, count[4], record[FOSAVALO_RECORD_BYTES];
+    if (fosavalo_setup(image, sizeof image, set_up, sizeof set_up) != FOSAVALO_DONE) return 1;
+    uint8_t before[FOSAVALO_IMAGE_BYTES];
+    memcpy(before, image, sizeof before);
+    const uint32_t said[] = {
+        fosavalo_setup(NULL, 0, NULL, 0),
+        fosavalo_setup(NULL, 0, set_up, sizeof set_up),
+        fosavalo_setup(image, sizeof image, NULL, 0),
+        fosavalo_tick(NULL, 0, NULL, 0, NULL, 0),
+        fosavalo_tick(NULL, 0, input, sizeof input, answer, sizeof answer),
+        fosavalo_tick(image, sizeof image, NULL, 0, answer, sizeof answer),
+        fosavalo_tick(image, sizeof image, input, sizeof input, NULL, 0),
+        fosavalo_tick_refusal(NULL, 0, sizeof input, sizeof answer),
+        fosavalo_route_tick(NULL, 0, NULL, 0, NULL, 0, NULL, 0),
+        fosavalo_route_tick(image, sizeof image, input, sizeof input, NULL, 0, answer, sizeof answer),
+        fosavalo_log_append(NULL, 0, 0, NULL, 0, NULL, 0),
+        fosavalo_log_append(NULL, 0, 0, input, sizeof input, answer, sizeof answer),
+        fosavalo_log_append(log, sizeof log, FOSAVALO_LOG_TRAILER_BYTES, input, sizeof input, NULL, 0),
+        fosavalo_log_count(NULL, 0, NULL, 0),
+        fosavalo_log_count(NULL, 0, count, sizeof count),
+        fosavalo_log_record(NULL, 0, 0, NULL, 0),
+        fosavalo_log_record(NULL, 0, 0, record, sizeof record),
+    };
+    for (size_t k = 0; k < sizeof said / sizeof said[0]; k++) printf("%u ", (unsigned)said[k]);
+    puts(memcmp(before, image, sizeof before) ? "changed" : "unchanged");
+    return 0;
+}

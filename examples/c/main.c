@@ -1,5 +1,5 @@
-/* Sets up an image, ticks it along a slow pass, keeps a log of it and prints who flies; then reads the log back, ticks on a route of two legs, and
- * makes calls that are refused.
+/* Asks whether the archive and this thread's floating-point environment are right; sets up an image, ticks it along a slow pass, keeps a log of it and
+ * prints who flies; then reads the log back, ticks on a route of two legs, and makes calls that are refused.
  *
  *   gcc -std=c11 -Wall -Wextra -Werror -I../../include main.c ../../target/staticlib/libfosavalo.a -o joint && ./joint
  */
@@ -24,31 +24,41 @@ static uint32_t word(const uint8_t *bytes, size_t at) {
     return bits;
 }
 
-static double number(const uint8_t *bytes, size_t at) {
+static float number(const uint8_t *bytes, size_t at) {
     uint32_t bits = word(bytes, at);
     float x;
     memcpy(&x, &bits, sizeof x);
     return x;
 }
 
-/* The fifty words of a set-up: three metres to the north in eight seconds. */
+static void refusal(const char *what, uint32_t number) { printf("%s: refused with %u, %s\n", what, (unsigned)number, fosavalo_meaning(number)); }
+
+/* The words of a set-up: three metres to the north in eight seconds. What is not here is 0: the segment's other ends, and fc, so that nothing is filtered. */
 static const float setup[FOSAVALO_SETUP_BYTES / 4] = {
-    0.6f, 0.6f, 0.15f, 0.12f, 0.12f, 0.35f, 0.0217f, 0.0217f, 0.04f, /* k_r, k_omega, j */
-    1.0f, 1.0f, 1.75f,                                               /* the recoverable set */
-    0.5f, 1.0f,                                                      /* enter, exit */
-    0.2f, 1.0f, 0.25f,                                               /* err_lo, err_hi, g_min */
-    0, 0, 0, 0, 0, 0, 0, 0, 0,                                       /* p0, v0, a0 */
-    3, 0, 0, 0, 0, 0, 0, 0, 0,                                       /* pf, vf, af */
-    8,                                                               /* t */
-    40, 12, 60, 0.0125f, 40, 12, 60, 0.0125f, 30, 3, 18, 0.025f,     /* ADRC, axis by axis */
-    0, 1000,                                                         /* fc, fs: no filter */
+    [FOSAVALO_SETUP_K_R] = 0.6f, 0.6f, 0.15f,
+    [FOSAVALO_SETUP_K_OMEGA] = 0.12f, 0.12f, 0.35f,
+    [FOSAVALO_SETUP_J] = 0.0217f, 0.0217f, 0.04f,
+    [FOSAVALO_SETUP_SET_K_R] = 1.0f,
+    [FOSAVALO_SETUP_LAMBDA_J] = 1.0f,
+    [FOSAVALO_SETUP_PSI_MAX] = 1.75f,
+    [FOSAVALO_SETUP_ENTER] = 0.5f,
+    [FOSAVALO_SETUP_EXIT] = 1.0f,
+    [FOSAVALO_SETUP_ERR_LO] = 0.2f,
+    [FOSAVALO_SETUP_ERR_HI] = 1.0f,
+    [FOSAVALO_SETUP_G_MIN] = 0.25f,
+    [FOSAVALO_SETUP_LEG + FOSAVALO_LEG_PF] = 3,
+    [FOSAVALO_SETUP_LEG + FOSAVALO_LEG_T] = 8,
+    [FOSAVALO_SETUP_OMEGA_O(0)] = 40, 12, 60, 0.0125f, /* omega_o, omega_c, b0, tau */
+    [FOSAVALO_SETUP_OMEGA_O(1)] = 40, 12, 60, 0.0125f,
+    [FOSAVALO_SETUP_OMEGA_O(2)] = 30, 3, 18, 0.025f,
+    [FOSAVALO_SETUP_FS] = 1000,
 };
 
-/* Two legs, there and back: p0, v0, a0, pf, vf, af, t. */
+/* Two legs, there and back. */
 #define LEG_WORDS (FOSAVALO_LEG_BYTES / 4)
 static const float legs[2][LEG_WORDS] = {
-    {0, 0, 0, 0, 0, 0, 0, 0, 0, 3, 0, 0, 0, 0, 0, 0, 0, 0, 8},
-    {3, 0, 0, 0, 0, 0, 0, 0, 0, 0, 0, 0, 0, 0, 0, 0, 0, 0, 8},
+    {[FOSAVALO_LEG_PF] = 3, [FOSAVALO_LEG_T] = 8},
+    {[FOSAVALO_LEG_P0] = 3, [FOSAVALO_LEG_T] = 8},
 };
 
 /* Roll rates that take the margin above exit, into the band, below enter, into the band again and out at the top. */
@@ -58,10 +68,21 @@ static const float rates[] = {1.8f, 1.0f, 1.75f, 1.8f, 1.9f, 1.8f, 1.75f, 1.0f};
 int main(void) {
     uint8_t image[FOSAVALO_IMAGE_BYTES], input[FOSAVALO_SETUP_BYTES], answer[FOSAVALO_ANSWER_BYTES] = {0};
 
+    if (!fosavalo_header_fits()) {
+        puts("libfosavalo.a is not of the version of fosavalo.h, " FOSAVALO_VERSION);
+        return 1;
+    }
+    uint32_t wrong = fosavalo_float_environment();
+    if (wrong != FOSAVALO_FLOATS_RIGHT) {
+        printf("the floating-point environment is wrong:%s%s\n", wrong & FOSAVALO_ROUNDING_WRONG ? " it does not round to nearest" : "",
+               wrong & FOSAVALO_SUBNORMALS_WRONG ? " it does not keep subnormal numbers (is this linked with -ffast-math?)" : "");
+        return 1;
+    }
+
     for (size_t k = 0; k < FOSAVALO_SETUP_BYTES / 4; k++) put(input, k, setup[k]);
     uint32_t refused = fosavalo_setup(image, sizeof image, input, sizeof input);
     if (refused != FOSAVALO_DONE) {
-        printf("set-up refused: %u\n", (unsigned)refused);
+        refusal("set-up", refused);
         return 1;
     }
 
@@ -71,24 +92,28 @@ int main(void) {
     printf("tick    torque                      command                     flag        margin\n");
     for (size_t tick = 0; tick < TICKS; tick++) {
         const float words[FOSAVALO_TICK_BYTES / 4] = {
-            rates[tick], 0, 0,          /* gyro */
-            1, 0, 0, 0,                 /* quaternion */
-            0.1f, 0, 0, 0.001f,         /* tracking error, yaw, yaw rate, dt */
-            0.5f, -0.25f, 0.125f,       /* what the planner wants */
-            1, 1, 1,                    /* all of the last torque was delivered */
+            [FOSAVALO_TICK_GYRO] = rates[tick],
+            [FOSAVALO_TICK_ATTITUDE] = 1, /* level */
+            [FOSAVALO_TICK_TRACKING_ERROR] = 0.1f,
+            [FOSAVALO_TICK_DT] = 0.001f,
+            [FOSAVALO_TICK_PLANNER] = 0.5f, -0.25f, 0.125f,
+            [FOSAVALO_TICK_DELIVERED] = 1, 1, 1, /* all of the last torque */
         };
         for (size_t k = 0; k < FOSAVALO_TICK_BYTES / 4; k++) put(input, k, words[k]);
         refused = fosavalo_tick(image, sizeof image, input, FOSAVALO_TICK_BYTES, answer, sizeof answer);
         if (refused != FOSAVALO_DONE) {
-            printf("tick refused: %u\n", (unsigned)refused);
+            refusal("tick", refused);
             return 1;
         }
-        printf("%4zu  %8.4f %8.4f %8.4f  %8.4f %8.4f %8.4f  %u %-8s  %7.4f\n", tick + 1, number(answer, 0), number(answer, 1), number(answer, 2),
-               number(answer, 3), number(answer, 4), number(answer, 5), (unsigned)word(answer, 6), word(answer, 6) ? "fallback" : "planner",
-               number(answer, 9));
+        printf("%4zu ", tick + 1);
+        for (size_t k = 0; k < 3; k++) printf(" %8.4f", number(answer, FOSAVALO_ANSWER_TORQUE + k));
+        printf(" ");
+        for (size_t k = 0; k < 3; k++) printf(" %8.4f", number(answer, FOSAVALO_ANSWER_COMMAND + k));
+        uint32_t flag = word(answer, FOSAVALO_ANSWER_FLAG);
+        printf("  %u %-8s  %7.4f\n", (unsigned)flag, flag ? "fallback" : "planner", number(answer, FOSAVALO_ANSWER_MARGIN));
         refused = fosavalo_log_append(log, sizeof log, log_len, input, FOSAVALO_TICK_BYTES, answer, sizeof answer);
         if (refused != FOSAVALO_DONE) {
-            printf("the log takes no more: %u\n", (unsigned)refused);
+            refusal("the log", refused);
             return 1;
         }
         log_len += FOSAVALO_RECORD_BYTES;
@@ -98,9 +123,10 @@ int main(void) {
     if (fosavalo_log_count(log, log_len, count, sizeof count) != FOSAVALO_DONE || word(count, 0) != TICKS) return 1;
     printf("the log, %u records, has the margins", (unsigned)word(count, 0));
     for (uint64_t place = 0; fosavalo_log_record(log, log_len, place, record, sizeof record) == FOSAVALO_DONE; place++)
-        printf(" %.4f", number(record + FOSAVALO_TICK_BYTES, 9));
+        printf(" %.4f", number(record + FOSAVALO_TICK_BYTES, FOSAVALO_ANSWER_MARGIN));
+    puts("");
     refused = fosavalo_log_append(log, sizeof log, log_len, input, FOSAVALO_TICK_BYTES, answer, sizeof answer);
-    printf("\none more than there is room for: refused with %u\n", (unsigned)refused);
+    refusal("one more than there is room for", refused);
     if (refused != FOSAVALO_NO_ROOM) return 1;
 
     uint8_t route[2 * FOSAVALO_LEG_BYTES + FOSAVALO_ROUTE_TRAILER_BYTES];
@@ -108,22 +134,24 @@ int main(void) {
     put_word(route, 2 * LEG_WORDS, 2);
     put_word(route, 2 * LEG_WORDS + 1, 2 * FOSAVALO_LEG_BYTES);
     refused = fosavalo_route_tick(image, sizeof image, input, FOSAVALO_TICK_BYTES, route, sizeof route, answer, sizeof answer);
-    printf("route of two legs: %u, time %.4f, flag %u\n", (unsigned)refused, number(answer, 7), (unsigned)word(answer, 6));
+    printf("route of two legs: %u, time %.4f, flag %u\n", (unsigned)refused, number(answer, FOSAVALO_ANSWER_TIME),
+           (unsigned)word(answer, FOSAVALO_ANSWER_FLAG));
     if (refused != FOSAVALO_DONE) return 1;
-    put(route, LEG_WORDS, 3.5f);
+    put(route, LEG_WORDS + FOSAVALO_LEG_P0, 3.5f);
     refused = fosavalo_route_tick(image, sizeof image, input, FOSAVALO_TICK_BYTES, route, sizeof route, answer, sizeof answer);
-    printf("legs that do not meet: refused with %u\n", (unsigned)refused);
+    refusal("legs that do not meet", refused);
     if (refused != FOSAVALO_LEGS_APART) return 1;
 
-    /* an answer buffer that is too short; then an image with a latch that is neither 0 nor 1 */
+    /* an answer buffer that is too short; then an image with a flag that is neither 0 nor 1 */
     uint8_t before[FOSAVALO_IMAGE_BYTES];
     memcpy(before, image, sizeof before);
     refused = fosavalo_tick(image, sizeof image, input, FOSAVALO_TICK_BYTES, answer, sizeof answer - 1);
-    printf("answer of 39 bytes: refused with %u, image %s\n", (unsigned)refused, memcmp(before, image, sizeof before) ? "CHANGED" : "unchanged");
-    if (refused != FOSAVALO_WRONG_ANSWER_LENGTH) return 1;
-    image[4 * 15] = before[4 * 15] = 2;
+    refusal("a short answer", refused);
+    if (refused != FOSAVALO_WRONG_ANSWER_LENGTH || memcmp(before, image, sizeof before) != 0) return 1;
+    put_word(image, FOSAVALO_IMAGE_ENGAGED, 2);
+    put_word(before, FOSAVALO_IMAGE_ENGAGED, 2);
     if (fosavalo_tick_refusal(image, sizeof image, FOSAVALO_TICK_BYTES, sizeof answer) != FOSAVALO_BROKEN_IMAGE) return 1;
     refused = fosavalo_tick(image, sizeof image, input, FOSAVALO_TICK_BYTES, answer, sizeof answer);
-    printf("broken image: refused with %u, image %s\n", (unsigned)refused, memcmp(before, image, sizeof before) ? "CHANGED" : "unchanged");
-    return refused == FOSAVALO_BROKEN_IMAGE ? 0 : 1;
+    refusal("a broken image", refused);
+    return refused == FOSAVALO_BROKEN_IMAGE && memcmp(before, image, sizeof before) == 0 ? 0 : 1;
 }

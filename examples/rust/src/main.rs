@@ -2,7 +2,7 @@
 //!
 //!   make core && cargo run --offline --manifest-path examples/rust/Cargo.toml
 
-use fosavalo::{calls, BodyRate, GyroFilter, Image, Log, LogView, Pilot, Refusal, Segment, SetUp, TickInput};
+use fosavalo::{calls, GyroFilter, Image, Log, LogView, Refusal, Segment, SetUp, TickInput};
 
 /// Roll rates that take the margin above exit, into the band, below enter, into the band again and out at the top.
 const RATES: [f32; 8] = [1.8, 1.0, 1.75, 1.8, 1.9, 1.8, 1.75, 1.0];
@@ -14,28 +14,23 @@ fn main() -> Result<(), Refusal> {
         filter: GyroFilter { fc: 0.0, fs: 1000.0 },
         ..SetUp::falcon_quad()
     };
+    // refused where this thread's floating-point environment is not the one that the core computes in
     let mut image = Image::set_up(&set_up)?;
     println!("{image:?}");
     let mut log = Log::new();
 
     for (tick, rate) in RATES.iter().enumerate() {
-        let input = TickInput {
-            gyro: BodyRate([*rate, 0.0, 0.0]),
-            tracking_error: 0.1,
-            planner: BodyRate([0.5, -0.25, 0.125]),
-            ..TickInput::default()
-        };
+        let input =
+            TickInput { gyro: [*rate, 0.0, 0.0].into(), tracking_error: 0.1, planner: [0.5, -0.25, 0.125].into(), ..TickInput::default() };
         let answer = image.tick(&input)?;
         log.append(&input, &answer)?;
-        let who = match answer.pilot {
-            Pilot::Planner => "planner",
-            Pilot::Fallback => "fallback",
-        };
-        println!("tick {}: margin {:7.4}, {who:8} flies {:?}, torque {:?}", tick + 1, answer.margin, answer.command.0, answer.torque.0);
+        let (margin, pilot, command, torque) = (answer.margin, answer.pilot, answer.command.0, answer.torque.0);
+        println!("tick {}: margin {margin:7.4}, {pilot:8} flies {command:?}, torque {torque:?}", tick + 1);
     }
 
     // the log's bytes are what would go to a file and come back from it
-    let flown = LogView::from_bytes(log.as_bytes())?;
+    let file = log.into_bytes();
+    let flown = LogView::try_from(&file[..])?;
     let margins: Vec<f32> = flown.iter().map(|record| record.answer().margin).collect();
     println!("the log, {} records, has the margins {margins:?}", flown.len());
 
@@ -44,7 +39,7 @@ fn main() -> Result<(), Refusal> {
     bytes[4 * 15] = 2;
     let broken = Image::from_bytes(&bytes)?.tick(&TickInput::default());
     println!("broken image: {}", broken.map_or_else(|refusal| refusal.to_string(), |_| "taken".to_string()));
-    let mut bytes = *image.as_bytes();
+    let mut bytes = image.clone().into_bytes();
     let number = calls::tick(&mut bytes, &TickInput::default().to_bytes(), &mut [0; 39]);
     println!("answer of 39 bytes: {}, image {}", number, if &bytes == image.as_bytes() { "unchanged" } else { "CHANGED" });
     Ok(())

@@ -36,8 +36,8 @@ impl Work {
         path
     }
 
-    /// Compiles the program with this compiler and links it with gcc, each with its flags, and gives what it prints.
-    fn run(&self, compiler: &str, include: &Path, program: &Path, compile: &[&str], link: &[&str]) -> String {
+    /// Compiles the program with this compiler and links it with gcc, each with its flags.
+    fn build(&self, compiler: &str, include: &Path, program: &Path, compile: &[&str], link: &[&str]) -> Command {
         let (object, built) = (self.0.join("program.o"), self.0.join("program"));
         let mut first = Command::new(compiler);
         first.args(["-Wall", "-Wextra", "-Wpedantic", "-Werror"]).args(compile).arg("-I").arg(include);
@@ -45,7 +45,12 @@ impl Work {
         let own = crate_folder().join("../../target/staticlib");
         let archive = std::env::var_os("FOSAVALO_LIB_DIR").map_or(own, PathBuf::from).join("libfosavalo.a");
         done(Command::new("gcc").args(link).arg(&object).arg(archive).arg("-lm").arg("-o").arg(&built));
-        done(&mut Command::new(&built))
+        Command::new(&built)
+    }
+
+    /// And gives what it prints.
+    fn run(&self, compiler: &str, include: &Path, program: &Path, compile: &[&str], link: &[&str]) -> String {
+        done(&mut self.build(compiler, include, program, compile, link))
     }
 }
 
@@ -84,6 +89,16 @@ fn the_environment() {
             assert_eq!(run(&[level], &["-ffast-math"]), wrong, "{compiler} {level}");
         }
     }
+}
+
+/// The example asks before it sets up.
+#[test]
+fn the_example_asks_first() {
+    let (work, program) = (Work::new("example"), crate_folder().join("../../examples/c/main.c"));
+    let said = work.build("gcc", &include(), &program, &["-std=c11"], &["-ffast-math"]).output().expect("it runs");
+    let text = String::from_utf8_lossy(&said.stdout);
+    assert_eq!((said.status.code(), text.lines().count()), (Some(1), 1), "{text}");
+    assert!(text.starts_with("the floating-point environment is wrong: it does not keep subnormal numbers"), "{text}");
 }
 
 /// A buffer of length 0 may be NULL: the call refuses its length.

@@ -13,9 +13,10 @@
 # make answers     makes the oracle's stored answers again, which the program `replay` runs (docs/ORACLE.md)
 # make bench       times, as ratios to the other side in one run; `make bench BEFORE=../old/libfosavalo.a` has an earlier archive's tick beside ours
 # make stack       the stack that each C call takes, painted and looked at on the compiled archive
+# make dist        what a simulator links without the toolchain, in dist/ and there as a tar: archive, header, fosavalo.pc, licence, checksums
 # make docs        the safe crate's pages, host/target/doc/fosavalo/index.html
 # make map         docs/MAP.md and docs/PROMISES.md anew, from the sources
-.PHONY: fly log choices test table archives core exhaustive routines ticks answers bench stack docs map clean
+.PHONY: fly log choices test table archives core exhaustive routines ticks answers bench stack dist docs map clean
 
 CARGO = cargo
 HOST = cd host && $(CARGO)
@@ -63,6 +64,9 @@ bench: archives
 
 stack: archives
 	@$(HOST) run --release --offline --quiet --bin bench stack
+
+dist: core
+	@tools/dist
 
 docs: core
 	@$(HOST) doc --release --offline --no-deps --package fosavalo

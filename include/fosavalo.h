@@ -23,9 +23,9 @@ extern "C" {
 
 /* The floating-point environment. Every call computes in that of the thread which makes it, and what is proved holds where it rounds to
  * nearest, keeps subnormal numbers as operands and as results, and traps no exception. A thread that nobody told otherwise has it so. It has not
- * after fesetround; nor in a program linked with gcc's -ffast-math, -Ofast or -funsafe-math-optimizations, or one that loads a library linked so:
- * these set the processor to take subnormal numbers for zero. The calls do not ask. Ask before set-up, on the thread that ticks, and after
- * loading a library there. */
+ * after fesetround; nor in a program that is linked with -ffast-math, -Ofast or -funsafe-math-optimizations, or that loads a library so linked (by gcc
+ * before 13): these set the processor to take subnormal numbers for zero. The calls do not ask. Ask before set-up, on the thread that ticks, and
+ * after loading a library there. */
 #define FOSAVALO_FLOATS_RIGHT 0
 #define FOSAVALO_ROUNDING_WRONG 1   /* not to nearest, ties to even */
 #define FOSAVALO_SUBNORMALS_WRONG 2 /* taken for zero, or made zero */
@@ -101,8 +101,8 @@ static inline const char *fosavalo_meaning(uint32_t number) {
     case FOSAVALO_WRONG_IMAGE_LENGTH:
         return "the image is not " FOSAVALO_TEXT(FOSAVALO_IMAGE_BYTES) " bytes long";
     case FOSAVALO_WRONG_INPUT_LENGTH:
-        return "the input is not " FOSAVALO_TEXT(FOSAVALO_SETUP_BYTES) " bytes long at set-up, " FOSAVALO_TEXT(
-            FOSAVALO_TICK_BYTES) " at a tick and in a log, or a log's count is not 4";
+        return "the input is not " FOSAVALO_TEXT(FOSAVALO_SETUP_BYTES) " bytes long at set-up, " FOSAVALO_TEXT(FOSAVALO_TICK_BYTES)
+               " at a tick and in a log, or a log's count is not 4";
     case FOSAVALO_WRONG_ANSWER_LENGTH:
         return "the answer is not " FOSAVALO_TEXT(FOSAVALO_ANSWER_BYTES) " bytes long";
     case FOSAVALO_BROKEN_IMAGE:
@@ -110,15 +110,15 @@ static inline const char *fosavalo_meaning(uint32_t number) {
     case FOSAVALO_WRONG_LEG_COUNT:
         return "a route has 1 to " FOSAVALO_TEXT(FOSAVALO_MOST_LEGS) " legs";
     case FOSAVALO_WRONG_ROUTE_LENGTH:
-        return "the route's length or its bytes back do not go with its count of legs of " FOSAVALO_TEXT(
-            FOSAVALO_LEG_BYTES) " bytes, with " FOSAVALO_TEXT(FOSAVALO_ROUTE_TRAILER_BYTES) " more";
+        return "the route's length or its bytes back do not go with its count of legs of " FOSAVALO_TEXT(FOSAVALO_LEG_BYTES)
+               " bytes, with " FOSAVALO_TEXT(FOSAVALO_ROUTE_TRAILER_BYTES) " more";
     case FOSAVALO_LEGS_APART:
         return "a leg of the route does not start where the one before it ends";
     case FOSAVALO_BROKEN_LOG:
         return "the log's length, its count, its bytes back and its last word, " FOSAVALO_TEXT(FOSAVALO_RECORD_BYTES) ", do not go together";
     case FOSAVALO_NO_ROOM:
-        return "the buffer has no room for " FOSAVALO_TEXT(FOSAVALO_RECORD_BYTES) " bytes more, or the log has " FOSAVALO_TEXT(
-            FOSAVALO_MOST_RECORDS) " records";
+        return "the buffer has no room for " FOSAVALO_TEXT(FOSAVALO_RECORD_BYTES) " bytes more, or the log has "
+               FOSAVALO_TEXT(FOSAVALO_MOST_RECORDS) " records";
     case FOSAVALO_NO_RECORD:
         return "the log has no record at that place";
     case FOSAVALO_WRONG_RECORD_LENGTH:

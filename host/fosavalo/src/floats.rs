@@ -4,15 +4,16 @@ use core::fmt;
 /// What is wrong with the floating-point environment of the calling thread.
 ///
 /// The core computes in the environment of the thread that calls it, and what is proved holds where that rounds to nearest and keeps
-/// subnormal numbers, as operands and as results. A thread that nobody told otherwise has it so. It has not after C's `fesetround`, nor
-/// once a library is loaded that was linked with gcc's `-ffast-math`: its start code sets the processor to take subnormal numbers for
-/// zero. So each typed call that computes asks first, a tick too, for a library may be loaded in flight: [`Image::set_up`], [`Image::tick`],
-/// [`Image::route_tick`], [`Image::check`], and the making of a [`Route`]. What moves bytes alone does not ask, and what gives no `Result` cannot:
-/// before [`sinf`], [`cosf`] and [`calls`], ask [`FloatFault::check`].
+/// subnormal numbers, as operands and as results (and traps no exception). A thread that nobody told otherwise has it so. It has not after
+/// C's `fesetround`, nor in a program linked with C's `-ffast-math` or once it loads a library that gcc before 13 linked so: these set the
+/// processor to take subnormal numbers for zero.
+///
+/// So each typed call that computes asks first: [`Image::set_up`], [`Image::check`], the making of a [`Route`], and both ticks, since a
+/// library may be loaded in flight, and a tick may be on another thread than its set-up. It costs three sums. An image, a log or an input
+/// taken from bytes is copied and not computed with, so nothing is asked; what gives no `Result` cannot refuse: before [`sinf`], [`cosf`]
+/// and [`calls`], ask [`FloatFault::check`].
 ///
 /// [`Image::set_up`]: crate::Image::set_up
-/// [`Image::tick`]: crate::Image::tick
-/// [`Image::route_tick`]: crate::Image::route_tick
 /// [`Image::check`]: crate::Image::check
 /// [`Route`]: crate::Route
 /// [`sinf`]: crate::sinf
@@ -33,7 +34,7 @@ pub enum FloatFault {
     Rounding,
     /// It takes subnormal numbers for zero, or makes them zero.
     Subnormals,
-    /// Neither.
+    /// Both are wrong.
     Both,
 }
 

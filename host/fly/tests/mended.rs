@@ -1,15 +1,13 @@
 //! `fly` says what set-up mended of a scenario, and nothing where it mended nothing.
 
-use std::path::Path;
 use std::process::Command;
 
 fn said(scenario: &str, name: &str) -> String {
-    let folder = Path::new(env!("CARGO_TARGET_TMPDIR")).join(name);
-    std::fs::create_dir_all(&folder).expect("a folder for the flight");
+    let folder = checkout::scratch(name);
     let file = folder.join("flight.txt");
     std::fs::write(&file, scenario).expect("it is written");
     // no gnuplot is found
-    let flown = Command::new(env!("CARGO_BIN_EXE_fly")).arg(&file).arg("--out").arg(&folder).env("PATH", "").output().expect("it runs");
+    let flown = Command::new(checkout::program("fly")).arg(&file).arg("--out").arg(&folder).env("PATH", "").output().expect("it runs");
     assert_eq!(flown.status.code(), Some(0), "{}", String::from_utf8_lossy(&flown.stderr));
     String::from_utf8(flown.stdout).expect("it is text")
 }

@@ -20,20 +20,35 @@ impl Progress {
         Progress { what, all, done: AtomicU64::new(0), tenth: AtomicU64::new(0), start: Instant::now(), second: AtomicU64::new(0) }
     }
 
+    /// So much more is done. The threads may do somewhat more than all.
     pub fn add(&self, n: u64) {
-        let done = self.done.fetch_add(n, Ordering::Relaxed) + n;
+        let before = self.done.fetch_add(n, Ordering::Relaxed);
         let seconds = self.start.elapsed().as_secs();
-        let percent = done * 100 / self.all.max(1);
+        let (percent, ends) = (self.percent(before + n), before < self.all && before + n >= self.all);
         if std::io::stderr().is_terminal() {
-            if self.second.swap(seconds, Ordering::Relaxed) != seconds || done >= self.all {
-                eprint!("\r{}: {percent:3} %, {seconds} s", self.what);
-                if done >= self.all {
-                    eprintln!();
-                }
+            let second = self.second.swap(seconds, Ordering::Relaxed) != seconds;
+            if before < self.all && (second || ends) {
+                eprint!("\r{}: {percent:3} %, {seconds} s{}", self.what, if ends { "\n" } else { "" });
                 let _ = std::io::stderr().flush();
             }
         } else if self.tenth.fetch_max(percent / 10, Ordering::Relaxed) < percent / 10 {
             eprintln!("{}: {percent} %, {seconds} s", self.what);
         }
+    }
+
+    fn percent(&self, done: u64) -> u64 {
+        100 * done.min(self.all) / self.all.max(1)
+    }
+}
+
+#[cfg(test)]
+mod tests {
+    use super::*;
+
+    /// Batches that go beyond the end are at the end.
+    #[test]
+    fn no_more_than_all() {
+        let progress = Progress::new("any", 300);
+        assert_eq!([0, 2, 3, 150, 299, 300, 301, 1_000_000].map(|done| progress.percent(done)), [0, 0, 1, 50, 99, 100, 100, 100]);
     }
 }

@@ -5,6 +5,7 @@ mod joint;
 mod log;
 mod stack;
 
+use compare::println;
 use std::hint::black_box;
 use std::time::Instant;
 

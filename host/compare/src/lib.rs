@@ -10,6 +10,7 @@ pub mod numbers;
 pub mod progress;
 pub mod routine;
 pub mod runs;
+pub mod said;
 pub mod table;
 pub mod threads;
 pub mod words;

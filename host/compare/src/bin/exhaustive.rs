@@ -1,6 +1,7 @@
 //! Every f32: the root, the size and finiteness against the hardware, sine and cosine against the true value.
 
 use compare::numbers;
+use compare::println;
 
 fn report(name: &str, found: numbers::Found) -> bool {
     print!("{name}: {} patterns", found.cases);

@@ -3,6 +3,7 @@
 use compare::joint::archive;
 use compare::joint::guide::{MIXED, PLAIN};
 use compare::joint::runs::{self, Watch};
+use compare::println;
 use compare::progress::Progress;
 use std::time::Instant;
 

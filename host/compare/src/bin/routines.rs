@@ -1,5 +1,6 @@
 //! Every routine against the Rust, for longer than the gate does: `routines [rows a routine]`.
 
+use compare::println;
 use compare::routine::{compare_all, GATE};
 use compare::table;
 use std::time::Instant;

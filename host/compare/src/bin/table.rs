@@ -2,6 +2,7 @@
 
 use compare::exact;
 use compare::joint::bytes::canonical;
+use compare::println;
 
 fn main() {
     println!("        x |     root  hardware  nearest f32 by document 01");

@@ -1,10 +1,12 @@
 # make fly         prove and build the core, then fly a slow pass above a stage: a table, logs and a picture, our shield beside the earlier rule;
-#                  and a pass of three legs on a route
-#                  `make fly SCENARIO=my.txt` flies that file instead (docs/FLYING.md); INSTALL=no installs nothing for the picture
-# make log         a flight log as CSV on standard output, and its picture: `make log FILE=target/fly/pass-shield.log` (docs/FLYING.md);
-#                  with ENTER=0.03 EXIT=0.07 the picture has these thresholds
+#                  and a pass of three legs on a route. The files go to flights/, which nothing here removes
+#                  `make fly SCENARIO=my.txt` flies that file instead (docs/FLYING.md); OUT=folder has the files elsewhere;
+#                  INSTALL=no installs nothing for the picture
+# make log         a flight log as CSV on standard output, and its picture: `make log FILE=flights/pass-shield.log` (docs/FLYING.md);
+#                  with ENTER=0.03 EXIT=0.07 the picture has these thresholds; OUT and INSTALL as above
 # make choices     the pass with other choices of set, filter and noise: what hangs on them
-# make test        the gate: proofs, must-fail edits, programs, the host's comparisons; its last line is `N passed, 0 failed`
+# make test        the gate: proofs, must-fail edits, programs, the host's comparisons; its last line is `N passed, 0 failed`.
+#                  What the prover says is kept in gate/
 # make table       roots, sines and cosines beside the hardware's and document 01's
 # make exhaustive  every f32 (some minutes)
 # make routines    every routine beside the Rust's, ROWS rows of input each: `make routines ROWS=100000000` (without it, the gate's million)
@@ -13,10 +15,14 @@
 # make answers     makes the oracle's stored answers again, which the program `replay` runs (docs/ORACLE.md)
 # make bench       times, as ratios to the other side in one run; `make bench BEFORE=../old/libfosavalo.a` has an earlier archive's tick beside ours
 # make stack       the stack that each C call takes, painted and looked at on the compiled archive
+# make core        proves the core and builds its archive, target/staticlib/libfosavalo.a; where nothing changed, nothing is proved
+# make archives    that, and the archive of the test face
 # make dist        what a simulator links without the toolchain, in dist/ and there as a tar: archive, header, fosavalo.pc, licence, checksums
 # make docs        the safe crate's pages, host/target/doc/fosavalo/index.html
 # make map         docs/MAP.md and docs/PROMISES.md anew, from the sources
-.PHONY: fly log choices test table archives core exhaustive routines ticks answers bench stack dist docs map clean
+# make clean       removes all that was built, and no flight
+# make help        these lines
+.PHONY: fly log choices test table archives core exhaustive routines ticks answers bench stack dist docs map clean help
 
 CARGO = cargo
 HOST = cd host && $(CARGO)
@@ -24,12 +30,12 @@ HOST = cd host && $(CARGO)
 fly: core
 	@$(CARGO) build --manifest-path host/Cargo.toml --release --offline --package fly
 	@INSTALL=$(INSTALL) tools/gnuplot
-	@echo && host/target/release/fly $(if $(SCENARIO),"$(SCENARIO)")
+	@echo && host/target/release/fly $(if $(SCENARIO),"$(SCENARIO)") $(if $(OUT),--out "$(OUT)")
 
 log: core
 	@$(CARGO) build --manifest-path host/Cargo.toml --release --offline --quiet --package fly
 	@INSTALL=$(INSTALL) tools/gnuplot
-	@host/target/release/log $(if $(FILE),"$(FILE)") $(if $(ENTER),--enter "$(ENTER)") $(if $(EXIT),--exit "$(EXIT)")
+	@host/target/release/log $(if $(FILE),"$(FILE)") $(if $(ENTER),--enter "$(ENTER)") $(if $(EXIT),--exit "$(EXIT)") $(if $(OUT),--out "$(OUT)")
 
 choices: core
 	@$(CARGO) build --manifest-path host/Cargo.toml --release --offline --quiet --package fly
@@ -75,4 +81,7 @@ map:
 	@$(HOST) run --release --offline --quiet --bin map
 
 clean:
-	rm -rf target host/target
+	rm -rf target host/target gate
+
+help:
+	@sed -n 's/^# //p; /^\.PHONY/q' Makefile

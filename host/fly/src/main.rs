@@ -1,42 +1,71 @@
 //! `fly`: the slow pass above a stage, and a pass of three legs. `fly SCENARIO`: a flight from a file. Both print a table and write what was flown.
 
 use fly::flight::Flight;
-use fly::scenario::Scenario;
+use fly::scenario::{self, Scenario};
 use fly::table::{choices, passes, table, Pair};
 use fly::{legs, output, pass};
+use fosavalo::{LEG_BYTES, TICK_BYTES};
 use std::io::Write;
 use std::path::{Path, PathBuf};
 use std::process::ExitCode;
 
-const USAGE: &str = "fly [SCENARIO] [--out FOLDER]
+const FOLDER: &str = "flights";
+
+/// What `--help` says.
+fn usage() -> String {
+    let [set_up, input] = scenario::fields().map(|fields| {
+        let named: Vec<String> = fields.iter().map(|(name, count)| format!("{name} {count}")).collect();
+        named.chunks(9).map(|line| format!("\n  {}", line.join(", "))).collect::<String>()
+    });
+    format!(
+        "fly [SCENARIO] [--out FOLDER]
 fly --choices
 
 Without a scenario: the slow pass above a stage in a closed loop, five seeds, our shield and the earlier rule side by side;
-then a pass of three legs on a route.
-With one: the flight of that file (host/fly/scenarios has examples, docs/FLYING.md says how one is written).
-Every tick goes to FOLDER (target/fly) as CSV, with a picture where gnuplot is there.
-With --choices: the pass with other choices of set, filter and noise, and how often control changed hands.";
+then a pass of three legs on a route. With one: the flight of that file.
+
+  --out FOLDER   where the files go, `{FOLDER}` if it is not given: NAME-shield.csv and NAME-earlier.csv with every tick,
+                 NAME-shield.log and NAME-earlier.log, and where gnuplot is there NAME.svg and NAME.png, drawn from
+                 NAME-shield.points and NAME-earlier.points; NAME is `pass` or the scenario's
+  --choices      the pass with other choices of set, filter and noise, and how often control changed hands; no files
+  --help, -h     this
+
+A scenario is plain text, a field and its numbers on a line, # before a comment (docs/FLYING.md; host/fly/scenarios has
+examples). Fields, and how many numbers each takes; of the set-up, before the first tick:{set_up}
+of the input, which hold until they are given again:{input}
+and
+  leg NUMBERS    a leg of a route in place of the segment, {leg} numbers: p0 v0 a0 pf vf af t; before the first tick
+  tick N         N ticks; `tick N FIELD NUMBERS ..` leads these fields of the input evenly to these numbers
+  row NUMBERS    one tick, all {row} numbers of the input
+A number is a decimal, nan, inf, -inf, or 0x and the bits. What is not given is as in SetUp::falcon_quad and
+TickInput::default of the crate fosavalo.
+
+Ends with 0, or with 2 and a line on standard error that says what is wrong and where.",
+        leg = LEG_BYTES / 4,
+        row = TICK_BYTES / 4,
+    )
+}
 
 fn main() -> ExitCode {
     match run() {
         Ok(()) => ExitCode::SUCCESS,
         Err(text) => {
-            eprintln!("fly: {text}");
+            output::note(&format!("fly: {text}"));
             ExitCode::from(2)
         }
     }
 }
 
 fn run() -> Result<(), String> {
-    let (mut scenario, mut folder) = (None, PathBuf::from("target/fly"));
+    let (mut scenario, mut folder) = (None, PathBuf::from(FOLDER));
     let mut words = std::env::args_os().skip(1);
     while let Some(word) = words.next() {
         match word.to_str() {
-            Some("--help" | "-h") => return say(&format!("{USAGE}\n")),
+            Some("--help" | "-h") => return say(&format!("{}\n", usage())),
             Some("--choices") => return say(&choices().map_err(|refusal| refusal.to_string())?),
             Some("--out") => folder = words.next().map(PathBuf::from).ok_or("--out wants a folder")?,
-            Some(option) if option.starts_with('-') => return Err(format!("`{option}` is no option\n\n{USAGE}")),
-            _ if scenario.is_some() => return Err(format!("one scenario at a time\n\n{USAGE}")),
+            Some(option) if option.starts_with('-') => return Err(format!("`{option}` is no option (fly --help)")),
+            _ if scenario.is_some() => return Err("one scenario at a time (fly --help)".to_string()),
             _ => scenario = Some(PathBuf::from(word)),
         }
     }
@@ -58,7 +87,7 @@ fn run() -> Result<(), String> {
 }
 
 fn say(text: &str) -> Result<(), String> {
-    std::io::stdout().write_all(text.as_bytes()).map_err(|error| format!("standard output: {error}"))
+    output::print(|to| to.write_all(text.as_bytes()))
 }
 
 fn from_file(path: &Path) -> Result<(String, String, Vec<Pair>), String> {
@@ -70,6 +99,6 @@ fn from_file(path: &Path) -> Result<(String, String, Vec<Pair>), String> {
     let fly = |rule| Flight::of(&scenario.set_up, rule, scenario.route.clone(), &scenario.inputs);
     let pair = Pair::new(name.clone(), fly).map_err(|refusal| refusal.to_string())?;
     let [ours, _] = &pair.flights;
-    let title = format!("{name}: {:.3} s in {} ticks, enter {}, exit {}", ours.ticks.seconds(), ours.ticks.len(), ours.enter, ours.exit);
+    let title = output::title(&name, &ours.ticks, Some((ours.enter, ours.exit)));
     Ok((name, title, vec![pair]))
 }

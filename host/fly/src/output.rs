@@ -3,6 +3,7 @@
 use crate::flight::{Flight, Rule};
 use crate::picture::{Picture, Row};
 use crate::table::Pair;
+use crate::ticks::Ticks;
 use fosavalo::{Log, Record, Refusal, MOST_RECORDS};
 use std::io::{self, BufWriter, Write};
 use std::path::Path;
@@ -23,6 +24,44 @@ fn row(flight: &Flight) -> Row<'_> {
 pub fn name(path: &Path) -> String {
     let stem = path.file_stem().map_or("flight".into(), |stem| stem.to_string_lossy());
     stem.chars().map(|c| if c.is_ascii_alphanumeric() || c == '-' { c } else { '_' }).collect()
+}
+
+/// A number in few letters.
+pub fn brief(x: f32) -> String {
+    if x == 0.0 || (1e-4..1e6).contains(&x.abs()) || !x.is_finite() {
+        x.to_string()
+    } else {
+        format!("{x:e}")
+    }
+}
+
+/// Seconds to the millisecond, in few letters.
+pub fn seconds(x: f64) -> String {
+    if x < 1e6 {
+        format!("{x:.3}")
+    } else {
+        format!("{x:.3e}")
+    }
+}
+
+/// What a picture says of a flight above it.
+pub fn title(name: &str, ticks: &Ticks, thresholds: Option<(f32, f32)>) -> String {
+    let count = ticks.len();
+    let band = thresholds.map_or(String::new(), |(enter, exit)| format!(", enter {}, exit {}", brief(enter), brief(exit)));
+    format!("{name}: {} s in {count} tick{}{band}", seconds(ticks.seconds()), if count == 1 { "" } else { "s" })
+}
+
+/// To standard output. A reader that wants no more of it, as `head`, is no mistake.
+pub fn print(what: impl FnOnce(&mut io::StdoutLock) -> io::Result<()>) -> Result<(), String> {
+    match what(&mut io::stdout().lock()) {
+        Err(error) if error.kind() != io::ErrorKind::BrokenPipe => Err(format!("standard output: {error}")),
+        _ => Ok(()),
+    }
+}
+
+/// To standard error, if somebody reads it.
+pub fn note(text: &str) {
+    let _ = writeln!(io::stderr(), "{text}");
 }
 
 /// One line a tick: which, when, and its record, document 01's words of the input and of the answer, each number so that reading it gives the

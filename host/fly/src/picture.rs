@@ -1,5 +1,6 @@
 //! The picture: who flew and the margin, over the whole flight and tick by tick, one row for each flight.
 
+use crate::output::seconds;
 use crate::ticks::{Tick, Ticks};
 use fosavalo::Pilot;
 use std::fmt::Write as _;
@@ -71,13 +72,14 @@ impl Picture<'_> {
         let count = self.rows.len();
         let files = self.rows.iter().map(|row| quoted(&row.file(stem).to_string_lossy())).collect();
         let captions = self.rows.iter().map(|row| quoted(row.caption)).collect();
-        let hands = self.rows.iter().map(|row| row.ticks.changes().len().to_string()).collect();
-        let seconds = self.rows.first().map_or(0.0, |row| row.ticks.seconds());
-        let bit = self.rows.first().map_or(1, |row| per_bit(row.ticks));
+        let hands = self.rows.iter().map(|row| quoted(&hands(row.ticks.changes().len()))).collect();
+        // an axis has some length
+        let until = self.rows.iter().map(|row| row.ticks.until()).fold(1e-6, f64::max);
+        let bit = self.rows.iter().map(|row| per_bit(row.ticks)).max().unwrap_or(1);
         format!(
             "stem = {}\ntitle = {}\nrows = {count}\narray files[{count}] = [{}]\narray captions[{count}] = [{}]\n\
              array hands[{count}] = [{}]\nthresholds = {}\nenter = {enter:e}\nexit = {exit:e}\nfinite_exit = {}\nleast = {least:e}\n\
-             most = {most:e}\nseconds = {}\nclose_from = {close:.3}\nclose_ms = {}\nbit = {bit}\n",
+             most = {most:e}\nuntil = {until:e}\nclose_from = {}\nclose_ms = {}\nbit = {bit}\n",
             quoted(&stem.to_string_lossy()),
             quoted(self.title),
             list(files),
@@ -85,7 +87,7 @@ impl Picture<'_> {
             list(hands),
             u8::from(self.thresholds.is_some()),
             u8::from(finite_exit),
-            seconds + 1e-3,
+            quoted(&format!("from {} s, tick by tick", seconds(close))),
             1000.0 * CLOSE,
         )
     }
@@ -108,60 +110,76 @@ fn close_up(ticks: &Ticks) -> f64 {
     }
 }
 
-/// Three blocks for gnuplot: the margin over time, who flew when, the ticks of the close-up.
+fn hands(changes: usize) -> String {
+    match changes {
+        0 => "control never changed hands".to_string(),
+        1 => "control changed hands once".to_string(),
+        n => format!("control changed hands {n} times"),
+    }
+}
+
+/// Four blocks for gnuplot: the margin over time, who flew when, the ticks of the close-up, who flew there.
 fn points(ticks: &Ticks, close: f64) -> String {
     let mut text = String::new();
     let per_point = ticks.len().div_ceil(POINTS).max(1);
-    for some in ticks.chunks(per_point) {
-        // the least and the greatest of these ticks, in their order, so that no visit to either side is lost
-        let finite = || some.iter().filter(|tick| tick.answer.margin.is_finite());
-        let by = |a: &&Tick, b: &&Tick| a.answer.margin.total_cmp(&b.answer.margin);
-        match (finite().min_by(by), finite().max_by(by)) {
-            (Some(least), Some(most)) => {
+    for stretch in ticks.stretches() {
+        for some in stretch.chunks(per_point) {
+            // the least and the greatest of these ticks, in their order, so that no visit to either side is lost
+            let finite = || some.iter().filter(|tick| tick.answer.margin.is_finite());
+            let by = |a: &&Tick, b: &&Tick| a.answer.margin.total_cmp(&b.answer.margin);
+            if let (Some(least), Some(most)) = (finite().min_by(by), finite().max_by(by)) {
                 let (first, last) = if least.seconds <= most.seconds { (least, most) } else { (most, least) };
                 for tick in [first, last] {
-                    let _ = writeln!(text, "{:.6} {}", tick.seconds, tick.answer.margin);
+                    let _ = writeln!(text, "{:e} {:e}", tick.seconds, tick.answer.margin);
                 }
             }
-            // no number: a gap in the line
-            _ => {
-                let _ = writeln!(text, "{:.6} NaN", some.first().map_or(0.0, |tick| tick.seconds));
+            // where one is no number, and so a visit that cannot be drawn, the line has a gap
+            if finite().count() < some.len() {
+                text.push_str("NaN NaN\n");
             }
         }
+        if let Some(last) = stretch.last().filter(|tick| tick.answer.margin.is_finite()) {
+            let _ = writeln!(text, "{:e} {:e}", last.until, last.answer.margin);
+        }
+        text.push_str("NaN NaN\n");
     }
     text.push_str("\n\n");
-    for (from, to, flew) in strip(ticks) {
-        let _ = writeln!(text, "{from:.6} {to:.6} {}", flew as u8);
+    for (from, to, flew) in strip(ticks, per_bit(ticks)) {
+        let _ = writeln!(text, "{from:e} {to:e} {}", flew as u8);
     }
     text.push_str("\n\n");
-    for tick in ticks.iter().filter(|tick| (close..close + CLOSE).contains(&tick.seconds)) {
-        let margin = if tick.answer.margin.is_finite() { tick.answer.margin.to_string() } else { "NaN".to_string() };
-        let _ = writeln!(text, "{:.3} {margin} {}", 1000.0 * (tick.seconds - close), u8::from(tick.answer.pilot == Pilot::Fallback));
+    let end = close + CLOSE;
+    let milliseconds = |at: f64| 1000.0 * (at.clamp(close, end) - close);
+    for tick in ticks.iter().filter(|tick| (close..end).contains(&tick.seconds)) {
+        let margin = if tick.answer.margin.is_finite() { tick.answer.margin } else { f32::NAN };
+        let _ = writeln!(text, "{:.3} {margin:e} {}", milliseconds(tick.seconds), Flew::of(tick) as u8);
+    }
+    text.push_str("\n\n");
+    for (from, to, flew) in strip(ticks, 1).into_iter().filter(|(from, to, _)| *from < end && *to > close) {
+        let _ = writeln!(text, "{:.3} {:.3} {}", milliseconds(from), milliseconds(to), flew as u8);
     }
     text
 }
 
-/// Stretches of the strip: from, to, and who flew. A bit of the strip in which control changed hands there and back is nobody's.
-fn strip(ticks: &Ticks) -> Vec<(f64, f64, Flew)> {
-    let (per_bit, mut before) = (per_bit(ticks), Pilot::Fallback);
-    let mut stretches: Vec<(f64, f64, Flew)> = Vec::new();
-    let mut bits = ticks.chunks(per_bit).peekable();
-    while let Some(bit) = bits.next() {
+/// What is painted of the strip, by bits of so many ticks: from, to, and who flew. A bit in which control changed hands there and back is nobody's,
+/// and a pause is in none.
+fn strip(ticks: &Ticks, per_bit: usize) -> Vec<(f64, f64, Flew)> {
+    let (mut painted, mut before) = (Vec::<(f64, f64, Flew)>::new(), None);
+    for bit in ticks.stretches().flat_map(|stretch| stretch.chunks(per_bit)) {
         let (Some(first), Some(last)) = (bit.first(), bit.last()) else { continue };
-        let changes = bit.iter().filter(|tick| std::mem::replace(&mut before, tick.answer.pilot) != tick.answer.pilot).count();
+        let changes = bit.iter().filter(|tick| before.replace(tick.answer.pilot).is_some_and(|before| before != tick.answer.pilot)).count();
         let fallback = bit.iter().filter(|tick| tick.answer.pilot == Pilot::Fallback).count();
         let flew = match changes {
             0 | 1 if 2 * fallback > bit.len() => Flew::Fallback,
             0 | 1 => Flew::Planner,
             _ => Flew::Both,
         };
-        let end = bits.peek().and_then(|next| next.first()).map_or(last.seconds, |next| next.seconds);
-        match stretches.last_mut() {
-            Some(stretch) if stretch.2 == flew => stretch.1 = end,
-            _ => stretches.push((first.seconds, end, flew)),
+        match painted.last_mut() {
+            Some(piece) if piece.2 == flew && piece.1 == first.seconds => piece.1 = last.until,
+            _ => painted.push((first.seconds, last.until, flew)),
         }
     }
-    stretches
+    painted
 }
 
 #[derive(Clone, Copy, PartialEq, Eq)]
@@ -169,6 +187,15 @@ enum Flew {
     Planner,
     Fallback,
     Both,
+}
+
+impl Flew {
+    fn of(tick: &Tick) -> Self {
+        match tick.answer.pilot {
+            Pilot::Planner => Flew::Planner,
+            Pilot::Fallback => Flew::Fallback,
+        }
+    }
 }
 
 /// The ticks of a bit of the strip.
@@ -192,5 +219,85 @@ fn draw(settings: &str, terminal: &str) -> Result<(), String> {
     match done.status.success() {
         true => Ok(()),
         false => Err(format!("gnuplot could not make the {terminal}: {}", String::from_utf8_lossy(&done.stderr).trim())),
+    }
+}
+
+#[cfg(test)]
+mod tests {
+    use super::*;
+    use crate::flight::{Flight, Rule};
+    use crate::scenario::Scenario;
+
+    fn flown(scenario: &str) -> Ticks {
+        let scenario = Scenario::read(scenario.as_bytes()).expect("it is a scenario");
+        Flight::of(&scenario.set_up, Rule::Shield, None, &scenario.inputs).expect("no set-up is refused").ticks
+    }
+
+    /// The blocks that gnuplot gets, number by number: the margin, the strip, the close-up's ticks and its strip.
+    fn blocks(ticks: &Ticks) -> [Vec<Vec<f64>>; 4] {
+        let text = points(ticks, close_up(ticks));
+        let numbers = |line: &str| line.split(' ').map(|word| word.parse().expect("a number")).collect();
+        let blocks: Vec<_> = text.split("\n\n\n").map(|block| block.lines().map(numbers).collect()).collect();
+        blocks.try_into().expect("four blocks")
+    }
+
+    fn near(rows: &[Vec<f64>], expected: &[[f64; 3]]) {
+        let row = |(row, expected): (&Vec<f64>, &[f64; 3])| row.iter().zip(expected).all(|(a, b)| (a - b).abs() < 1e-5);
+        assert!(rows.len() == expected.len() && rows.iter().zip(expected).all(row), "{rows:?}\nis not {expected:?}");
+    }
+
+    const PLANNER: f64 = 0.0;
+    const FALLBACK: f64 = 1.0;
+    const BOTH: f64 = 2.0;
+
+    /// A tick is painted until the next one, a tenth of a second at most, and the last as long as its own step: pauses and ends stay blank.
+    #[test]
+    fn what_was_recorded_is_painted_and_nothing_else() {
+        let ticks = flown("enter 0.2\nexit 0.4\ntick 100\ngyro 3 0 0\ntick 100\ndt 0.6\ntick 1\ndt 0.02\ntick 10\ngyro 0 0 0\ntick 5\n");
+        let [margin, strip, close, close_strip] = blocks(&ticks);
+        near(&strip, &[[0.0, 0.1, PLANNER], [0.1, 0.299, FALLBACK], [0.799, 1.019, FALLBACK], [1.019, 1.119, PLANNER]]);
+        // the close-up is about the last change
+        near(&close_strip, &[[0.0, 50.0, FALLBACK], [50.0, 100.0, PLANNER]]);
+        let at: Vec<[f64; 2]> = close.iter().map(|tick| [tick[0], tick[2]]).collect();
+        assert_eq!(at, [[10.0, FALLBACK], [30.0, FALLBACK], [50.0, PLANNER], [70.0, PLANNER], [90.0, PLANNER]]);
+        // the line too has a gap at the pause
+        let gaps: Vec<usize> = (0..margin.len()).filter(|at| margin[*at][0].is_nan()).collect();
+        let [first, last] = gaps[..] else { panic!("{gaps:?}") };
+        assert!((margin[first - 1][0] - 0.299).abs() < 1e-5 && (margin[first + 1][0] - 0.799).abs() < 1e-5 && last == margin.len() - 1);
+    }
+
+    #[test]
+    fn a_flight_without_a_margin() {
+        let [margin, strip, close, close_strip] = blocks(&flown("yaw nan\ntick 50\n"));
+        near(&strip, &[[0.0, 0.05, FALLBACK]]);
+        near(&close_strip, &[[0.0, 50.0, FALLBACK]]);
+        assert_eq!(close.len(), 50);
+        assert!(margin.iter().all(|point| point[1].is_nan()) && close.iter().all(|tick| tick[1].is_nan() && tick[2] == FALLBACK));
+    }
+
+    #[test]
+    fn one_tick() {
+        let [_, strip, close, close_strip] = blocks(&flown("tick 1\n"));
+        near(&strip, &[[0.0, 0.001, PLANNER]]);
+        near(&close_strip, &[[0.0, 1.0, PLANNER]]);
+        assert_eq!(close.len(), 1);
+    }
+
+    /// Long flights are painted by bits of several ticks: all of the flight, and no more.
+    #[test]
+    fn by_bits() {
+        let ticks = flown(&("enter 0.2\nexit 0.4\ntick 3200\n".to_string() + &"gyro 3 0 0\ntick 2\ngyro 0 0 0\ntick 2\n".repeat(400)));
+        let [_, strip, _, _] = blocks(&ticks);
+        near(&strip, &[[0.0, 3.2, PLANNER], [3.2, 4.8, BOTH]]);
+    }
+
+    /// What the first tick decides is no change of hands, and the words fit the number.
+    #[test]
+    fn changes_of_hands() {
+        let said = |scenario: &str| hands(flown(scenario).changes().len());
+        assert_eq!(said("tick 9\n"), "control never changed hands");
+        assert_eq!(said("yaw nan\ntick 9\n"), "control never changed hands");
+        assert_eq!(said("yaw nan\ntick 9\nyaw 0\ntick 9\n"), "control changed hands once");
+        assert_eq!(said("tick 9\nyaw nan\ntick 9\nyaw 0\ntick 9\n"), "control changed hands 2 times");
     }
 }

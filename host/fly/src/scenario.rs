@@ -11,9 +11,9 @@
 //!
 //! Lines `leg` with nineteen numbers, before the first tick, make a route that is flown in place of the segment.
 //!
-//! A number is a decimal, `nan`, `inf`, `-inf`, or `0x` and the bits.
+//! A number is a decimal, `nan`, `inf`, `-inf`, or `0x` and the bits. docs/FLYING.md has all of it.
 
-use fosavalo::{Leg, Route, SetUp, TickInput, LEG_BYTES, SETUP_BYTES, TICK_BYTES};
+use fosavalo::{Leg, Refusal, Route, SetUp, TickInput, LEG_BYTES, SETUP_BYTES, TICK_BYTES};
 use std::fmt;
 
 pub const MOST_TICKS: usize = 1_000_000;
@@ -74,9 +74,9 @@ const SET_UP: [Field; 23] = [
     ("adrc_yaw", 44, 4),
     ("fc", 48, 1),
     ("fs", 49, 1),
-    // all at once, for a set-up that another program wrote
-    ("set_up", 0, 50),
+    // several at once, for a set-up that another program wrote
     ("adrc", 36, 12),
+    ("set_up", 0, 50),
 ];
 
 /// And of a tick.
@@ -116,9 +116,7 @@ impl Scenario {
         }
         let set_up = SetUp::from_bytes(&bytes_of::<SETUP_BYTES>(&reader.set_up));
         let set_up = set_up.map_err(|refusal| Mistake { line: 0, field: "set-up".to_string(), what: refusal.to_string() })?;
-        let route = (!reader.legs.is_empty()).then(|| Route::new(&reader.legs)).transpose();
-        let route = route.map_err(|refusal| Mistake { line: 0, field: "leg".to_string(), what: refusal.to_string() })?;
-        Ok(Scenario { set_up, route, inputs: reader.inputs })
+        Ok(Scenario { set_up, route: reader.route()?, inputs: reader.inputs })
     }
 }
 
@@ -127,6 +125,8 @@ struct Reader {
     /// The line at which each word of the set-up was given.
     given: Vec<usize>,
     legs: Vec<Leg>,
+    /// The line of each leg.
+    leg_lines: Vec<usize>,
     input: Vec<f32>,
     inputs: Vec<TickInput>,
 }
@@ -144,6 +144,7 @@ impl Reader {
             set_up: floats(&SetUp::falcon_quad().to_bytes()),
             given: vec![0; SETUP_BYTES / 4],
             legs: Vec::new(),
+            leg_lines: Vec::new(),
             input: floats(&TickInput::default().to_bytes()),
             inputs: Vec::new(),
         }
@@ -160,7 +161,7 @@ impl Reader {
         }
         match name {
             "tick" => self.ticks(rest),
-            "leg" => self.leg(rest),
+            "leg" => self.leg(line, rest),
             "row" => {
                 let field = ("row", 0, TICK_BYTES / 4);
                 let numbers = numbers(field, rest)?;
@@ -185,7 +186,7 @@ impl Reader {
         Ok(())
     }
 
-    fn leg(&mut self, rest: &[&str]) -> Result<(), Wrong> {
+    fn leg(&mut self, line: usize, rest: &[&str]) -> Result<(), Wrong> {
         if !self.inputs.is_empty() {
             return wrong("leg", "stands before the first tick");
         }
@@ -193,7 +194,19 @@ impl Reader {
         let three = |at: usize| std::array::from_fn(|k| n.get(at + k).copied().unwrap_or(0.0));
         let t = n.last().copied().unwrap_or(0.0);
         self.legs.push(Leg { p0: three(0), v0: three(3), a0: three(6), pf: three(9), vf: three(12), af: three(15), t });
+        self.leg_lines.push(line);
         Ok(())
+    }
+
+    /// The route of all legs, if there are any; a mistake is the first leg's with which they are no route.
+    fn route(&self) -> Result<Option<Route>, Mistake> {
+        let mut route = None;
+        for (line, count) in self.leg_lines.iter().zip(1..) {
+            let made = Route::new(self.legs.get(..count).unwrap_or_default());
+            let mistake = |refusal: Refusal| Mistake { line: *line, field: format!("leg {count}"), what: refusal.to_string() };
+            route = Some(made.map_err(mistake)?);
+        }
+        Ok(route)
     }
 
     /// `tick N`, and fields that go evenly to the numbers that follow.
@@ -244,6 +257,11 @@ impl Reader {
 
 fn names() -> String {
     SET_UP.iter().chain(&INPUT).map(|field| field.0).collect::<Vec<_>>().join(", ")
+}
+
+/// The fields of a set-up and of an input, each with how many numbers it takes.
+pub fn fields() -> [Vec<(&'static str, usize)>; 2] {
+    [&SET_UP[..], &INPUT].map(|fields| fields.iter().map(|(name, _, count)| (*name, *count)).collect())
 }
 
 /// As many numbers as the field has words.

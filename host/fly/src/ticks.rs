@@ -4,9 +4,14 @@ use crate::vector::{norm, sub};
 use fosavalo::{Answer, LogView, Pilot, TickInput};
 use std::ops::Deref;
 
+/// As long as a tick holds at most, s: the longest step that the rate controller takes. What comes later is a pause, in which nobody was asked.
+const HOLDS: f64 = 0.1;
+
 pub struct Tick {
     /// Since the start.
     pub seconds: f64,
+    /// When the next tick came or it held no longer; of the last one, as long after it as its own step.
+    pub until: f64,
     pub input: TickInput,
     pub answer: Answer,
 }
@@ -31,17 +36,25 @@ impl Ticks {
     }
 
     pub fn push(&mut self, input: TickInput, answer: Answer) {
-        // the step that the rate controller takes: a dt that is no use counts as a millisecond there
-        let step = if input.dt.is_finite() { f64::from(input.dt).clamp(1e-4, 0.1) } else { 1e-3 };
-        let seconds = self.last().map_or(0.0, |last| last.seconds + step);
-        self.0.push(Tick { seconds, input, answer });
+        // as it was given, so that a pause is seen; a dt that tells no time counts as a millisecond
+        let step = if input.dt.is_finite() && input.dt > 0.0 { f64::from(input.dt) } else { 1e-3 };
+        let seconds = self.0.last_mut().map_or(0.0, |last| {
+            let now = last.seconds + step;
+            last.until = now.min(last.seconds + HOLDS);
+            now
+        });
+        self.0.push(Tick { seconds, until: seconds + step.min(HOLDS), input, answer });
     }
 
-    /// The ticks, counted from 0, at which control changed hands; the first tick has the fallback before it.
+    /// Ticks between which there is no pause.
+    pub fn stretches(&self) -> impl Iterator<Item = &[Tick]> {
+        self.chunk_by(|a, b| a.until == b.seconds)
+    }
+
+    /// The ticks, counted from 0, at which control changed hands: the one before was another's. Before the first nobody flew.
     pub fn changes(&self) -> Vec<usize> {
-        let mut before = Pilot::Fallback;
-        let changed = |(at, tick): (usize, &Tick)| (std::mem::replace(&mut before, tick.answer.pilot) != tick.answer.pilot).then_some(at);
-        self.iter().enumerate().filter_map(changed).collect()
+        let pairs = self.iter().zip(self.iter().skip(1)).enumerate();
+        pairs.filter(|(_, (before, now))| before.answer.pilot != now.answer.pilot).map(|(at, _)| at + 1).collect()
     }
 
     /// The stretch of so many seconds with the most changes: when it begins, and how many.
@@ -57,8 +70,14 @@ impl Ticks {
         most
     }
 
+    /// When the last tick was.
     pub fn seconds(&self) -> f64 {
         self.last().map_or(0.0, |tick| tick.seconds)
+    }
+
+    /// Until when it holds.
+    pub fn until(&self) -> f64 {
+        self.last().map_or(0.0, |tick| tick.until)
     }
 
     /// The part of the ticks that the planner flew.

@@ -21,10 +21,11 @@ fn flown(scenario: &[u8]) -> Flight {
     Flight::of(&scenario.set_up, Rule::Shield, scenario.route.clone(), &scenario.inputs).expect("no set-up is refused")
 }
 
-fn flights() -> [Flight; 4] {
+fn flights() -> [Flight; 5] {
     [
         flown(include_bytes!("../scenarios/band.txt")),
         flown(include_bytes!("../scenarios/headings.txt")),
+        flown(include_bytes!("../scenarios/clock.txt")),
         flown(include_bytes!("../scenarios/route.txt")),
         pass::fly(&pass::SHOWN, pass::DRAWN, Rule::Earlier).expect("no pass is refused"),
     ]
@@ -126,9 +127,9 @@ fn the_command_refuses_what_is_no_log() {
     }
     for (arguments, what) in [
         (&["missing.log"][..], "log: missing.log: "),
-        (&[], "log: which log?\n"),
-        (&["a", "b"], "log: one log at a time\n"),
-        (&["--other"], "log: `--other` is no option\n"),
+        (&[], "log: which log?"),
+        (&["a", "b"], "log: one log at a time"),
+        (&["--other"], "log: `--other` is no option"),
         (&["bad.log", "--enter", "1"], "log: --enter and --exit go together\n"),
         (&["bad.log", "--exit", "one"], "log: --exit: `one` is no number\n"),
     ] {

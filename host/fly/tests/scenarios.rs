@@ -1,7 +1,7 @@
 //! Scenarios: what is read, and what is said of a bad one.
 
 use fly::flight::{Flight, Rule};
-use fly::scenario::{Scenario, MOST_TICKS};
+use fly::scenario::{fields, Scenario, MOST_TICKS};
 use fosavalo::Pilot;
 
 fn mistake(text: &str) -> String {
@@ -53,11 +53,9 @@ fn legs() {
         |scenario: &Scenario| Flight::of(&scenario.set_up, Rule::Shield, scenario.route.clone(), &scenario.inputs).expect("it is flown");
     let psi = |scenario: &Scenario| fly(scenario).ticks.iter().map(|tick| tick.answer.psi).fold(0.0, f32::max);
     assert!(psi(&two) > 0.1 && psi(&scenario("")) == 0.0);
-    assert_eq!(
-        mistake(&(leg("0", "1") + &leg("2", "0") + "tick 1")),
-        "leg: refused (7): leg 2 of the route does not start where leg 1 ends"
-    );
-    assert_eq!(mistake(&(leg("0", "0").repeat(9) + "tick 1")), "leg: refused (5): a route has 1 to 8 legs");
+    let apart = leg("0", "1") + "\n# and\n" + &leg("1", "0") + &leg("2", "0") + &leg("3", "0") + "tick 1";
+    assert!(mistake(&apart).starts_with("line 5: leg 3: refused (7): "), "{}", mistake(&apart));
+    assert!(mistake(&(leg("0", "0").repeat(10) + "tick 1")).starts_with("line 9: leg 9: refused (5): "));
     assert_eq!(mistake("leg 1 2 3\ntick 1"), "line 1: leg: takes 19 numbers, here are 3");
     assert_eq!(mistake(&("tick 1\n".to_string() + &leg("0", "0"))), "line 2: leg: stands before the first tick");
 }
@@ -77,6 +75,26 @@ fn what_is_read() {
         ([1.0, 2.0, 3.0], [4.0, 5.0, 6.0, 7.0], 11.0, [12.0, 13.0, 14.0], [15.0, 16.0, 17.0])
     );
     assert_eq!(inputs.len(), 7);
+}
+
+/// docs/FLYING.md has every field, with how many numbers it takes.
+#[test]
+fn the_fields_are_documented() {
+    let page = std::fs::read_to_string("../../docs/FLYING.md").expect("the page, from where cargo runs a test");
+    let (_, table) = page.split_once("| Set-up field |").expect("the table of fields");
+    let (table, _) = table.split_once("\n\n").expect("its end");
+    let mut documented = Vec::new();
+    for row in table.lines().skip(2) {
+        let cells: Vec<&str> = row.split('|').map(str::trim).collect();
+        for (names, numbers) in [(cells[1], cells[2]), (cells[4], cells[5])] {
+            let count = numbers.split(' ').next().and_then(|count| count.parse().ok());
+            documented.extend(names.split('`').skip(1).step_by(2).map(|name| (name, count)));
+        }
+    }
+    let mut fields: Vec<(&str, Option<usize>)> = fields().concat().into_iter().map(|(name, count)| (name, Some(count))).collect();
+    documented.sort();
+    fields.sort();
+    assert_eq!(documented, fields);
 }
 
 /// Any bytes, and scenarios with a byte changed: a flight or a mistake, never a panic.
@@ -115,13 +133,16 @@ fn the_examples() {
         flight
     };
     let band = include_bytes!("../scenarios/band.txt");
-    assert_eq!((pilots(band, Rule::Shield).ticks.changes().len(), pilots(band, Rule::Earlier).ticks.changes().len()), (7, 15));
+    assert_eq!((pilots(band, Rule::Shield).ticks.changes().len(), pilots(band, Rule::Earlier).ticks.changes().len()), (6, 14));
     let headings = pilots(include_bytes!("../scenarios/headings.txt"), Rule::Shield);
     let flew: Vec<Pilot> = [100, 220, 300, 380, 450, 560].iter().map(|at| headings.ticks[*at].answer.pilot).collect();
     use Pilot::{Fallback, Planner};
     assert_eq!(flew, [Planner, Fallback, Planner, Fallback, Planner, Planner]);
     assert_eq!(headings.ticks[450].answer.command.0, [0.0; 3]);
-    assert_eq!(headings.ticks.last().map(|tick| tick.answer.time), Some(f32::INFINITY));
+    let clock = pilots(include_bytes!("../scenarios/clock.txt"), Rule::Shield);
+    let time = |at: usize| clock.ticks[at].answer.time;
+    assert!(time(199) > 0.0 && time(219) == time(199));
+    assert_eq!((clock.ticks.len(), time(421)), (422, f32::INFINITY));
     // halfway along a leg it tilts, at rest past all ends it does not
     let route = pilots(include_bytes!("../scenarios/route.txt"), Rule::Shield);
     let off = |at: usize| route.ticks[at].answer.psi - route.ticks.last().map_or(0.0, |last| last.answer.psi);

@@ -1,6 +1,6 @@
 //! `log FILE`: a flight log as CSV, and its picture.
 
-use fly::output::{csv, name};
+use fly::output::{csv, name, note, print, title};
 use fly::picture::{Picture, Row};
 use fly::scenario::number;
 use fly::ticks::Ticks;
@@ -12,10 +12,17 @@ use std::process::ExitCode;
 
 const USAGE: &str = "log FILE [--enter NUMBER --exit NUMBER] [--out FOLDER]
 
-Prints the flight log in FILE (`make fly` keeps one) as CSV on standard output, a record on a line, and draws it as
-FOLDER/NAME.svg and FOLDER/NAME.png (target/drawn) where gnuplot is there. A log does not tell the shield's thresholds:
-with --enter and --exit, mended as at set-up, the picture has them and the band between them.
-Bytes that are no log are refused with the number and its meaning.";
+Prints the flight log in FILE (`make fly` keeps one) as CSV on standard output, a record on a line under a line of names, and
+draws it where gnuplot is there. Bytes that are no log are refused with the number and its meaning.
+
+  --enter NUMBER, --exit NUMBER
+                 the shield's thresholds, which a log does not tell, mended as at set-up: the picture has them and the band
+                 between them. A number is a decimal, nan, inf, -inf, or 0x and the bits
+  --out FOLDER   where the picture goes, `flights/drawn` if it is not given: NAME.svg and NAME.png, drawn from NAME.points;
+                 NAME is the log's
+  --help, -h     this
+
+Ends with 0, or with 2 and a line on standard error that says what is wrong.";
 
 fn main() -> ExitCode {
     match run(std::env::args_os().skip(1)) {
@@ -27,13 +34,8 @@ fn main() -> ExitCode {
     }
 }
 
-/// For the reader of the CSV's standard error, if there is one.
-fn note(text: &str) {
-    let _ = writeln!(io::stderr(), "{text}");
-}
-
 fn run(mut words: impl Iterator<Item = OsString>) -> Result<(), String> {
-    let (mut file, mut folder, mut enter, mut exit) = (None, PathBuf::from("target/drawn"), None, None);
+    let (mut file, mut folder, mut enter, mut exit) = (None, PathBuf::from("flights/drawn"), None, None);
     while let Some(word) = words.next() {
         let mut threshold = |option: &str| {
             let text = words.next().ok_or(format!("{option} wants a number"))?;
@@ -44,12 +46,12 @@ fn run(mut words: impl Iterator<Item = OsString>) -> Result<(), String> {
             Some("--enter") => enter = threshold("--enter")?,
             Some("--exit") => exit = threshold("--exit")?,
             Some("--out") => folder = words.next().map(PathBuf::from).ok_or("--out wants a folder")?,
-            Some(option) if option.starts_with('-') => return Err(format!("`{option}` is no option\n\n{USAGE}")),
-            _ if file.is_some() => return Err(format!("one log at a time\n\n{USAGE}")),
+            Some(option) if option.starts_with('-') => return Err(format!("`{option}` is no option (log --help)")),
+            _ if file.is_some() => return Err("one log at a time (log --help)".to_string()),
             _ => file = Some(PathBuf::from(word)),
         }
     }
-    let file = file.ok_or(format!("which log?\n\n{USAGE}"))?;
+    let file = file.ok_or("which log? as in `make log FILE=flights/pass-shield.log` (log --help)")?;
     let thresholds = match (enter, exit) {
         (Some(enter), Some(exit)) => {
             let image = Image::set_up(&SetUp { enter, exit, ..SetUp::falcon_quad() }).map_err(|refusal| refusal.to_string())?;
@@ -74,19 +76,10 @@ fn read(file: &Path) -> io::Result<Vec<u8>> {
     Ok(bytes)
 }
 
-/// To standard output. A reader that wants no more of it is no mistake.
-fn print(what: impl FnOnce(&mut io::StdoutLock) -> io::Result<()>) -> Result<(), String> {
-    match what(&mut io::stdout().lock()) {
-        Err(error) if error.kind() != io::ErrorKind::BrokenPipe => Err(format!("standard output: {error}")),
-        _ => Ok(()),
-    }
-}
-
 fn draw(file: &Path, folder: &Path, ticks: &Ticks, thresholds: Option<(f32, f32)>) -> io::Result<String> {
     std::fs::create_dir_all(folder)?;
     let name = name(file);
-    let band = thresholds.map_or(String::new(), |(enter, exit)| format!(", enter {enter}, exit {exit}"));
-    let title = format!("{name}: {:.3} s in {} ticks{band}", ticks.seconds(), ticks.len());
+    let title = title(&name, ticks, thresholds);
     let row = Row { suffix: "", caption: "As the log has it", ticks };
     Picture { title: &title, thresholds, rows: &[row] }.draw(&folder.join(&name))
 }

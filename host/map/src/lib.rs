@@ -279,7 +279,7 @@ fn page() -> Result<String, String> {
          what tests it. A promise names a definition, whose file stands behind it; it is proved for every argument (`b′` is what a lent `b` holds\n\
          afterwards). `make map` writes this page from the sources, and the gate sees that it is current.\n\n\
          **Tests.** *Rows* is the routine's row in the host's comparison with the Rust: a million cases in the gate, as many as you like with\n\
-         `make routines ROWS=n`. *Figures* are tests of document 01's worked figures and of edges, in\n\
+         `make routines ROWS=n`. *Figures* are tests of [document 01's worked figures](REQUEST.md#worked-figures) and of edges, in\n\
          [host/compare/tests/figures.rs](../host/compare/tests/figures.rs). *Wrong* counts the versions that look right and are not, of which\n\
          the comparison has to catch each ([wrong.rs](../host/compare/src/table/wrong.rs)).\n",
     );
@@ -328,7 +328,7 @@ fn page() -> Result<String, String> {
     let _ = write!(
         page,
         "\n## Added: set-up and the joint tick\n\n\
-         Document 01 is their original, of `route` document 02. They are run against the Rust's calls made in its order, and the third demand\n\
+         [Document 01](REQUEST.md#the-joint-tick) is their original, of `route` [document 02](REQUEST.md#the-fourteen-requests). They are run against the Rust's calls made in its order, and the third demand\n\
          is checked by looking back over the margins: {}, {} (`make ticks TICKS=n` for as many as you like).\n\n\
          | Routine | Ours | Promise | What |\n|---|---|---|---|\n",
         link("host/compare/tests/joint.rs", "host/compare/tests/joint.rs"),

@@ -12,7 +12,7 @@ const EXCEPTIONS: [(&str, &str, &str); 7] = [
     (
         "relay_geo::lent::SimplexShield::step_lent",
         "step-lent-once",
-        "The state is lent, and such a function is proved by a walk of our own: the toolchain makes no `Reads.Post` of its contract. \
+        "The state is lent, and such a function is proved by hand: the toolchain makes no `Reads.Post` of its contract. \
          The theorem is `OneAnswer` of the promise written out, and `step-lent-says` that the function's own clause is that promise.",
     ),
     ("relay_traj::lent::RefGovernor::advance_lent", "advance-lent-once", "The same, with `advance-lent-says`."),

@@ -59,6 +59,7 @@ impl SetUp {
     }
 
     /// What the core mends of this set-up: what was given, what is kept, and why. A filter that passes everything is told as a cut-off of 0.
+    /// A coefficient of the segment that overflows, which becomes 0, is no number of a set-up and not told.
     ///
     /// ```
     /// use fosavalo::{Image, SetUp};

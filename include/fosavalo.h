@@ -8,6 +8,9 @@
 #include <stddef.h>
 #include <stdint.h>
 #include <string.h>
+#if defined(__SSE__) && defined(__FLT_EVAL_METHOD__) && __FLT_EVAL_METHOD__ != 0
+#include <xmmintrin.h>
+#endif
 
 #ifdef __cplusplus
 extern "C" {
@@ -48,14 +51,23 @@ static inline uint32_t fosavalo_bits(float x) {
     return bits;
 }
 
+/* The sum of two floats, by bits; where the program's own floats are another unit's (gcc's -mfpmath=387), on the one that the calls compute on. */
+static inline uint32_t fosavalo_sum(uint32_t a, uint32_t b) {
+    float x = fosavalo_hidden(a), y = fosavalo_hidden(b);
+#if defined(__SSE__) && defined(__FLT_EVAL_METHOD__) && __FLT_EVAL_METHOD__ != 0
+    return fosavalo_bits(_mm_cvtss_f32(_mm_add_ss(_mm_set_ss(x), _mm_set_ss(y))));
+#else
+    return fosavalo_bits(x + y);
+#endif
+}
+
 /* FOSAVALO_FLOATS_RIGHT, or what is wrong, added up; on this thread, now. Found by computing, and compared as bits, so that it tells the truth
- * under -ffast-math too. (With gcc's -mfpmath=387 it would ask another unit than the one that the calls compute on.) */
+ * under -ffast-math too. */
 static inline uint32_t fosavalo_float_environment(void) {
     /* 1 and half a unit of its last place, 1 and one and a half: midway between two floats, of which the even ones are 1 and 1 and two units */
-    uint32_t down = fosavalo_bits(fosavalo_hidden(0x3f800000u) + fosavalo_hidden(0x33800000u));
-    uint32_t up = fosavalo_bits(fosavalo_hidden(0x3f800000u) + fosavalo_hidden(0x34400000u));
+    uint32_t down = fosavalo_sum(0x3f800000u, 0x33800000u), up = fosavalo_sum(0x3f800000u, 0x34400000u);
     /* both operands and the result are subnormal; a sum, since processors take long over a product with them */
-    uint32_t subnormal = fosavalo_bits(fosavalo_hidden(0x00000001u) + fosavalo_hidden(0x00000001u));
+    uint32_t subnormal = fosavalo_sum(0x00000001u, 0x00000001u);
     return (down == 0x3f800000u && up == 0x3f800002u ? 0u : FOSAVALO_ROUNDING_WRONG) + (subnormal == 0x00000002u ? 0u : FOSAVALO_SUBNORMALS_WRONG);
 }
 

@@ -87,6 +87,11 @@ fn the_environment() {
             assert_eq!(run(&[level, "-ffast-math"], &[]), right, "{compiler} {level}");
             assert_eq!(run(&[level, "-ffast-math"], &["-ffast-math"]), wrong, "{compiler} {level}");
             assert_eq!(run(&[level], &["-ffast-math"]), wrong, "{compiler} {level}");
+            // gcc can have the program's own floats on another unit than the core's
+            if compiler.starts_with('g') {
+                assert_eq!(run(&[level, "-mfpmath=387"], &[]), right, "{compiler} {level}");
+                assert_eq!(run(&[level, "-mfpmath=387", "-ffast-math"], &["-ffast-math"]), wrong, "{compiler} {level}");
+            }
         }
     }
 }

@@ -275,6 +275,16 @@ mod tests {
         assert!(margin.iter().all(|point| point[1].is_nan()) && close.iter().all(|tick| tick[1].is_nan() && tick[2] == FALLBACK));
     }
 
+    /// The longest step that is no pause, and the shortest that is one.
+    #[test]
+    fn steps_of_a_tenth() {
+        let [margin, strip, _, _] = blocks(&flown("dt 0.1\ntick 5\n"));
+        near(&strip, &[[0.0, 0.5, PLANNER]]);
+        assert_eq!(margin.iter().filter(|point| point[0].is_nan()).count(), 1);
+        let [_, strip, _, _] = blocks(&flown(&format!("dt {}\ntick 2\n", 0.1f32.next_up())));
+        assert_eq!(strip.len(), 2);
+    }
+
     #[test]
     fn one_tick() {
         let [_, strip, close, close_strip] = blocks(&flown("tick 1\n"));

@@ -4,8 +4,9 @@ use crate::vector::{norm, sub};
 use fosavalo::{Answer, LogView, Pilot, TickInput};
 use std::ops::Deref;
 
-/// As long as a tick holds at most, s: the longest step that the rate controller takes. What comes later is a pause, in which nobody was asked.
-const HOLDS: f64 = 0.1;
+/// As long as a tick holds at most, s: the longest step that the rate controller takes, in f32. What comes later is a pause, in which nobody
+/// was asked.
+const HOLDS: f64 = 0.1f32 as f64;
 
 pub struct Tick {
     /// Since the start.

@@ -10,7 +10,12 @@ use std::io::{self, Read, Write};
 use std::path::{Path, PathBuf};
 use std::process::ExitCode;
 
-const USAGE: &str = "log FILE [--enter NUMBER --exit NUMBER] [--out FOLDER]
+const FOLDER: &str = "flights/drawn";
+
+/// What `--help` says.
+fn usage() -> String {
+    format!(
+        "log FILE [--enter NUMBER --exit NUMBER] [--out FOLDER]
 
 Prints the flight log in FILE (`make fly` keeps one) as CSV on standard output, a record on a line under a line of names, and
 draws it where gnuplot is there. Bytes that are no log are refused with the number and its meaning.
@@ -18,11 +23,13 @@ draws it where gnuplot is there. Bytes that are no log are refused with the numb
   --enter NUMBER, --exit NUMBER
                  the shield's thresholds, which a log does not tell, mended as at set-up: the picture has them and the band
                  between them. A number is a decimal, nan, inf, -inf, or 0x and the bits
-  --out FOLDER   where the picture goes, `flights/drawn` if it is not given: NAME.svg and NAME.png, drawn from NAME.points;
+  --out FOLDER   where the picture goes, `{FOLDER}` if it is not given: NAME.svg and NAME.png, drawn from NAME.points;
                  NAME is the log's
   --help, -h     this
 
-Ends with 0, or with 2 and a line on standard error that says what is wrong.";
+Ends with 0, or with 2 and a line on standard error that says what is wrong."
+    )
+}
 
 fn main() -> ExitCode {
     match run(std::env::args_os().skip(1)) {
@@ -35,14 +42,14 @@ fn main() -> ExitCode {
 }
 
 fn run(mut words: impl Iterator<Item = OsString>) -> Result<(), String> {
-    let (mut file, mut folder, mut enter, mut exit) = (None, PathBuf::from("flights/drawn"), None, None);
+    let (mut file, mut folder, mut enter, mut exit) = (None, PathBuf::from(FOLDER), None, None);
     while let Some(word) = words.next() {
         let mut threshold = |option: &str| {
             let text = words.next().ok_or(format!("{option} wants a number"))?;
             number(&text.to_string_lossy()).map(Some).map_err(|what| format!("{option}: {what}"))
         };
         match word.to_str() {
-            Some("--help" | "-h") => return print(|to| writeln!(to, "{USAGE}")),
+            Some("--help" | "-h") => return print(|to| writeln!(to, "{}", usage())),
             Some("--enter") => enter = threshold("--enter")?,
             Some("--exit") => exit = threshold("--exit")?,
             Some("--out") => folder = words.next().map(PathBuf::from).ok_or("--out wants a folder")?,

@@ -16,13 +16,21 @@
 extern "C" {
 #endif
 
-/* The version of this header. fosavalo_header_fits, below, asks the archive whether it goes with it. */
+/* The version of this header; fosavalo_version() is the archive's. The second number is that of the last change request which both have: a request may
+ * change what a word means and leave every length. */
 #define FOSAVALO_VERSION_MAJOR 0
-#define FOSAVALO_VERSION_MINOR 1
+#define FOSAVALO_VERSION_MINOR 3
 #define FOSAVALO_VERSION_PATCH 0
+#define FOSAVALO_VERSION_NUMBER ((FOSAVALO_VERSION_MAJOR << 16) + (FOSAVALO_VERSION_MINOR << 8) + FOSAVALO_VERSION_PATCH)
 #define FOSAVALO_VERSION FOSAVALO_TEXT(FOSAVALO_VERSION_MAJOR) "." FOSAVALO_TEXT(FOSAVALO_VERSION_MINOR) "." FOSAVALO_TEXT(FOSAVALO_VERSION_PATCH)
 #define FOSAVALO_TEXT(number) FOSAVALO_TEXT_AS_IT_IS(number)
 #define FOSAVALO_TEXT_AS_IT_IS(number) #number
+
+/* The archive's version, as FOSAVALO_VERSION_NUMBER. */
+uint32_t fosavalo_version(void);
+
+/* Whether the archive is of this header's version: 1, or 0 where words or lengths may differ. To be asked once, at the start. */
+static inline int fosavalo_header_fits(void) { return fosavalo_version() == FOSAVALO_VERSION_NUMBER; }
 
 /* The floating-point environment. Every call computes in that of the thread which makes it, and what is proved holds where it rounds to
  * nearest, keeps subnormal numbers as operands and as results, and traps no exception. A thread that nobody told otherwise has it so. It has not
@@ -250,15 +258,6 @@ uint32_t fosavalo_tick(uint8_t *image, size_t image_len, const uint8_t *input, s
 /* What a tick on this image, with an input and an answer of these lengths, would return: 0 to 4, by the lengths and the image alone.
  * Nothing is changed. For a caller that has a state of its own to keep in step. */
 uint32_t fosavalo_tick_refusal(const uint8_t *image, size_t image_len, size_t input_len, size_t answer_len);
-
-/* Whether the archive takes this header's lengths: 1, or 0 where it is of a version with other buffers. To be asked once, at the start. */
-static inline int fosavalo_header_fits(void) {
-    uint8_t image[FOSAVALO_IMAGE_BYTES] = {0}, input[FOSAVALO_SETUP_BYTES] = {0};
-    uint32_t setup = fosavalo_setup(image, sizeof image, input, sizeof input);
-    uint32_t tick = fosavalo_tick_refusal(image, sizeof image, FOSAVALO_TICK_BYTES, FOSAVALO_ANSWER_BYTES);
-    return setup != FOSAVALO_WRONG_IMAGE_LENGTH && setup != FOSAVALO_WRONG_INPUT_LENGTH &&
-           (tick == FOSAVALO_DONE || tick >= FOSAVALO_BROKEN_IMAGE);
-}
 
 /* One tick toward a route in place of the image's segment, which is not looked at and kept; image, input and answer are those of a tick.
  * Plain ticks and route ticks may follow each other in any order; the governor's time runs on over both.

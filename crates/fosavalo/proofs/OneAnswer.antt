@@ -4,6 +4,7 @@ use mathlib.Core.List.{List}
 use Prim.Native.Nat.{ℕ}
 use Rattle.outcome.specs.Outcomes.{Left, Lent}
 use Rattle.laws.proofs.Determined.{OneAnswer, no-second, both}
+use Rattle.fosavalo.proofs.fosavalo_version
 use Rattle.fosavalo.proofs.fosavalo_sinf
 use Rattle.fosavalo.proofs.fosavalo_cosf
 use Rattle.fosavalo.proofs.fosavalo_setup
@@ -13,6 +14,9 @@ use Rattle.fosavalo.proofs.fosavalo_route_tick
 use Rattle.fosavalo.proofs.fosavalo_log_append
 use Rattle.fosavalo.proofs.fosavalo_log_count
 use Rattle.fosavalo.proofs.fosavalo_log_record
+
+pub fosavalo-version-once : OneAnswer fosavalo_version.ended fosavalo_version.Reads.Post
+fosavalo-version-once κs a x y v w p q = (no-second p q, refl)
 
 pub fosavalo-sinf-once : OneAnswer fosavalo_sinf.ended fosavalo_sinf.Reads.Post
 fosavalo-sinf-once κs a x y v w p q = (no-second (p .1) (q .1), refl)

@@ -23,6 +23,7 @@ pub(crate) fn hidden(x: f32) -> f32 {
 
 mod raw {
     extern "C" {
+        pub fn fosavalo_version() -> u32;
         pub fn fosavalo_sinf(x: f32) -> f32;
         pub fn fosavalo_cosf(x: f32) -> f32;
         pub fn fosavalo_setup(image: *mut u8, image_len: usize, input: *const u8, input_len: usize) -> u32;
@@ -57,6 +58,18 @@ mod raw {
         pub fn fosavalo_log_count(log: *const u8, log_len: usize, count: *mut u8, count_len: usize) -> u32;
         pub fn fosavalo_log_record(log: *const u8, log_len: usize, place: u64, record: *mut u8, record_len: usize) -> u32;
     }
+}
+
+/// The archive's version: 65536 times its first number, 256 times its second, and its third. The crate's own is of the same form.
+///
+/// ```
+/// let own = env!("CARGO_PKG_VERSION").split('.').fold(0, |all, part| 256 * all + part.parse::<u32>().unwrap());
+/// assert_eq!(fosavalo::calls::version(), own);
+/// ```
+#[inline]
+pub fn version() -> u32 {
+    // SAFETY: a number out; the function is proved total.
+    unsafe { raw::fosavalo_version() }
 }
 
 /// The sine of x, in radians: within 2⁻²² of the exact value up to 128 in size, +0.0 beyond it and for what is no number.

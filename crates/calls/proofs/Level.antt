@@ -7,7 +7,7 @@ use Rattle.relay_math.specs.F32.{0·0, 0·5, 1·0, 1·75, isFinite, grains}
 use Rattle.relay_math.specs.Sqrt.{sqrtf}
 use Rattle.relay_math.specs.declared.Vec3.{Vec3}
 use Rattle.relay_geo.specs.declared.attitude.Attitude.the-variants.{Matrix}
-use Rattle.relay_geo.specs.declared.vectors.Unit.the-variants.{Axis}
+use Rattle.relay_geo.specs.declared.vectors.Direction.the-variants.{Axis}
 use Rattle.relay_geo.specs.Vectors.{9·81, dot, normalize, identity3, prod3}
 use Rattle.relay_geo.specs.Attitude.{quatToRotmat, thrustForce, thrustAxisNed, thrustAttitude}
 use Rattle.relay_geo.specs.Controller.{psi}

@@ -2,8 +2,8 @@
 use mathlib.Core.Bool.{true, false}
 use Rattle.relay_math.specs.F32.{0·0}
 use Rattle.relay_math.specs.declared.Vec3.{Vec3}
-use Rattle.relay_geo.specs.declared.vectors.Unit.{Unit}
-use Rattle.relay_geo.specs.declared.vectors.Unit.the-variants as unit
+use Rattle.relay_geo.specs.declared.vectors.Direction.{Direction}
+use Rattle.relay_geo.specs.declared.vectors.Direction.the-variants as direction
 use Rattle.relay_geo.specs.declared.attitude.Attitude.{Attitude}
 use Rattle.relay_geo.specs.declared.attitude.Attitude.the-variants as attitude
 use Rattle.relay_geo.specs.declared.attitude.Feedforward.{Feedforward}
@@ -15,9 +15,9 @@ use Rattle.probe.specs.declared.geo.RateAnswer.{RateAnswer}
 abbrev pub zero : Vec3
 zero = (0·0, 0·0, 0·0)
 
-abbrev pub axisAnswer : Unit → AxisAnswer
-axisAnswer (unit.Axis v) = record { given = true; axis = v }
-axisAnswer unit.Refused = record { given = false; axis = zero }
+abbrev pub axisAnswer : Direction → AxisAnswer
+axisAnswer (direction.Axis v) = record { given = true; axis = v }
+axisAnswer direction.Refused = record { given = false; axis = zero }
 
 abbrev pub attitudeAnswer : Attitude → AttitudeAnswer
 attitudeAnswer (attitude.Matrix m) = record { given = true; matrix = m }

@@ -1,5 +1,6 @@
 // relay_geo.
 use relay_geo::Attitude;
+use relay_geo::Direction;
 use relay_geo::Feedforward;
 use relay_geo::GeoAtt;
 use relay_geo::GeoGains;
@@ -8,7 +9,6 @@ use relay_geo::Quat;
 use relay_geo::RecoverableSet;
 use relay_geo::Shielded;
 use relay_geo::SimplexShield;
-use relay_geo::Unit;
 use relay_math::BodyRate;
 use relay_math::Torque;
 use relay_math::Vec3;
@@ -41,15 +41,15 @@ pub struct RateAnswer {
     pub rate: BodyRate,
 }
 
-fn axis_answer(u: Unit) -> AxisAnswer
-    ensures { λ r. ⌜ r ≡ axisAnswer u ⌝ }
+fn axis_answer(d: Direction) -> AxisAnswer
+    ensures { λ r. ⌜ r ≡ axisAnswer d ⌝ }
 {
-    match u {
-        Unit::Axis(v) => AxisAnswer {
+    match d {
+        Direction::Axis(v) => AxisAnswer {
             given: true,
             axis: v,
         },
-        Unit::Refused => AxisAnswer {
+        Direction::Refused => AxisAnswer {
             given: false,
             axis: Vec3(0.0, 0.0, 0.0),
         },

@@ -7,7 +7,7 @@ use Rattle.relay_math.specs.declared.Vec3.{Vec3}
 use Rattle.relay_math.specs.F32.{1e-3, isFinite, finiteAbove}
 use Rattle.laws.proofs.Tests.{both}
 use Rattle.relay_math.proofs.Order.{le-is-not-above, lt-trans}
-use Rattle.relay_geo.specs.declared.vectors.Unit.the-variants.{Axis}
+use Rattle.relay_geo.specs.declared.vectors.Direction.the-variants.{Axis}
 use Rattle.relay_geo.specs.declared.attitude.Attitude.{Attitude}
 use Rattle.relay_geo.specs.declared.attitude.Attitude.the-variants.{Matrix, Refused}
 use Rattle.relay_geo.specs.declared.attitude.Feedforward.the-variants as rate

@@ -12,7 +12,7 @@ use Rattle.relay_math.specs.F32.{_⊕_, _⊖_, _⊗_, isFinite}
 use Rattle.relay_math.specs.Sqrt.{sqrtf}
 use Rattle.relay_math.proofs.Sums.{round-zero}
 use Rattle.relay_geo.specs.Vectors.{1e-9, cross, dot, norm, normalize}
-use Rattle.relay_geo.specs.declared.vectors.Unit.the-variants.{Refused}
+use Rattle.relay_geo.specs.declared.vectors.Direction.the-variants.{Refused}
 
 pub data Blank : Float → Type 0 where
   number : Blank nan

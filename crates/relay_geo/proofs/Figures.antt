@@ -7,7 +7,7 @@ use Rattle.relay_math.specs.declared.Vec3.{Vec3}
 use Rattle.relay_math.specs.F32.{0·0, 1·0, isFinite, grains}
 use Rattle.relay_math.specs.Sqrt.{sqrtf}
 use Rattle.relay_math.specs.Steps.{sinf, cosf}
-use Rattle.relay_geo.specs.declared.vectors.Unit.the-variants as unit
+use Rattle.relay_geo.specs.declared.vectors.Direction.the-variants as direction
 use Rattle.relay_geo.specs.declared.attitude.Attitude.the-variants.{Matrix, Refused}
 use Rattle.relay_geo.specs.Vectors.{identity3, cross, dot, over, long, normalize}
 use Rattle.relay_geo.specs.Attitude.{heading, desiredAttitude}
@@ -31,19 +31,19 @@ unfolding isFinite lt ofBits
 long-one = refl
 
 -- of length one, and kept by the division
-kept : (v : Vec3) → dot v v ≡ 1·0 → over v 1·0 ≡ v → normalize v ≡ unit.Axis v
+kept : (v : Vec3) → dot v v ≡ 1·0 → over v 1·0 ≡ v → normalize v ≡ direction.Axis v
 unfolding normalize
 kept v d k = rw (d, root-one, long-one, k)
 
-unit-x : normalize x ≡ unit.Axis x
+unit-x : normalize x ≡ direction.Axis x
 unfolding dot add mul div ofBits
 unit-x = kept x refl refl
 
-unit-y : normalize y ≡ unit.Axis y
+unit-y : normalize y ≡ direction.Axis y
 unfolding dot add mul div ofBits
 unit-y = kept y refl refl
 
-unit-z : normalize z ≡ unit.Axis z
+unit-z : normalize z ≡ direction.Axis z
 unfolding dot add mul div ofBits
 unit-z = kept z refl refl
 

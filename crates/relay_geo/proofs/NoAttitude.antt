@@ -10,8 +10,8 @@ use Rattle.relay_math.specs.F32.{0·0, isFinite}
 use Rattle.relay_math.specs.Exact.{inRange}
 use Rattle.relay_math.proofs.Finite.{sin-cos-far}
 use Rattle.relay_geo.specs.declared.vectors.Quat.{Quat}
-use Rattle.relay_geo.specs.declared.vectors.Unit.{Unit}
-use Rattle.relay_geo.specs.declared.vectors.Unit.the-variants as unit
+use Rattle.relay_geo.specs.declared.vectors.Direction.{Direction}
+use Rattle.relay_geo.specs.declared.vectors.Direction.the-variants as direction
 use Rattle.relay_geo.specs.declared.attitude.Attitude.the-variants.{Refused}
 use Rattle.relay_geo.specs.declared.controller.GeoGains.{GeoGains}
 use Rattle.relay_geo.specs.Vectors.{GRAVITY-NED, normalize, sanitise3}
@@ -31,7 +31,7 @@ unfolding tick
 no-attitude-tick g q w a yaw n = rw n
 
 -- "Acceleration [0,0,9.81]: damping only."
-free-fall : thrustAxisNed GRAVITY-NED ≡ unit.Refused
+free-fall : thrustAxisNed GRAVITY-NED ≡ direction.Refused
 unfolding thrustAxisNed thrustForce ofBits sub
 free-fall = blank-refused (thrustForce GRAVITY-NED) record { x = none false (pos 0); y = none false (pos 0); z = none false (pos 0) }
 
@@ -49,17 +49,17 @@ module _ (yaw : Float) (F : T (fits binary32 yaw)) (far : T (not (inRange yaw)))
   unfolding heading ofBits
   zero-heading = let z = sin-cos-far yaw far in rw (z .0, z .1)
 
-  no-columns : (u : Unit) → attitudeOf u yaw ≡ Refused
-  no-columns (unit.Axis b) = rw (zero-heading, blank-refused _ (cross-blank b))
-  no-columns unit.Refused = refl
+  no-columns : (d : Direction) → attitudeOf d yaw ≡ Refused
+  no-columns (direction.Axis b) = rw (zero-heading, blank-refused _ (cross-blank b))
+  no-columns direction.Refused = refl
 
   pub bad-heading-refused : (b : Vec3) → desiredAttitude b yaw ≡ Refused
   unfolding desiredAttitude
   bad-heading-refused b = no-columns (normalize b)
 
-  along : (u : Unit) → alongAxis u yaw ≡ Refused
-  along (unit.Axis b) = bad-heading-refused b
-  along unit.Refused = refl
+  along : (d : Direction) → alongAxis d yaw ≡ Refused
+  along (direction.Axis b) = bad-heading-refused b
+  along direction.Refused = refl
 
   pub bad-heading-none : (a : Vec3) → thrustAttitude a yaw ≡ Refused
   unfolding thrustAttitude

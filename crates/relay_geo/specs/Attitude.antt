@@ -9,8 +9,8 @@ use Rattle.relay_math.specs.F32.{_⊕_, _⊖_, _⊗_, _⊘_, 0·0, 1e-3, 1·0, 
 use Rattle.relay_math.specs.Steps.{sinf, cosf}
 use Rattle.relay_geo.specs.declared.vectors.Mat3.{Mat3}
 use Rattle.relay_geo.specs.declared.vectors.Quat.{Quat}
-use Rattle.relay_geo.specs.declared.vectors.Unit.{Unit}
-use Rattle.relay_geo.specs.declared.vectors.Unit.the-variants as unit
+use Rattle.relay_geo.specs.declared.vectors.Direction.{Direction}
+use Rattle.relay_geo.specs.declared.vectors.Direction.the-variants as direction
 use Rattle.relay_geo.specs.declared.attitude.Attitude.{Attitude}
 use Rattle.relay_geo.specs.declared.attitude.Attitude.the-variants.{Matrix, Refused}
 use Rattle.relay_geo.specs.declared.attitude.Feedforward.{Feedforward}
@@ -38,14 +38,14 @@ abbrev pub ofColumns : Vec3 → Vec3 → Vec3 → Mat3
 ofColumns b1 b2 b3 = ((b1 .0, b2 .0, b3 .0), (b1 .1, b2 .1, b3 .1), (b1 .2, b2 .2, b3 .2))
 
 -- b2 is across b3 and the heading, b1 across both, with no attitude where there is no b2
-abbrev pub columnsOf : Vec3 → Unit → Attitude
-columnsOf b3 (unit.Axis b2) = Matrix (ofColumns (cross b2 b3) b2 b3)
-columnsOf b3 unit.Refused = Refused
+abbrev pub columnsOf : Vec3 → Direction → Attitude
+columnsOf b3 (direction.Axis b2) = Matrix (ofColumns (cross b2 b3) b2 b3)
+columnsOf b3 direction.Refused = Refused
 
 -- no attitude where there is no axis b3
-abbrev pub attitudeOf : Unit → Float → Attitude
-attitudeOf (unit.Axis b3) yaw = columnsOf b3 (normalize (cross b3 (heading yaw)))
-attitudeOf unit.Refused yaw = Refused
+abbrev pub attitudeOf : Direction → Float → Attitude
+attitudeOf (direction.Axis b3) yaw = columnsOf b3 (normalize (cross b3 (heading yaw)))
+attitudeOf direction.Refused yaw = Refused
 
 unfoldable pub desiredAttitude : Vec3 → Float → Attitude
 desiredAttitude b3 yaw = attitudeOf (normalize b3) yaw
@@ -54,12 +54,12 @@ desiredAttitude b3 yaw = attitudeOf (normalize b3) yaw
 unfoldable pub thrustForce : Vec3 → Vec3
 thrustForce a = (GRAVITY-NED .0 ⊖ a .0, GRAVITY-NED .1 ⊖ a .1, GRAVITY-NED .2 ⊖ a .2)
 
-unfoldable pub thrustAxisNed : Vec3 → Unit
+unfoldable pub thrustAxisNed : Vec3 → Direction
 thrustAxisNed a = normalize (thrustForce a)
 
-abbrev pub alongAxis : Unit → Float → Attitude
-alongAxis (unit.Axis b3) yaw = desiredAttitude b3 yaw
-alongAxis unit.Refused yaw = Refused
+abbrev pub alongAxis : Direction → Float → Attitude
+alongAxis (direction.Axis b3) yaw = desiredAttitude b3 yaw
+alongAxis direction.Refused yaw = Refused
 
 unfoldable pub thrustAttitude : Vec3 → Float → Attitude
 thrustAttitude a yaw = alongAxis (thrustAxisNed a) yaw

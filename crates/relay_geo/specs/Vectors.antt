@@ -6,8 +6,8 @@ use Rattle.relay_math.specs.declared.Vec3.{Vec3}
 use Rattle.relay_math.specs.F32.{f32, _⊕_, _⊖_, _⊗_, _⊘_, 0·0, 0·5, 1·0, isFinite, finiteOr, finiteAbove}
 use Rattle.relay_math.specs.Sqrt.{sqrtf}
 use Rattle.relay_geo.specs.declared.vectors.Mat3.{Mat3}
-use Rattle.relay_geo.specs.declared.vectors.Unit.{Unit}
-use Rattle.relay_geo.specs.declared.vectors.Unit.the-variants.{Axis, Refused}
+use Rattle.relay_geo.specs.declared.vectors.Direction.{Direction}
+use Rattle.relay_geo.specs.declared.vectors.Direction.the-variants.{Axis, Refused}
 
 abbrev pub 1e-9 : Float
 1e-9 = f32 0x3089_705f
@@ -36,10 +36,10 @@ abbrev pub over : Vec3 → Float → Vec3
 over a n = (a .0 ⊘ n, a .1 ⊘ n, a .2 ⊘ n)
 
 -- the direction of a, n being its norm
-abbrev pub unitOf : Vec3 → Float → Unit
-unitOf a n = cond (long n) (Axis (over a n)) Refused
+abbrev pub directionOf : Vec3 → Float → Direction
+directionOf a n = cond (long n) (Axis (over a n)) Refused
 
-unfoldable pub normalize : Vec3 → Unit
+unfoldable pub normalize : Vec3 → Direction
 normalize a = let n = norm a in cond (long n) (Axis (over a n)) Refused
 
 abbrev pub identity3 : Mat3
@@ -80,7 +80,7 @@ sanitise3 v = (finiteOr (v .0) 0·0, finiteOr (v .1) 0·0, finiteOr (v .2) 0·0)
 
 -- ---- for what is proved of them
 
-abbrev pub givesAxis : Unit → Bool
+abbrev pub givesAxis : Direction → Bool
 givesAxis (Axis b) = true
 givesAxis Refused = false
 

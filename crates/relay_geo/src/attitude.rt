@@ -1,14 +1,14 @@
 // Attitudes: from a quaternion, and from the thrust axis and the heading, with no Euler angles on the way.
+use super::vectors::Direction;
 use super::vectors::GRAVITY_NED;
 use super::vectors::Mat3;
 use super::vectors::Quat;
-use super::vectors::Unit;
 use super::vectors::cross;
+use super::vectors::direction_of;
 use super::vectors::dot;
 use super::vectors::normalize;
 use super::vectors::sanitise3;
 use super::vectors::transposed_times;
-use super::vectors::unit_of;
 use relay_math::BodyRate;
 use relay_math::Vec3;
 use relay_math::is_finite;
@@ -77,11 +77,11 @@ fn heading(yaw: f32) -> Vec3
 pub fn desired_attitude(b3_d: Vec3, yaw: f32) -> Attitude
     ensures { λ r. ⌜ r ≡ desiredAttitude «b3_d» yaw ⌝ }
 {
-    let Unit::Axis(b3) = normalize(b3_d) else {
+    let Direction::Axis(b3) = normalize(b3_d) else {
         return Attitude::Refused;
     };
     let b1_des = heading(yaw);
-    let Unit::Axis(b2) = normalize(cross(b3, b1_des)) else {
+    let Direction::Axis(b2) = normalize(cross(b3, b1_des)) else {
         return Attitude::Refused;
     };
     let b1 = cross(b2, b3);
@@ -104,7 +104,7 @@ fn thrust_force(a_cmd: Vec3) -> Vec3
 }
 
 // The desired body-down (thrust) axis in NED for a commanded NED acceleration. Free fall has none.
-pub fn thrust_axis_ned(a_cmd: Vec3) -> Unit
+pub fn thrust_axis_ned(a_cmd: Vec3) -> Direction
     ensures { λ r. ⌜ r ≡ thrustAxisNed «a_cmd» ⌝ }
 {
     normalize(thrust_force(a_cmd))
@@ -115,8 +115,8 @@ pub fn thrust_attitude(a_cmd: Vec3, yaw: f32) -> Attitude
     ensures { λ r. ⌜ r ≡ thrustAttitude «a_cmd» yaw ⌝ }
 {
     match thrust_axis_ned(a_cmd) {
-        Unit::Axis(b3) => desired_attitude(b3, yaw),
-        Unit::Refused => Attitude::Refused,
+        Direction::Axis(b3) => desired_attitude(b3, yaw),
+        Direction::Refused => Attitude::Refused,
     }
 }
 
@@ -156,9 +156,9 @@ pub fn attitude_on(t: Thrust, yaw: f32) -> Attitude
     ensures { λ r. ⌜ r ≡ attitudeOn t yaw ⌝ }
 {
     let tf = t.force;
-    match unit_of(tf, t.norm) {
-        Unit::Axis(b3) => desired_attitude(b3, yaw),
-        Unit::Refused => Attitude::Refused,
+    match direction_of(tf, t.norm) {
+        Direction::Axis(b3) => desired_attitude(b3, yaw),
+        Direction::Refused => Attitude::Refused,
     }
 }
 

@@ -4,7 +4,7 @@ use relay_math::finite_above;
 use relay_math::finite_or;
 use relay_math::sqrtf_near_one;
 ghost use mathlib.Core.Path.{_≡_};
-ghost use Rattle.relay_geo.specs.Vectors.{cross, dot, norm, unitOf, normalize, identity3, transpose3, prod3, matmul3, transposedTimes, vee, sanitise3};
+ghost use Rattle.relay_geo.specs.Vectors.{cross, dot, norm, directionOf, normalize, identity3, transpose3, prod3, matmul3, transposedTimes, vee, sanitise3};
 
 // Row-major: the Rust's `m[2][1]` is `m.2.1`.
 #[repr(C)]
@@ -15,7 +15,7 @@ pub struct Mat3(pub Vec3, pub Vec3, pub Vec3);
 pub struct Quat(pub f32, pub f32, pub f32, pub f32);
 
 // A direction of length one, or a plain refusal that carries no number.
-pub enum Unit {
+pub enum Direction {
     Axis(Vec3),
     Refused,
 }
@@ -47,20 +47,20 @@ pub fn norm(a: Vec3) -> f32
 }
 
 // The direction of a vector whose length n is there already.
-pub(crate) fn unit_of(a: Vec3, n: f32) -> Unit
-    ensures { λ r. ⌜ r ≡ unitOf a n ⌝ }
+pub(crate) fn direction_of(a: Vec3, n: f32) -> Direction
+    ensures { λ r. ⌜ r ≡ directionOf a n ⌝ }
 {
     if finite_above(1e-9, n) {
-        Unit::Axis(Vec3(a.0 / n, a.1 / n, a.2 / n))
+        Direction::Axis(Vec3(a.0 / n, a.1 / n, a.2 / n))
     } else {
-        Unit::Refused
+        Direction::Refused
     }
 }
 
-pub fn normalize(a: Vec3) -> Unit
+pub fn normalize(a: Vec3) -> Direction
     ensures { λ r. ⌜ r ≡ normalize a ⌝ }
 {
-    unit_of(a, norm(a))
+    direction_of(a, norm(a))
 }
 
 pub fn identity3() -> Mat3

@@ -12,13 +12,13 @@ use image::put_set;
 use image::quat_at;
 use image::set_at;
 use relay_geo::Attitude;
+use relay_geo::Direction;
 use relay_geo::Feedforward;
 use relay_geo::GeoAtt;
 use relay_geo::GeoGains;
 use relay_geo::RecoverableSet;
 use relay_geo::Shielded;
 use relay_geo::SimplexShield;
-use relay_geo::Unit;
 use words::float_at;
 use words::put_float;
 use words::put_vec;
@@ -42,7 +42,7 @@ fn vectors(n: u32, i: &Row, o: &mut Row) {
         1 => put_vec(o, 0, relay_geo::cross(vec_at(i, 0), vec_at(i, 3))),
         2 => put_float(o, 0, relay_geo::dot(vec_at(i, 0), vec_at(i, 3))),
         3 => put_float(o, 0, relay_geo::norm(vec_at(i, 0))),
-        4 => put_unit(o, relay_geo::normalize(vec_at(i, 0))),
+        4 => put_direction(o, relay_geo::normalize(vec_at(i, 0))),
         5 => put_mat(o, 0, relay_geo::identity3()),
         6 => put_mat(o, 0, relay_geo::transpose3(mat_at(i, 0))),
         7 => put_mat(o, 0, relay_geo::matmul3(mat_at(i, 0), mat_at(i, 9))),
@@ -56,7 +56,7 @@ fn attitudes(n: u32, i: &Row, o: &mut Row) {
     match n {
         10 => put_mat(o, 0, relay_geo::quat_to_rotmat(quat_at(i, 0))),
         11 => put_attitude(o, relay_geo::desired_attitude(a, float_at(i, 3))),
-        12 => put_unit(o, relay_geo::thrust_axis_ned(a)),
+        12 => put_direction(o, relay_geo::thrust_axis_ned(a)),
         13 => put_attitude(o, relay_geo::thrust_attitude(a, float_at(i, 3))),
         14 => put_ahead(
             o,
@@ -154,8 +154,8 @@ fn put_shielded(o: &mut Row, x: Shielded) {
 }
 
 // An answer that may be a refusal: a yes and its words, or zeros.
-fn put_unit(o: &mut Row, u: Unit) {
-    if let Unit::Axis(v) = u {
+fn put_direction(o: &mut Row, d: Direction) {
+    if let Direction::Axis(v) = d {
         put_yes(o, 0, true);
         put_vec(o, 1, v);
     }

@@ -5,11 +5,11 @@ use Rattle.relay_geo.proofs.attitude.attitude_on.Tie as tie
 
 returns : tie.Need-returns
 unfolding attitudeOn
-returns c = let b = c .before .before in simp (← b .before .before .unit-of .ensures, b .b3 .given .1, c .desired-attitude .ensures)
+returns c = let b = c .before .before in simp (← b .before .before .direction-of .ensures, b .b3 .given .1, c .desired-attitude .ensures)
 
 returns-2 : tie.Need-returns-2
 unfolding attitudeOn
-returns-2 c = simp (← c .before .before .unit-of .ensures, c .enum-told .given .1)
+returns-2 c = simp (← c .before .before .direction-of .ensures, c .enum-told .given .1)
 
 pub attitude-on-spec : {M : Type 1} → statement M
 attitude-on-spec =

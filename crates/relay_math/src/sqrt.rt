@@ -15,6 +15,18 @@ const ONE: u64 = 4294967296;
 // 7 / 4 in those units.
 const SEVEN_QUARTERS: u64 = 7516192768;
 
+// 2^16: t * 2^46 over it is t / 4 in those units.
+const QUARTER_UNITS: u64 = 65536;
+
+// 2^6: 2^29 √t over it is 2^23 √t.
+const ROOT_UNITS: u64 = 64;
+
+// Half of it, so that the quotient is rounded.
+const HALF_ROOT_UNITS: u64 = 32;
+
+// The lines of the table.
+const LINES: u32 = 128;
+
 // 2^17: the last 17 digits of d say how far along its part of the table a number is, and the 7 above them which part that is.
 const ALONG: u32 = 131072;
 
@@ -39,6 +51,9 @@ const HALF_ONE_BITS: u32 = 0x1fc0_0000;
 // The pattern of 1.0 without its last 12 digits.
 const UPPER_ONE_BITS: u32 = 0x3f800;
 
+// 2^11: from so much below the pattern of 1.0 to less than that above it, a root's pattern lies half way to that of 1.0.
+const NEAR_ONE: u32 = 2048;
+
 // The value on the line e of the table, f of the way along in units of 2^-17: in units of 2^-32.
 fn on_line(e: u64, f: u64) -> u64
     requires { ⌜ f < 2 ^ 17 ⌝ }
@@ -55,10 +70,10 @@ fn guess(n: u64, d: u32) -> u64
     // y = 1 / √t; √t = t y, and Newton's step from there: t y (3 - t y^2) / 2.
     // n / 2^16 is t / 4 in units of 2^-32, so s is t y / 4, and u is (3 - t y^2) / 4, taken from 1 more so that it is not below zero.
     // s u is √t / 8, which is 2^29 √t units, and √n is 2^23 √t.
-    let y = on_line(line(d / ALONG % 128), (d % ALONG) as u64);
-    let s = part_of(n / 65536, y);
+    let y = on_line(line(d / ALONG % LINES), (d % ALONG) as u64);
+    let s = part_of(n / QUARTER_UNITS, y);
     let u = (SEVEN_QUARTERS - part_of(s, y)) % ONE;
-    (part_of(s, u) + 32) / 64
+    (part_of(s, u) + HALF_ROOT_UNITS) / ROOT_UNITS
 }
 
 // The whole number nearest to the root of n, from any r: no whole number's root lies in the middle of two.
@@ -147,7 +162,7 @@ pub fn sqrtf_near_one(x: f32) -> f32
 {
     if x > 0.0 {
         let b = f32::to_bits(x);
-        if (b / 2048 + 1) / 2 == UPPER_ONE_BITS {
+        if (b / NEAR_ONE + 1) / 2 == UPPER_ONE_BITS {
             return f32::from_bits(b / 2 + HALF_ONE_BITS);
         }
     }

@@ -1,44 +1,38 @@
--- An angle that is no number, infinite or beyond 256 gives four zeros, whatever the other two are. Assumes nothing.
+-- An angle that is no number, infinite or beyond twice the limit of sine and cosine gives four zeros, whatever the other two are. Assumes nothing.
 use mathlib.Core.Path.{_≡_, refl, sym, ap, _∙_, subst}
 use mathlib.Core.Logic.{inl, inr}
 use mathlib.Core.Bool.{Bool, false, not}
 use Prim.Native.Nat.{ℕ, zero, suc, _*_, _^_, _≤_, _<_}
-use native.Mathlib.Nat.{le-trans, le-of-lt, lt-of-le-of-lt, lt-of-not-le, mul-pos, mul-assoc, mul-le-mul-right, mul-one, pow-suc}
+use native.Mathlib.Nat.{le-trans, le-of-lt, lt-of-le-of-lt, lt-of-not-le, not-le-of-lt, mul-pos, mul-assoc, mul-le-mul-right, mul-one, pow-suc}
 use native.Mathlib.Omega.{arith}
 use lib.IntN.{ℤ, pos}
-use lib.Dec.{T, leb, lit<, lit≤, nleb→lt}
-use borrow.Author.Tests.{lt-leb}
-use lib.Ieee.{Float, nan, inf, fin, binary32, fits, up, down, unlike, round, mul, lt, le, eq, ofBits}
+use lib.Dec.{T, T-not, not-T, lit<, lit≤}
+use lib.Ieee.{Float, nan, inf, fin, binary32, fits, up, down, unlike, round, mul, le, ofBits}
 use lib.Ieee.Fits.{down-pos}
 use lib.Ieee.Exact.{HasValue, round-exact}
+use lib.Ieee.Order.{le-of-values}
+use lib.Ieee.Positive.{num, den, positive, den-pos, own-value, positive-of-value, values-of-le}
 use Rattle.relay_math.specs.F32.{_⊗_, 0·5, 1·0, fabsf, grains}
-use Rattle.relay_math.specs.Exact.{inRange}
+use Rattle.relay_math.specs.Exact.{Limit, upTo, inRange}
 use Rattle.relay_math.specs.Steps.{sinf, cosf}
-use Rattle.laws.proofs.Tests.{ordered}
 use Rattle.relay_math.proofs.Grains.{placed, grains-of, grains-under}
 use Rattle.relay_math.proofs.Finite.{sin-cos-far}
 use Rattle.relay_math.proofs.Sizes.{sin-cos-size, size-finite, product-finite}
 use Rattle.relay_math.proofs.Zeros.{IsZero, none, equal, times, by, plus, minus}
-use Rattle.relay_pos.specs.Euler.{eulerToQuaternion, served, Bad, Zeros}
+use Rattle.relay_pos.specs.Euler.{eulerToQuaternion, twice, served, Bad, Zeros}
 
 -- ---- the half of such an angle is out of range: halving a number so large is exact
 
--- N / d = A / 2D
-half-over : (N d A D l : ℕ) → N * (D * 2) ≡ A * d → 0 < d → 2 * l * D < A → N ≤ l * d → ⊥
-half-over N d A D l e z h k =
-    let i : N * (D * 2) ≤ l * d * (D * 2) = mul-le-mul-right (D * 2) k in
-    let j : suc (2 * l * D) * d ≤ A * d = mul-le-mul-right d h in
-    omega (arith, i, j, e, z)
+-- m * 2 ^ e is beyond y: as fractions, and x = A / C likewise
+beyond : (m : ℕ) (e : ℤ) (y : Float) → T (positive y) → T (not (le (fin false m e) y)) → num y * down e < m * up e * den y
+beyond m e y p h = lt-of-not-le (λ g. T-not (le (fin false m e) y) h (le-of-values (fin false m e) y (m * up e) (down e) (num y) (den y) (down-pos e) (den-pos y) (refl, refl) (own-value y p) g))
 
-le-is : (m : ℕ) (e : ℤ) (n : ℕ) (d : ℤ) → le (fin false m e) (fin false n d) ≡ leb (m * up e * down d) (n * up d * down e)
-unfolding le lt eq
-le-is m e n d = ordered (m * up e * down d) (n * up d * down e)
-
-value-far : (x : Float) (s : Bool) (A D : ℕ) → HasValue x s A (D * 2) → 2 ^ 8 * D < A → T (not (inRange x))
-unfolding inRange le fabsf
-value-far nan s A D v h = absurd v
-value-far (inf t) s A D v h = absurd v
-value-far (fin t n d) s A D v h = rw (le-is n d 1 (pos 7), mul-one (n * up d), lt-leb (n * up d) (2 ^ 7 * down d) (lt-of-not-le (half-over (n * up d) (down d) A D (2 ^ 7) (v .1) (down-pos d) h))) tt
+value-beyond : (x y : Float) (s : Bool) (A C : ℕ) → T (positive y) → HasValue x s A C → 0 < A → num y * C < A * den y → T (not (upTo y x))
+unfolding fabsf
+value-beyond nan y s A C p v z h = absurd v
+value-beyond (inf t) y s A C p v z h = absurd v
+value-beyond (fin t n d) y s A C p v z h =
+    not-T (le (fin false n d) y) (λ g. not-le-of-lt h (values-of-le (fin false n d) y A C (num y) (den y) (positive-of-value (fin false n d) A C (refl, v .1) z) p (refl, v .1) (own-value y p) g))
 
 -- m * 2 ^ j grains of A / D with j = 0 would be less than D
 few : (m D A L : ℕ) → m ≤ L → m * 1 * D ≡ A * L → D < A → 0 < L → ⊥
@@ -53,12 +47,12 @@ doubled a = omega arith
 regrouped : (a D : ℕ) → a * 2 * D ≡ a * (D * 2)
 regrouped a D = omega arith
 
-half-value : (s : Bool) (m : ℕ) (e : ℤ) → T (fits binary32 (fin s m e)) → 2 ^ 8 * down e < m * up e → HasValue (fin s m e ⊗ 0·5) (unlike s false) (m * up e) (down e * 2)
+half-value : (s : Bool) (m : ℕ) (e : ℤ) → T (fits binary32 (fin s m e)) → down e < m * up e → HasValue (fin s m e ⊗ 0·5) (unlike s false) (m * up e) (down e * 2)
 unfolding mul ofBits
 half-value s m e F h = let p = placed s m e F in go (p .0) (p .1) (p .2)
   where
     go : (j : ℕ) → m < 2 ^ 24 → m * up e * 2 ^ 149 ≡ m * 2 ^ j * down e → HasValue (fin s m e ⊗ 0·5) (unlike s false) (m * up e) (down e * 2)
-    go zero l q = absurd (few m (down e) (m * up e) (2 ^ 149) (le-trans (le-of-lt l) (lit≤ tt)) (sym q) (omega (arith, h)) (lit< tt))
+    go zero l q = absurd (few m (down e) (m * up e) (2 ^ 149) (le-trans (le-of-lt l) (lit≤ tt)) (sym q) h (lit< tt))
     go (suc j) l q =
         let g : grains (fin s m e) ≡ m * 2 ^ suc j = grains-of (fin s m e) s (m * 2 ^ suc j) (refl, q) in
         let w : m * 2 ^ suc j ≡ m * 2 ^ j * 2 = ap (λ (x : ℕ). m * x) (pow-suc 2 j) ∙ sym (mul-assoc m (2 ^ j) 2) in
@@ -72,8 +66,8 @@ unfolding mul inRange le fabsf ofBits
 half-far nan F h = tt
 half-far (inf s) F h = tt
 half-far (fin s m e) F h =
-    let l : 2 ^ 8 * down e < m * up e = omega (arith, nleb→lt (m * up e * 1) (1 * 2 ^ 8 * down e) (subst (λ (b : Bool). T (not b)) (le-is m e 1 (pos 8)) h)) in
-    value-far (fin s m e ⊗ 0·5) (unlike s false) (m * up e) (down e) (half-value s m e F l) l
+    let l = beyond m e (twice Limit) tt h in
+    value-beyond (fin s m e ⊗ 0·5) Limit (unlike s false) (m * up e) (down e * 2) tt (half-value s m e F (omega (arith, l))) (omega (arith, l)) (omega (arith, l))
 
 -- ---- sine and cosine of the half: both at most 1 in size, both zero for such an angle
 

@@ -1,11 +1,11 @@
 -- `euler_to_quaternion` of document 003. Definitions only.
 use mathlib.Core.Logic.{_⊎_}
-use mathlib.Core.Bool.{Bool, false, not}
+use mathlib.Core.Bool.{Bool, not}
+use Prim.Native.Nat.{_*_}
 use lib.Dec.{T}
-use lib.IntN.{pos}
-use lib.Ieee.{Float, fin, eq}
+use lib.Ieee.{Float, nan, inf, fin, eq}
 use Rattle.relay_math.specs.F32.{_⊕_, _⊖_, _⊗_, 0·0, 0·5}
-use Rattle.relay_math.specs.Exact.{upTo}
+use Rattle.relay_math.specs.Exact.{Limit, upTo}
 use Rattle.relay_math.specs.Steps.{sinf, cosf}
 use Rattle.relay_pos.specs.declared.Quaternion.{Quaternion}
 
@@ -25,9 +25,15 @@ eulerToQuaternion roll pitch yaw =
 
 -- ---- for what is proved of it
 
--- an angle of size at most 256, twice the limit of sine and cosine: false of a NaN
+-- twice a number, exactly
+abbrev pub twice : Float → Float
+twice nan = nan
+twice (inf s) = inf s
+twice (fin s m e) = fin s (2 * m) e
+
+-- an angle of size at most twice the limit of sine and cosine, which take its half: false of a NaN
 abbrev pub served : Float → Bool
-served angle = upTo (fin false 1 (pos 8)) angle
+served angle = upTo (twice Limit) angle
 
 -- one of the three angles, at least, is not
 abbrev pub Bad : Float → Float → Float → Type 0

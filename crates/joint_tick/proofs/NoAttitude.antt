@@ -2,7 +2,7 @@
 use mathlib.Core.Path.{_≡_, refl, _∙_, ap}
 use mathlib.Core.Bool.{Bool, true, false, not, cond}
 use lib.Dec.{T}
-use lib.Ieee.{Float, nan, binary32, fits, ofBits}
+use lib.Ieee.{Float, nan, ofBits}
 use Rattle.relay_math.specs.F32.{0·0, isFinite}
 use Rattle.relay_math.specs.Exact.{inRange}
 use Rattle.relay_math.specs.declared.Vec3.{Vec3}
@@ -80,10 +80,10 @@ module _ (source : Float → Reference) (s : State) (i : TickInput) where
       }
 
   -- "A non-finite yaw makes the heading vector zero", and so does one beyond the limit: whatever the segment asks for.
-  pub bad-heading-tick : T (fits binary32 (i .yaw)) → T (not (inRange (i .yaw))) → Damped source s i
-  bad-heading-tick f far = no-attitude-tick (bad-heading-none (i .yaw) f far (cleaned (source (prepare (s .moving) i .time)) .acc))
+  pub bad-heading-tick : T (not (inRange (i .yaw))) → Damped source s i
+  bad-heading-tick far = no-attitude-tick (bad-heading-none (i .yaw) far (cleaned (source (prepare (s .moving) i .time)) .acc))
 
   -- "Headings that aren't numbers."
   pub nan-heading-tick : i .yaw ≡ nan → Damped source s i
-  unfolding fits inRange
-  nan-heading-tick e = bad-heading-tick (rw e tt) (rw e tt)
+  unfolding inRange
+  nan-heading-tick e = bad-heading-tick (rw e tt)

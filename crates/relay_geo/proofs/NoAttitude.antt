@@ -3,7 +3,7 @@ use mathlib.Core.Path.{_≡_, refl}
 use mathlib.Core.Bool.{false, not}
 use lib.Dec.{T}
 use lib.IntN.{pos}
-use lib.Ieee.{Float, fin, binary32, fits, ofBits, sub}
+use lib.Ieee.{Float, fin, ofBits, sub}
 use Rattle.relay_math.specs.declared.Vec3.{Vec3}
 use Rattle.relay_math.specs.declared.BodyRate.{BodyRate}
 use Rattle.relay_math.specs.F32.{0·0, isFinite}
@@ -44,7 +44,7 @@ unfolding thrustAttitude
 free-fall-damps g q w yaw = no-attitude-tick g q w GRAVITY-NED yaw (rw (clean, free-fall))
 
 -- "A non-finite yaw makes the heading vector zero, so `desired_attitude` refuses", and so does one beyond the limit.
-module _ (yaw : Float) (F : T (fits binary32 yaw)) (far : T (not (inRange yaw))) where
+module _ (yaw : Float) (far : T (not (inRange yaw))) where
   zero-heading : heading yaw ≡ (fin false 0 (pos 0), fin false 0 (pos 0), fin false 0 (pos 0))
   unfolding heading ofBits
   zero-heading = let z = sin-cos-far yaw far in rw (z .0, z .1)

@@ -6,10 +6,10 @@ use mathlib.Core.Bool.{Bool, true, false, not, _&&_, _||_, cond}
 use mathlib.Core.List.{List, [], _∷_, _++_, List·Memᴰ, List·Memᴰ·head, List·Memᴰ·tail, List·Memᴰ·not-nil, List·Memᴰ·cases-cons}
 use native.Mathlib.Nat.{le-of-suc-le-suc, zero-lt-suc, add-zero}
 use native.Mathlib.Omega.{arith}
-use lib.Ieee.{Float, nan, inf, fin, lt, ofBits}
+use lib.Ieee.{Float, nan, inf, fin, lt}
 use lib.ListN.{length, getD, take, drop, length-append, length-drop}
 use lib.Seq.{split-at, length-take-le, getD-append-add, getD-take, getD-drop}
-use Rattle.relay_math.specs.F32.{f32, isFinite}
+use Rattle.relay_math.specs.F32.{isFinite}
 use Rattle.laws.proofs.Tests.{no}
 use Rattle.relay_math.proofs.Order.{lt-above}
 use Rattle.latch.specs.Latch.{releases, engages, latch, after, flagsFrom, engagedAfter, flags, Flies, FliesAt}
@@ -179,20 +179,3 @@ pub infinite-exit-never-flies : (enter : Float) (ms : List Float) → engagedAft
 unfolding after latch
 infinite-exit-never-flies enter [] = refl
 infinite-exit-never-flies enter (m ∷ ms) = rw (nothing-above m) (infinite-exit-never-flies enter ms)
-
--- ---- the margins of document 01's `shieldtable`, with enter 0.5 and exit 1
-
-pub shieldtable-flags : flags (f32 0x3f00_0000) (f32 0x3f80_0000) (
-    f32 0x3f80_0000
-    ∷ f32 0x3fc0_0000
-    ∷ f32 0x3f40_0000
-    ∷ f32 0x3f00_0000
-    ∷ f32 0x3e80_0000
-    ∷ f32 0x3f40_0000
-    ∷ f32 0x3fc0_0000
-    ∷ f32 0x7fc0_0000
-    ∷ f32 0x7f80_0000
-    ∷ []
-    ) ≡ (true ∷ false ∷ false ∷ false ∷ true ∷ true ∷ false ∷ true ∷ true ∷ [])
-unfolding flagsFrom latch isFinite lt ofBits
-shieldtable-flags = refl

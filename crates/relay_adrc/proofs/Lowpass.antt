@@ -14,18 +14,10 @@ use Rattle.relay_math.proofs.Finite.{or-zero-finite}
 use Rattle.relay_adrc.specs.declared.biquad.Biquad.{Biquad}
 use Rattle.relay_adrc.specs.Biquad.{PI, passesThrough, passthrough, filterAt, lowpass, biquadFilter}
 
--- the output, and the input and output that are kept, are finite for all bits of everything
+-- the output is finite for all bits of everything
 pub output-finite : (f : Biquad) (x : Float) → T (isFinite (biquadFilter f x .y))
 unfolding biquadFilter
 output-finite f x = or-zero-finite _
-
-pub kept-input-finite : (f : Biquad) (x : Float) → T (isFinite (biquadFilter f x .biquad .x1))
-unfolding biquadFilter
-kept-input-finite f x = or-zero-finite x
-
-pub kept-output : (f : Biquad) (x : Float) → biquadFilter f x .biquad .y1 ≡ biquadFilter f x .y
-unfolding biquadFilter
-kept-output f x = refl
 
 -- `lowpass` is the pass-through exactly where `passesThrough` says so: elsewhere b0 and b2 are the same number, and a pass-through has 1 and 0.
 pub passes : (fc fs : Float) → passesThrough fc fs ≡ true → lowpass fc fs ≡ passthrough
@@ -73,11 +65,6 @@ passes-unless fc fs = by (lt 0·0 fc) (lt 0·0 fs) refl refl
     by true false p q = refl
     by false true p q = refl
     by false false p q = refl
-
--- the Rust's constant 2 PI, rounded before fc comes in
-pub two-pi : 2·0 ⊗ PI ≡ f32 0x40c9_0fdb
-unfolding ofBits mul
-two-pi = refl
 
 -- "With fc = 1e38 and fs = 3e38 the angle overflows: b 0.5, 1, 0.5, a1 negative zero, a2 1."
 pub overflow :

@@ -5,7 +5,7 @@ use lib.Dec.{T}
 use lib.Ieee.{Float, lt, le, ofBits}
 use Rattle.relay_math.specs.F32.{0·0, 1e-3, 0·1, 1·0, isFinite, clamp, Within, fabsf}
 use Rattle.laws.proofs.Tests.{held}
-use Rattle.relay_math.proofs.Order.{finite-number, within-finite, clamp-within}
+use Rattle.relay_math.proofs.Order.{finite-number, clamp-within}
 use Rattle.relay_adrc.specs.Axis.{1e-4, mendDt, mendB0, deliveredFraction}
 
 -- x if it is finite, held between lo and hi, else d
@@ -28,10 +28,6 @@ bad-dt dt e = rw e
 pub fraction-in-range : (frac : Float) → Within 0·0 1·0 (deliveredFraction frac)
 unfolding ofBits le
 fraction-in-range frac = clamped frac 0·0 1·0 1·0 tt (tt, tt)
-
-pub fraction-finite : (frac : Float) → T (isFinite (deliveredFraction frac))
-unfolding isFinite ofBits
-fraction-finite frac = within-finite 0·0 1·0 (deliveredFraction frac) tt tt (fraction-in-range frac)
 
 pub bad-fraction-is-one : (frac : Float) → isFinite frac ≡ false → deliveredFraction frac ≡ 1·0
 bad-fraction-is-one frac e = rw e

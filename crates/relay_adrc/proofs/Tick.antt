@@ -26,19 +26,6 @@ module _ (a : AdrcAxis) (omegaMeas omegaD dt : Float) where
   unfolding axisTick
   tick-finite = record { z1 = or-zero-finite _; z2 = or-zero-finite _; u-prev = or-zero-finite _; u-act = or-zero-finite _; u = or-zero-finite _ }
 
-  -- The command is kept whole for the next tick, and the fraction and the gains stay.
-  pub command-kept : axisTick a omegaMeas omegaD dt .axis .«u_prev» ≡ axisTick a omegaMeas omegaD dt .u
-  unfolding axisTick
-  command-kept = refl
-
-  pub fraction-kept : axisTick a omegaMeas omegaD dt .axis .«u_delivered_frac» ≡ a .«u_delivered_frac»
-  unfolding axisTick
-  fraction-kept = refl
-
-  pub gains-kept : axisTick a omegaMeas omegaD dt .axis .g ≡ a .g
-  unfolding axisTick
-  gains-kept = refl
-
   -- "The delivered fraction set after one tick is used in the next": there it scales the command of the first, and what drives the observer is the lag of that product.
   pub fraction-scales-the-command-before :
       (frac omegaMeas' omegaD' dt' : Float) →

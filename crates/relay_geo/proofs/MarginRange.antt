@@ -4,12 +4,12 @@ use mathlib.Core.Path.{_≡_, refl, sym, ap, _∙_}
 use mathlib.Core.Logic.{_⊎_, inl, inr}
 use mathlib.Core.Bool.{Bool, true, false, not, _&&_, _||_, cond}
 use native.Mathlib.Omega.{arith}
-use lib.Ieee.{Float, nan, inf, fin, sub, mul, div, lt, le, isNan, ofBits}
-use Rattle.relay_math.specs.F32.{_⊖_, f32, 0·0, 1·0, 0·5, isFinite, finiteOr, finiteAbove}
+use lib.Ieee.{Float, nan, inf, fin, sub, lt, le, isNan, ofBits}
+use Rattle.relay_math.specs.F32.{_⊖_, 0·0, isFinite, finiteOr, finiteAbove}
 use Rattle.laws.proofs.Tests.{no, held, both}
 use Rattle.relay_math.proofs.Order.{finite-number, le-is-not-above}
 use Rattle.relay_geo.specs.declared.set.RecoverableSet.{RecoverableSet}
-use Rattle.relay_geo.specs.Set.{newSet, minusInfinity, unknown, psiMargin, rateMargin, smaller, margin}
+use Rattle.relay_geo.specs.Set.{minusInfinity, unknown, psiMargin, rateMargin, smaller, margin}
 
 -- ---- finite or minus infinity, and nothing else
 
@@ -93,12 +93,3 @@ nan-psi-max-leaves-rate-part set psi w k e = rate-part-alone set psi w k (rw e (
 pub infinite-psi-max-leaves-rate-part : (set : RecoverableSet) (psi eOmegaSq : Float) → known set psi eOmegaSq ≡ true → set .«psi_max» ≡ inf false → margin set psi eOmegaSq ≡ finiteOr (rateMargin set psi eOmegaSq) minusInfinity
 infinite-psi-max-leaves-rate-part set psi w k e =
     rate-part-alone set psi w k (rw e (infinity-under psi (rateMargin set psi w) (both (isFinite psi) (isFinite w) (both (isFinite psi && isFinite w) (finiteAbove 0·0 (set .«lambda_j»)) k .0) .0)))
-
--- ---- a tie of zeros: the rate part, -0, is taken
-
-abbrev -0·0 : Float
--0·0 = f32 0x8000_0000
-
-pub tie-takes-rate-part : margin (newSet -0·0 1·0 0·5) 0·5 0·0 ≡ -0·0
-unfolding margin isFinite lt le sub mul div ofBits
-tie-takes-rate-part = refl

@@ -2,12 +2,9 @@
 use mathlib.Core.Path.{_≡_, refl, sym, _∙_}
 use mathlib.Core.Bool.{Bool, true, false, not, and-false}
 use lib.Ieee.{Float, lt}
-use lib.Ieee.Bits.{is-true}
 use borrow.Author.Tests.{not-false}
 use Rattle.relay_math.specs.F32.{isFinite}
-use Rattle.relay_math.specs.declared.Vec3.{Vec3}
 use Rattle.relay_math.specs.declared.BodyRate.{BodyRate}
-use Rattle.relay_math.proofs.Finite.{or-zero-finite}
 use Rattle.relay_geo.specs.declared.shield.SimplexShield.{SimplexShield}
 use Rattle.relay_geo.specs.Vectors.{sanitise3}
 use Rattle.latch.specs.Latch.{releases, engages, latch}
@@ -66,8 +63,3 @@ module _ (s : SimplexShield) (m : Float) (agile fallback : BodyRate) where
   pub fallback-passed-on : step s m agile fallback .fallback ≡ true → step s m agile fallback .command ≡ record { 0 = sanitise3 (fallback .0) }
   unfolding step
   fallback-passed-on e = rw e
-
--- each number of either is finite
-pub sanitised-finite : (v : Vec3) → (isFinite (sanitise3 v .0) ≡ true) × (isFinite (sanitise3 v .1) ≡ true) × (isFinite (sanitise3 v .2) ≡ true)
-unfolding sanitise3
-sanitised-finite v = (is-true _ (or-zero-finite (v .0)), is-true _ (or-zero-finite (v .1)), is-true _ (or-zero-finite (v .2)))

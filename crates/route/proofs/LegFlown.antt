@@ -10,14 +10,12 @@ use lib.Dec.{T}
 use lib.Ieee.{Float, nan, inf, fin, binary32, fits, lt, le, isNan, add, sum, ofBits}
 use lib.Ieee.Fits.{cond-fits}
 use Rattle.words.proofs.Back.{float-fits}
-use Rattle.relay_math.specs.F32.{_⊕_, _⊖_, 0·0, 1e-3, isFinite, finiteAbove, unsigned, clamp, Within}
+use Rattle.relay_math.specs.F32.{_⊕_, _⊖_, 0·0, 1e-3, isFinite, finiteAbove, unsigned, Within}
 use lib.Ieee.Bits.{is-true}
-use Rattle.laws.proofs.Tests.{no}
 use Rattle.relay_math.proofs.Order.{Number, finite-number, le-trans, le-of-not-lt, le-refl-of, not-lt-of-le, within-finite}
 use Rattle.relay_math.proofs.Sums.{round-own}
 use Rattle.relay_traj.specs.Governor.{Running}
-use Rattle.relay_traj.specs.Quintic.{Lasts, mend, ofMended, quintic, timeOn}
-use Rattle.relay_traj.specs.Segment.{segment}
+use Rattle.relay_traj.specs.Quintic.{Lasts, timeOn}
 use Rattle.relay_traj.proofs.Clock.{never-nan}
 use Rattle.relay_traj.proofs.Leg.{mended-lasts}
 use Rattle.joint_tick.specs.SetUp.{segmentOf}
@@ -156,8 +154,3 @@ module _ (b : List ℕ) where
           let f = flown b n time in
           let w = within-finite 0·0 (durationOf b (f .leg)) (f .at) (unfold isFinite ofBits in tt) (duration-lasts (f .leg) .0) (time-on-the-leg n) in
           finite-time-as-it-is (segmentOf (legOf b (f .leg))) (f .at) (is-true (isFinite (f .at)) w)
-
-  -- on each axis the leg lasts as long
-  pub axes-last : (i : ℕ) → let g = segmentOf (legOf b i) in (g .0 .«t_end» ≡ durationOf b i) × (g .1 .«t_end» ≡ durationOf b i) × (g .2 .«t_end» ≡ durationOf b i)
-  unfolding segmentOf segment durationOf quintic mend ofMended
-  axes-last i = (refl, refl, refl)

@@ -9,9 +9,7 @@ pub intact-spec : {M : Type 1} → statement M
 unfolding intact
 intact-spec =
     tie.close (tie.spec
-    (λ c κs. search needs)
-    (λ c κs. search needs)
-    (λ c. search needs)
+    (λ c κs. search needs) (λ c κs. search needs) (λ c. search needs)
     (λ c. simp (
       ← c .before .word-at2 .ensures,
       ← c .before .before .word-at .ensures,

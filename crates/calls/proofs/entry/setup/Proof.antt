@@ -15,10 +15,7 @@ setup-spec =
       ne-eqb _ _ (c .if2 .taken),
       eq-eqb _ _ (c .before .if1 .left),
     ))
-    (λ c κs. search needs)
-    (λ c κs. search needs)
-    (λ c κs. search needs)
-    (λ c. search needs)
+    (λ c κs. search needs) (λ c κs. search needs) (λ c κs. search needs) (λ c. search needs)
     (λ c. simp (
       c .before .before .put-state .ensures,
       c .before .before .before .before .set-up .ensures,

@@ -30,8 +30,7 @@ tick-spec =
     (λ c κs. let e = c in sized _ _ _ (accepted (e .before .before .tick-refusal .ensures) (e .before .is-done .ensures) (e .if1 .left)) .1)
     (λ c κs. let e = c .before .before in sized _ _ _ (accepted (e .before .before .tick-refusal .ensures) (e .before .is-done .ensures) (e .if1 .left)) .0)
     (λ c κs. let e = c .before .before .before .before in sized _ _ _ (accepted (e .before .before .tick-refusal .ensures) (e .before .is-done .ensures) (e .if1 .left)) .0)
-    (λ c κs. search needs)
-    (λ c κs. search needs)
+    (λ c κs. search needs) (λ c κs. search needs)
     (λ c κs. let e = c .before .before .before .before .before .before .before .before .before in
     let n = sized _ _ _ (accepted (e .before .before .tick-refusal .ensures) (e .before .is-done .ensures) (e .if1 .left)) in (n .0, n .2))
     (λ c. search needs) (λ c. search needs)

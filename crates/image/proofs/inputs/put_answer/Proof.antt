@@ -9,11 +9,7 @@ pub put-answer-spec : {M : Type 1} → statement M
 unfolding answerOf
 put-answer-spec =
     tie.close (tie.spec
-    (λ c κs. search needs)
-    (λ c κs. search needs)
-    (λ c κs. search needs)
-    (λ c κs. search needs)
-    (λ c. search needs)
+    (λ c κs. search needs) (λ c κs. search needs) (λ c κs. search needs) (λ c κs. search needs) (λ c. search needs)
     (λ c. whole (then (then (then (c .before .before .before .before .before .before .before .before .before .before .before .before .before .before .put-vec .ensures)
     (c .before .before .before .before .before .before .before .before .before .before .put-vec2 .ensures) refl)
     (c .before .before .before .before .before .before .put-flag .ensures) refl)

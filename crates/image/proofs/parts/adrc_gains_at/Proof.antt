@@ -7,12 +7,7 @@ pub adrc-gains-at-spec : {M : Type 1} → statement M
 unfolding adrcGainsAt
 adrc-gains-at-spec =
     tie.close (tie.spec
-    (λ c κs. search needs)
-    (λ c. search needs)
-    (λ c κs. search needs)
-    (λ c. search needs)
-    (λ c κs. search needs)
-    (λ c. search needs)
+    (λ c κs. search needs) (λ c. search needs) (λ c κs. search needs) (λ c. search needs) (λ c κs. search needs) (λ c. search needs)
     (λ c κs. search needs)
     (λ c. simp (
       c .float-at4 .ensures,

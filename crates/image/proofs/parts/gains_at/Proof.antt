@@ -7,10 +7,5 @@ pub gains-at-spec : {M : Type 1} → statement M
 unfolding gainsAt
 gains-at-spec =
     tie.close (tie.spec
-    (λ c κs. search needs)
-    (λ c. search needs)
-    (λ c κs. search needs)
-    (λ c. search needs)
-    (λ c. search needs)
-    (λ c κs. search needs)
+    (λ c κs. search needs) (λ c. search needs) (λ c κs. search needs) (λ c. search needs) (λ c. search needs) (λ c κs. search needs)
     (λ c. simp (c .vec-at3 .ensures, c .before .vec-at2 .ensures, c .before .before .vec-at .ensures)))

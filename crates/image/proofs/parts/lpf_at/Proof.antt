@@ -7,10 +7,5 @@ pub lpf-at-spec : {M : Type 1} → statement M
 unfolding lpfAt
 lpf-at-spec =
     tie.close (tie.spec
-    (λ c κs. search needs)
-    (λ c. search needs)
-    (λ c κs. search needs)
-    (λ c. search needs)
-    (λ c. search needs)
-    (λ c κs. search needs)
+    (λ c κs. search needs) (λ c. search needs) (λ c κs. search needs) (λ c. search needs) (λ c. search needs) (λ c κs. search needs)
     (λ c. simp (c .biquad-at3 .ensures, c .before .biquad-at2 .ensures, c .before .before .biquad-at .ensures)))

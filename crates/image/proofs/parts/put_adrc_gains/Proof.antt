@@ -7,9 +7,6 @@ use Rattle.image.proofs.parts.put_adrc_gains.Tie as tie
 pub put-adrc-gains-spec : {M : Type 1} → statement M
 put-adrc-gains-spec =
     tie.close (tie.spec
-    (λ c κs. search needs)
-    (λ c. search needs)
-    (λ c κs. search needs)
-    (λ c. search needs)
+    (λ c κs. search needs) (λ c. search needs) (λ c κs. search needs) (λ c. search needs)
     (λ c. (then (c .before .before .before .before .before .before .put-three .ensures)
     (c .before .before .put-float .ensures) refl)))

@@ -8,12 +8,7 @@ use Rattle.image.proofs.parts.put_gains.Tie as tie
 pub put-gains-spec : {M : Type 1} → statement M
 put-gains-spec =
     tie.close (tie.spec
-    (λ c κs. search needs)
-    (λ c. search needs)
-    (λ c κs. search needs)
-    (λ c. search needs)
-    (λ c. search needs)
-    (λ c κs. search needs)
+    (λ c κs. search needs) (λ c. search needs) (λ c κs. search needs) (λ c. search needs) (λ c. search needs) (λ c κs. search needs)
     (λ c. search needs)
     (λ c. (then (then (c .before .before .before .before .before .before .before .before .before .before .put-vec .ensures)
     (c .before .before .before .before .before .before .put-vec2 .ensures) refl)

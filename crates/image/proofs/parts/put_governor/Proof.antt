@@ -7,9 +7,6 @@ use Rattle.image.proofs.parts.put_governor.Tie as tie
 pub put-governor-spec : {M : Type 1} → statement M
 put-governor-spec =
     tie.close (tie.spec
-    (λ c κs. search needs)
-    (λ c. search needs)
-    (λ c κs. search needs)
-    (λ c. search needs)
+    (λ c κs. search needs) (λ c. search needs) (λ c κs. search needs) (λ c. search needs)
     (λ c. (then (c .before .before .before .before .before .before .put-three .ensures)
     (c .before .before .put-float .ensures) refl)))

@@ -8,12 +8,7 @@ use Rattle.image.proofs.parts.put_lpf.Tie as tie
 pub put-lpf-spec : {M : Type 1} → statement M
 put-lpf-spec =
     tie.close (tie.spec
-    (λ c κs. search needs)
-    (λ c. search needs)
-    (λ c κs. search needs)
-    (λ c. search needs)
-    (λ c. search needs)
-    (λ c κs. search needs)
+    (λ c κs. search needs) (λ c. search needs) (λ c κs. search needs) (λ c. search needs) (λ c. search needs) (λ c κs. search needs)
     (λ c. search needs)
     (λ c. (then (then (c .before .before .before .before .before .before .before .before .before .before .put-biquad .ensures)
     (c .before .before .before .before .before .before .put-biquad2 .ensures) refl)

@@ -7,10 +7,5 @@ pub rate-at-spec : {M : Type 1} → statement M
 unfolding rateAt
 rate-at-spec =
     tie.close (tie.spec
-    (λ c κs. search needs)
-    (λ c. search needs)
-    (λ c κs. search needs)
-    (λ c. search needs)
-    (λ c. search needs)
-    (λ c κs. search needs)
+    (λ c κs. search needs) (λ c. search needs) (λ c κs. search needs) (λ c. search needs) (λ c. search needs) (λ c κs. search needs)
     (λ c. simp (c .axis-at3 .ensures, c .before .axis-at2 .ensures, c .before .before .axis-at .ensures)))

@@ -7,10 +7,5 @@ pub segment-at-spec : {M : Type 1} → statement M
 unfolding segmentAt
 segment-at-spec =
     tie.close (tie.spec
-    (λ c κs. search needs)
-    (λ c. search needs)
-    (λ c κs. search needs)
-    (λ c. search needs)
-    (λ c. search needs)
-    (λ c κs. search needs)
+    (λ c κs. search needs) (λ c. search needs) (λ c κs. search needs) (λ c. search needs) (λ c. search needs) (λ c κs. search needs)
     (λ c. simp (c .quintic-at3 .ensures, c .before .quintic-at2 .ensures, c .before .before .quintic-at .ensures)))

@@ -7,9 +7,5 @@ pub set-at-spec : {M : Type 1} → statement M
 unfolding setAt
 set-at-spec =
     tie.close (tie.spec
-    (λ c κs. search needs)
-    (λ c. search needs)
-    (λ c κs. search needs)
-    (λ c. search needs)
-    (λ c κs. search needs)
+    (λ c κs. search needs) (λ c. search needs) (λ c κs. search needs) (λ c. search needs) (λ c κs. search needs)
     (λ c. simp (c .float-at3 .ensures, c .before .float-at2 .ensures, c .before .before .float-at .ensures)))

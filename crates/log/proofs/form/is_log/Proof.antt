@@ -24,8 +24,7 @@ is-log-spec =
       eq-eqb _ _ (c .before .before .if2 .left),
       le-leb _ _ (s .before .if1 .left),
     ))
-    (λ c κs. search needs)
-    (λ c. search needs)
+    (λ c κs. search needs) (λ c. search needs)
     (λ c. let n = c .before .before .before in let s = n .before .before in simp (
       ← n .record-count .ensures,
       ← c .before .from-end2 .ensures,
@@ -35,8 +34,7 @@ is-log-spec =
       eq-eqb _ _ (n .before .if2 .left),
       le-leb _ _ (s .before .if1 .left),
     ))
-    (λ c. search needs)
-    (λ c. search needs)
+    (λ c. search needs) (λ c. search needs)
     (λ c. let n = c .before .before .before in let s = n .before .before in simp (
       ← n .record-count .ensures,
       ← c .before .from-end2 .ensures,

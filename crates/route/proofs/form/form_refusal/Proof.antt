@@ -22,8 +22,7 @@ form-refusal-spec =
       ne-eqb _ _ (c .before .if2 .left),
       le-ltb _ _ (n .before .if1 .left),
     ))
-    (λ c κs. search needs)
-    (λ c. search needs)
+    (λ c κs. search needs) (λ c. search needs)
     (λ c. let n = c .before .before .before .before in simp (
       ← n .leg-count .ensures,
       ← c .before .bytes-back .ensures,
@@ -32,8 +31,7 @@ form-refusal-spec =
       ne-eqb _ _ (c .before .before .before .if2 .left),
       le-ltb _ _ (n .before .if1 .left),
     ))
-    (λ c. search needs)
-    (λ c. search needs)
+    (λ c. search needs) (λ c. search needs)
     (λ c. let b = c .before .before in let n = b .before .before .before in simp (
       ← n .leg-count .ensures,
       ← b .bytes-back .ensures,

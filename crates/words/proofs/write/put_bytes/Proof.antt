@@ -20,11 +20,9 @@ put-bytes-spec =
     tie.close
     (tie.spec Inv-loop μ-loop
     (λ c. (omega arith, refl))
-    (λ c. search needs)
-    (λ c. search needs)
+    (λ c. search needs) (λ c. search needs)
     (λ c. rw (c .before .before .loop .inv .1) (simp length-sets (search needs)))
-    (λ c. search needs)
-    (λ c. search needs)
+    (λ c. search needs) (λ c. search needs)
     (λ c. (omega arith, rw (c .before .before .loop .inv .1) (one-more _ _ _ _ (c .before .loop-test .taken))))
     (λ c. ap length (c .before .loop .inv .1) ∙ simp length-sets)
     (λ c. c .before .loop .inv .1 ∙ rw (take-all _ _ (c .loop-test .left))))

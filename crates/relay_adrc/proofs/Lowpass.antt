@@ -1,14 +1,13 @@
 -- The biquad. Assumes nothing.
 use mathlib.Core.Path.{_≡_, refl, sym, ap, _∙_}
 use mathlib.Core.Bool.{Bool, true, false, cond, not, _&&_, _||_}
-use lib.Dec.{T, ltb}
-use Prim.Native.Nat.{ℕ, zero, suc, _+_, _*_, _^_}
-use lib.Ieee.{Float, nan, inf, fin, binary32, lt, le, neg, add, sub, mul, div, round, units, odd, up, down, isNan, ofBits}
-use lib.Ieee.Fits.{round-is}
+use lib.Dec.{T}
+use Prim.Native.Nat.{_*_}
+use lib.Ieee.{Float, nan, inf, fin, lt, le, neg, add, sub, mul, div, up, down, isNan, ofBits}
 use Rattle.relay_math.specs.F32.{_⊗_, _⊘_, f32, 0·0, 0·5, 1·0, 2·0, isFinite}
 use Rattle.relay_math.specs.Steps.{sinf, cosf, sincos}
 use Rattle.laws.proofs.Tests.{no}
-use Rattle.relay_math.proofs.Signs.{not-nan}
+use Rattle.relay_math.proofs.Signs.{not-nan, of-rounded}
 use Rattle.relay_math.proofs.Order.{Number, le-is-not-above}
 use Rattle.relay_math.proofs.Finite.{or-zero-finite}
 use Rattle.relay_adrc.specs.declared.biquad.Biquad.{Biquad}
@@ -37,24 +36,12 @@ only-then fc fs q = by (passesThrough fc fs) q
     by false q = no (ap (lt 0·0) (sym (ap (λ (b : Biquad). b .b2) q) ∙ ap (λ (b : Biquad). b .b0) q))
 
 -- what is rounded is no NaN, so half of a number above zero is none
-units-number : (s : Bool) (q k : ℕ) → Number (units binary32 s q k)
-unfolding units odd isNan
-units-number s q k = by (ltb (q * 2 ^ k) (2 ^ (149 + 128))) q
-  where
-    by : (t : Bool) (n : ℕ) → Number (cond t (odd 25 s n k 149) (inf s))
-    by false n = tt
-    by true zero = tt
-    by true (suc n) = tt
-
-rounded : (s : Bool) (n d : ℕ) → Number (round binary32 s n d)
-rounded s n d = rw (round-is binary32 s n d) (units-number s _ _)
-
 half : (fs : Float) → lt 0·0 fs ≡ true → Number (0·5 ⊗ fs)
 unfolding lt mul isNan ofBits
 half nan p = no p
 half (inf true) p = no p
 half (inf false) p = tt
-half (fin s m e) p = rounded (not (not s)) (1 * 1 * (m * up e)) (2 * down e)
+half (fin s m e) p = of-rounded Number (not (not s)) (λ n d. tt) tt (1 * 1 * (m * up e)) (2 * down e)
 
 -- "passes through unless fc > 0, fs > 0 and fc < 0.5 fs": where the first two hold no NaN is left, so that `fc >= 0.5 fs` is the rest's denial
 pub passes-unless : (fc fs : Float) → passesThrough fc fs ≡ not (lt 0·0 fc && lt 0·0 fs && lt fc (0·5 ⊗ fs))

@@ -1,16 +1,16 @@
 -- A float against zero, and what it is written as. Assumes nothing.
 use mathlib.Core.Path.{_≡_, refl}
-use mathlib.Core.Bool.{Bool, true, false, not, true≢false}
-use Prim.Native.Nat.{ℕ, zero, suc, _+_, _*_, _<_}
+use mathlib.Core.Bool.{Bool, true, false, not, cond, true≢false}
+use Prim.Native.Nat.{ℕ, zero, suc, _+_, _*_, _^_, _<_}
 use native.Mathlib.Nat.{mul-pos, zero-lt-suc}
 use native.Mathlib.Omega.{arith}
 use borrow.Author.Tests.{lt-ltb, le-ltb, ne-eqb}
 use lib.IntN.{ℤ, pos}
-use lib.Dec.{T}
-use lib.Ieee.{Float, nan, inf, fin, binary32, fits, isNan, up, down, lt, eq}
+use lib.Dec.{T, ltb}
+use lib.Ieee.{Float, nan, inf, fin, binary32, fits, isNan, up, down, round, units, odd, lt, eq}
 use lib.Ieee.Back.{whole-unique}
 use lib.Ieee.Exact.{HasValue}
-use lib.Ieee.Fits.{up-pos}
+use lib.Ieee.Fits.{up-pos, round-is}
 use lib.Ieee.Positive.{positive}
 use Rattle.laws.proofs.Tests.{no}
 use Rattle.relay_math.specs.Sqrt.{natural}
@@ -46,7 +46,7 @@ not-nan nan t = no t
 not-nan (inf s) t = tt
 not-nan (fin s m e) t = tt
 
--- ---- what a float is written as: one that is not below zero, one of the value a / c, a positive one
+-- ---- what a float is written as: one that is not below zero, one of the value a / c, a positive one, one that was rounded
 pub of-natural : (P : Float → Type 0) → ((m : ℕ) (e : ℤ) → P (fin false m e)) → (x : Float) → T (natural x) → P x
 of-natural P h nan p = absurd p
 of-natural P h (inf s) p = absurd p
@@ -65,3 +65,15 @@ of-value P a c h nan v = absurd v
 of-value P a c h (inf s) v = absurd v
 of-value P a c h (fin true m e) v = absurd (true≢false (v .0))
 of-value P a c h (fin false m e) v = h m e v
+
+of-units : (P : Float → Type 0) (s : Bool) → ((m : ℕ) (e : ℤ) → P (fin s m e)) → P (inf s) → (q k : ℕ) → P (units binary32 s q k)
+unfolding units odd
+of-units P s f i q k = by (ltb (q * 2 ^ k) (2 ^ 277)) q
+  where
+    by : (t : Bool) (q : ℕ) → P (cond t (odd 25 s q k 149) (inf s))
+    by false q = i
+    by true zero = f _ _
+    by true (suc q) = f _ _
+
+pub of-rounded : (P : Float → Type 0) (s : Bool) → ((m : ℕ) (e : ℤ) → P (fin s m e)) → P (inf s) → (a c : ℕ) → P (round binary32 s a c)
+of-rounded P s f i a c = rw (round-is binary32 s a c) (of-units P s f i _ _)

@@ -1,20 +1,21 @@
 -- A time below a sum, less what was added to, lies within 0 and what was added: no f32 lies between a sum and its rounding. Assumes nothing.
 use mathlib.Core.Path.{_≡_, refl, sym, _∙_, subst}
 use mathlib.Core.Logic.{inl, inr}
-use mathlib.Core.Bool.{Bool, true, false, cond}
-use Prim.Native.Nat.{ℕ, zero, suc, _+_, _-_, _*_, _/_, _%_, _^_, _≤_, _<_, compare}
+use mathlib.Core.Bool.{true, false}
+use Prim.Native.Nat.{ℕ, _+_, _-_, _*_, _≤_, _<_}
 use native.Mathlib.Nat.{mul-pos, mul-comm, mul-assoc, mul-left-comm, add-mul, mul-sub, le-of-lt}
 use native.Mathlib.Omega.{arith}
 use borrow.Author.Tests.{le-ltb, ltb-false}
-use lib.Dec.{T, ltb}
+use lib.Dec.{T}
 use lib.IntN.{ℤ, pos}
-use lib.Ieee.{Float, nan, inf, fin, binary32, fits, up, down, size, nearest, round, units, odd, sum, add, sub, neg, le, lt, ofBits}
+use lib.Ieee.{Float, nan, inf, fin, binary32, fits, up, down, round, sum, add, sub, neg, le, lt, ofBits}
 use lib.Ieee.Fits.{down-pos}
 use lib.Ieee.Order.{round-mono}
 use lib.Ieee.Positive.{above-of-le}
 use Rattle.relay_math.specs.F32.{_⊕_, _⊖_, 0·0, 1e-3, isFinite, unsigned, Within}
 use Rattle.laws.proofs.Tests.{no, le-or-lt}
 use Rattle.relay_math.proofs.Order.{le-trans, not-lt-of-le}
+use Rattle.relay_math.proofs.Signs.{of-rounded}
 use Rattle.relay_math.proofs.Sums.{round-zero, round-own, round-above}
 use Rattle.relay_traj.specs.Quintic.{Lasts}
 
@@ -47,27 +48,6 @@ under m e a c f C h =
 
 -- ---- signs
 
-odd-unsigned : (d q k l : ℕ) → T (unsigned (odd d false q k l))
-unfolding odd
-odd-unsigned d zero k l = tt
-odd-unsigned d (suc q) k l = tt
-
-units-unsigned : (q k : ℕ) → T (unsigned (units binary32 false q k))
-unfolding units
-units-unsigned q k = go (ltb (q * 2 ^ k) (2 ^ 277))
-  where
-    go : (t : Bool) → T (unsigned (cond t (odd 25 false q k 149) (inf false)))
-    go true = odd-unsigned 25 q k 149
-    go false = tt
-
-round-unsigned : (a c : ℕ) → T (unsigned (round binary32 false a c))
-unfolding round
-round-unsigned a c =
-    let n = a * 2 ^ 149 in
-    let k = size (n / c) - 24 in
-    let u = c * 2 ^ k in
-    units-unsigned (nearest (n / u) (compare (n % u * 2) u)) k
-
 -- a lasting duration has no minus sign
 pub lasts-plus : (m : ℕ) (e : ℤ) → T (le 1e-3 (fin true m e)) → ⊥
 unfolding ofBits
@@ -84,7 +64,7 @@ sum-unsigned (fin true m e) d u l = absurd u
 sum-unsigned (fin false m e) nan u l = absurd (l .0)
 sum-unsigned (fin false m e) (inf s) u l = absurd (l .0)
 sum-unsigned (fin false m e) (fin true n d) u l = absurd (lasts-plus n d (l .1))
-sum-unsigned (fin false m e) (fin false n d) u l = round-unsigned (m * up e * down d + n * up d * down e) (down e * down d)
+sum-unsigned (fin false m e) (fin false n d) u l = of-rounded (λ (x : Float). T (unsigned x)) false (λ k c. tt) tt (m * up e * down d + n * up d * down e) (down e * down d)
 
 -- ---- the difference
 

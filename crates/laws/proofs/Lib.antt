@@ -2,3 +2,4 @@
 pub mod Tests
 pub mod Determined
 pub mod Lent
+pub mod Walk

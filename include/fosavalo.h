@@ -79,7 +79,7 @@ static inline uint32_t fosavalo_float_environment(void) {
     return (down == 0x3f800000u && up == 0x3f800002u ? 0u : FOSAVALO_ROUNDING_WRONG) + (subnormal == 0x00000002u ? 0u : FOSAVALO_SUBNORMALS_WRONG);
 }
 
-/* Sine and cosine of x, in radians: within 2^-22 of the exact value up to 128 in size; +0.0 beyond it, for an infinity and for a NaN.
+/* Sine and cosine of x, in radians: within 2^-23 of the exact value up to 128 in size; +0.0 beyond it, for an infinity and for a NaN.
  * The sine of a zero is that zero. */
 float fosavalo_sinf(float x);
 float fosavalo_cosf(float x);

@@ -2,32 +2,30 @@
 use mathlib.Core.Path.{_≡_, refl, sym, ap, _∙_}
 use mathlib.Core.Bool.{Bool, true, false, not, cond}
 use mathlib.Core.Logic.{inl, inr}
-use Prim.Native.Nat.{ℕ, suc, _+_, _*_, _-_, _/_, _%_, _^_, _≤_, _<_}
+use Prim.Native.Nat.{ℕ, zero, suc, _+_, _*_, _-_, _/_, _%_, _^_, _≤_, _<_}
 use native.Mathlib.Nat.{le-of-lt, lt-of-lt-of-le, lt-of-le-of-lt, lt-of-not-le, not-le-of-lt, zero-lt-suc}
 use native.Mathlib.Nat.{mul-comm, mul-assoc, add-mul, mul-sub, mul-div-mul-right, mul-le-mul-right, le-of-mul-le-mul-right, mul-lt-mul-of-pos-right, add-mul-mod-self-left, mod-lt, mul-pos, div-mul-le-self, lt-div-mul-add}
 use native.Mathlib.Omega.{arith}
 use borrow.Author.Tests.{lt-ltb, le-ltb, le-leb, leb-true, ltb-true, ltb-false}
-use lib.IntN.{ℤ}
-use lib.Dec.{T, leb, ltb, lit<, lit≤, lt→ltb}
+use lib.IntN.{ℤ, pos, negsuc}
+use lib.Dec.{T, leb, ltb, lit<, lit≤, leb→le}
 use lib.Pow.{pow-mono, shl-lt}
-use lib.Ieee.{Float, nan, inf, fin, binary32, up, down, fits, isNan, size, toBits, le}
+use lib.Ieee.{Float, nan, inf, fin, binary32, up, down, fits, isNan, size, toBits, lt, le, eq}
 use lib.Ieee.Digits.{size-lt, size-le}
 use lib.Ieee.Fits.{down-pos}
-use lib.Ieee.Positive.{positive, between, le→cross}
-use Rattle.relay_math.specs.declared.angles.Reduced.{Reduced}
 use Rattle.relay_math.specs.Exact.{gap, P149, turns, rest, back, quarter}
-use Rattle.relay_math.specs.F32.{grains}
+use Rattle.relay_math.specs.F32.{grains, fabsf}
 use Rattle.relay_math.specs.Steps.{Tiny, Most, fixed, P48, reduceOf}
 use Rattle.laws.proofs.Tests.{le-or-lt}
-use Rattle.relay_math.proofs.Signs.{of-positive}
+use Rattle.relay_math.proofs.Signs.{le-is}
 use Rattle.relay_math.proofs.Grains.{shift, placed, grains-of, grains-exact, reads}
 
--- ---- a float from 2 ^ -12 to 2 ^ 13
-pub record Parts (a : Float) : Type 0 where
-  pub number : T (not (isNan a))
-  pub low : 115 ≤ toBits binary32 a / 8388608
-  pub high : toBits binary32 a / 8388608 ≤ 140
-  pub is : grains a ≡ fixed a * 2 ^ 101
+-- ---- a float of size 2 ^ -12 to 2 ^ 13
+pub record Parts (x : Float) : Type 0 where
+  pub number : T (not (isNan x))
+  pub low : 115 ≤ toBits binary32 x / 8388608 % 256
+  pub high : toBits binary32 x / 8388608 % 256 ≤ 140
+  pub is : grains x ≡ fixed x * 2 ^ 101
 
 -- A / D = n / L against 1 / c and c
 pub at-least : (A D n L c : ℕ) → 0 < D → A * L ≡ n * D → D ≤ A * c → L ≤ n * c
@@ -39,10 +37,16 @@ at-least A D n L c Z e h =
 at-most : (A D n L c : ℕ) → 0 < D → A * L ≡ n * D → A ≤ c * D → n ≤ c * L
 at-most A D n L c Z e h = let i : A * L ≤ c * D * L = mul-le-mul-right L h in le-of-mul-le-mul-right {k = D} (omega (arith, i, e)) Z
 
-pub parts : (m : ℕ) (e : ℤ) → T (fits binary32 (fin false m e)) → down e ≤ m * up e * 4096 → m * up e ≤ 8192 * down e → Parts (fin false m e)
-unfolding fixed isNan
-parts m e f h k =
-    let b = toBits binary32 (fin false m e) in
+-- the sign is one digit above the fields
+fields : (s : Bool) (m : ℕ) (e : ℤ) (b : ℕ) → toBits binary32 (fin false m e) ≡ b → b < 2147483648
+    → (toBits binary32 (fin s m e) % 8388608 ≡ b % 8388608) × (toBits binary32 (fin s m e) / 8388608 % 256 ≡ b / 8388608)
+unfolding toBits
+fields true m e b h k = omega arith
+fields false m e b h k = omega arith
+
+pub parts : (s : Bool) (m : ℕ) (e : ℤ) → T (fits binary32 (fin s m e)) → down e ≤ m * up e * 4096 → m * up e ≤ 8192 * down e → Parts (fin s m e)
+unfolding fixed isNan grains fits
+parts s m e f h k =
     let n = grains (fin false m e) in
     let d = reads m e f in
     let E = grains-exact false m e f in
@@ -51,18 +55,19 @@ parts m e f h k =
     let u : size n ≤ 163 = size-le n 163 (lt-of-le-of-lt (at-most (m * up e) (down e) n (2 ^ 149) 8192 (down-pos e) E k) (lit< tt)) in
     let x : (114 ≤ d .k) × (d .k ≤ 139) = omega (arith, d .counted, u, v) in
     let q : 8388608 ≤ d .q = d .full (omega (arith, x)) in
-    let t : b % 8388608 + 8388608 ≡ d .q = omega (arith, d .bits, d .few, q) in
-    let s : b / 8388608 ≡ d .k + 1 = omega (arith, d .bits, d .few, q) in
-    let w : b / 8388608 - 102 ≡ d .k - 101 = omega (arith, s, x) in
-    record { number = tt; low = omega (arith, s, x); high = omega (arith, s, x); is = rw (t, w) (d .is ∙ shift (d .q) (d .k) 101 (omega (arith, x))) }
+    let b = fields s m e (d .k * 8388608 + d .q) (d .bits) (omega (arith, d .few, x)) in
+    let t : toBits binary32 (fin s m e) % 8388608 + 8388608 ≡ d .q = omega (arith, b .0, d .few, q) in
+    let o : toBits binary32 (fin s m e) / 8388608 % 256 ≡ d .k + 1 = omega (arith, b .1, d .few, q) in
+    let w : toBits binary32 (fin s m e) / 8388608 % 256 - 102 ≡ d .k - 101 = omega (arith, o, x) in
+    record { number = tt; low = omega (arith, o, x); high = omega (arith, o, x); is = rw (t, w) (d .is ∙ shift (d .q) (d .k) 101 (omega (arith, x))) }
 
-pub known : (a : Float) → T (fits binary32 a) → T (le Tiny a) → T (le a Most) → Parts a
-known a f h k =
-    of-positive (λ (a : Float). T (le Tiny a) → T (le a Most) → Parts a)
-    (λ m e f h k.
-    let p : T (positive (fin false (suc m) e)) = lt→ltb 0 (suc m) (zero-lt-suc m) in
-    parts (suc m) e f (omega (arith, le→cross Tiny (fin false (suc m) e) tt p h)) (omega (arith, le→cross (fin false (suc m) e) Most p tt k)))
-    a f (between Tiny a Most tt tt h k) h k
+pub known : (x : Float) → T (fits binary32 x) → T (le Tiny (fabsf x)) → T (le (fabsf x) Most) → Parts x
+unfolding fabsf
+known nan f h k = unfold le lt eq in absurd h
+known (inf s) f h k = unfold le lt eq in absurd k
+known (fin s m e) f h k =
+    parts s m e f (omega (arith, leb→le (1 * 1 * down e) (m * up e * 4096) (rw (le-is 1 (negsuc 11) m e) at h)))
+    (omega (arith, leb→le (m * up e * 1) (1 * 8192 * down e) (rw (le-is m e 1 (pos 13)) at k)))
 
 -- ---- what u grains turn to: n modulo 4, the rest, and whether it is negative
 pub record Turn (u n R : ℕ) (b : Bool) : Type 0 where
@@ -130,29 +135,21 @@ ltb-mul a b g G = go (ltb a b) refl
     go false h = le-ltb _ _ (mul-le-mul-right g (ltb-false a b h))
 
 module _ (X : ℕ) where
-  reduced-is : reduceOf X ≡ record { n = count X % 4; r = gap X (count X * P48); back = ltb X (count X * P48) }
-  unfolding reduceOf
-  reduced-is = go (ltb X (count X * P48)) refl
-    where
-      go : (t : Bool) → ltb X (count X * P48) ≡ t
-          → _≡_ {A = Reduced} (cond t record { n = count X % 4; r = count X * P48 - X; back = true } record { n = count X % 4; r = X - count X * P48; back = false })
-          record { n = count X % 4; r = gap X (count X * P48); back = t }
-      go true h = let l : count X * P48 - X ≡ gap X (count X * P48) = omega (arith, ltb-true X (count X * P48) h) in λ i. record { n = count X % 4; r = l i; back = true }
-      go false h = let l : X - count X * P48 ≡ gap X (count X * P48) = omega (arith, ltb-false X (count X * P48) h) in λ i. record { n = count X % 4; r = l i; back = false }
-
   pub few : reduceOf X .n < 4
-  few = rw reduced-is (mod-lt (count X) (lit< tt))
+  unfolding reduceOf
+  few = mod-lt (count X) (lit< tt)
 
-  pub small : reduceOf X .r < 281474976710656
-  small = rw reduced-is (omega arith)
+  pub small : reduceOf X .r ≤ 0xC90FDAA22168
+  unfolding reduceOf
+  small = omega arith
 
   turns-units : turns (X * 2 ^ 101) ≡ count X
   unfolding turns
   turns-units = turns-is X (2 ^ 101) (lit< tt)
 
   pub turn : Turn (X * 2 ^ 101) (reduceOf X .n) (reduceOf X .r * 2 ^ 101) (reduceOf X .back)
+  unfolding reduceOf
   turn =
-      rw reduced-is
       (of-turns (X * 2 ^ 101) (count X) (gap X (count X * P48) * 2 ^ 101) (ltb X (count X * P48)) turns-units
       (ap (λ (n : ℕ). gap (X * 2 ^ 101) n) (sym (mul-assoc (count X) P48 (2 ^ 101))) ∙ gap-mul X (count X * P48) (2 ^ 101))
       (ap (λ (n : ℕ). ltb (X * 2 ^ 101) n) (sym (mul-assoc (count X) P48 (2 ^ 101))) ∙ ltb-mul X (count X * P48) (2 ^ 101) (lit< tt)))

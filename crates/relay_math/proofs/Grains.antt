@@ -78,7 +78,7 @@ pattern-is m e n k g h = rw (g, h, zero-add)
 -- written: q of 24 digits
 pub writes : (x : Float) (q k : ℕ) → HasValue x false (q * 2 ^ k) (2 ^ 149) → 2 ^ 23 ≤ q → q < 2 ^ 24 → toBits binary32 x ≡ k * 2 ^ 23 + q
 writes x q k v l h =
-    of-value (λ (x : Float). toBits binary32 x ≡ k * 2 ^ 23 + q) (q * 2 ^ k) (2 ^ 149)
+    of-value (λ (x : Float). toBits binary32 x ≡ k * 2 ^ 23 + q) false (q * 2 ^ k) (2 ^ 149)
     (λ m e v.
     let c : size (q * 2 ^ k) - 24 ≡ k = omega (arith, size-of q k l h) in
     pattern-is m e (q * 2 ^ k) k (grains-of (fin false m e) false (q * 2 ^ k) v) c ∙ ap (λ (x : ℕ). k * 2 ^ 23 + x) (shl-shr q k))

@@ -1,18 +1,18 @@
 -- A float against zero, and what it is written as. Assumes nothing.
-use mathlib.Core.Path.{_≡_, refl}
-use mathlib.Core.Bool.{Bool, true, false, not, cond, true≢false}
+use mathlib.Core.Path.{_≡_, refl, sym, subst}
+use mathlib.Core.Bool.{Bool, true, false, not, cond}
 use Prim.Native.Nat.{ℕ, zero, suc, _+_, _*_, _^_, _<_}
 use native.Mathlib.Nat.{mul-pos, zero-lt-suc}
 use native.Mathlib.Omega.{arith}
 use borrow.Author.Tests.{lt-ltb, le-ltb, ne-eqb}
 use lib.IntN.{ℤ, pos}
-use lib.Dec.{T, ltb}
-use lib.Ieee.{Float, nan, inf, fin, binary32, fits, isNan, up, down, round, units, odd, lt, eq}
+use lib.Dec.{T, leb, ltb}
+use lib.Ieee.{Float, nan, inf, fin, binary32, fits, isNan, up, down, round, units, odd, lt, le, eq}
 use lib.Ieee.Back.{whole-unique}
 use lib.Ieee.Exact.{HasValue}
 use lib.Ieee.Fits.{up-pos, round-is}
 use lib.Ieee.Positive.{positive}
-use Rattle.laws.proofs.Tests.{no}
+use Rattle.laws.proofs.Tests.{no, ordered}
 use Rattle.relay_math.specs.Sqrt.{natural}
 use Rattle.relay_math.specs.Steps.{Zero}
 
@@ -46,6 +46,10 @@ not-nan nan t = no t
 not-nan (inf s) t = tt
 not-nan (fin s m e) t = tt
 
+pub le-is : (m : ℕ) (e : ℤ) (n : ℕ) (d : ℤ) → le (fin false m e) (fin false n d) ≡ leb (m * up e * down d) (n * up d * down e)
+unfolding le lt eq
+le-is m e n d = ordered (m * up e * down d) (n * up d * down e)
+
 -- ---- what a float is written as: one that is not below zero, one of the value a / c, a positive one, one that was rounded
 pub of-natural : (P : Float → Type 0) → ((m : ℕ) (e : ℤ) → P (fin false m e)) → (x : Float) → T (natural x) → P x
 of-natural P h nan p = absurd p
@@ -60,11 +64,10 @@ of-positive P h (fin true m e) f p = absurd p
 of-positive P h (fin false zero e) f p = absurd p
 of-positive P h (fin false (suc m) e) f p = h m e f
 
-pub of-value : (P : Float → Type 0) (a c : ℕ) → ((m : ℕ) (e : ℤ) → HasValue (fin false m e) false a c → P (fin false m e)) → (x : Float) → HasValue x false a c → P x
-of-value P a c h nan v = absurd v
-of-value P a c h (inf s) v = absurd v
-of-value P a c h (fin true m e) v = absurd (true≢false (v .0))
-of-value P a c h (fin false m e) v = h m e v
+pub of-value : (P : Float → Type 0) (s : Bool) (a c : ℕ) → ((m : ℕ) (e : ℤ) → HasValue (fin s m e) s a c → P (fin s m e)) → (x : Float) → HasValue x s a c → P x
+of-value P s a c h nan v = absurd v
+of-value P s a c h (inf t) v = absurd v
+of-value P s a c h (fin t m e) v = subst (λ (t : Bool). HasValue (fin t m e) s a c → P (fin t m e)) (sym (v .0)) (h m e) v
 
 of-units : (P : Float → Type 0) (s : Bool) → ((m : ℕ) (e : ℤ) → P (fin s m e)) → P (inf s) → (q k : ℕ) → P (units binary32 s q k)
 unfolding units odd

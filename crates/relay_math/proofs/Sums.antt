@@ -44,7 +44,7 @@ grains-at m e a c f h =
 
 pub round-own : (m : ℕ) (e : ℤ) → T (fits binary32 (fin false m e)) → round binary32 false (m * up e) (down e) ≡ fin false m e
 round-own m e f =
-    of-value (λ (x : Float). T (fits binary32 x) → x ≡ fin false m e) (m * up e) (down e)
+    of-value (λ (x : Float). T (fits binary32 x) → x ≡ fin false m e) false (m * up e) (down e)
     (λ n d v k. same-grains (fin false n d) (fin false m e) tt tt k f
     (eq-of-mul-eq-mul-right (down e) (down-pos e) (grains (fin false n d)) (grains (fin false m e)) (grains-at n d (m * up e) (down e) k (v .1) ∙ sym (grains-at m e (m * up e) (down e) f refl))))
     (round binary32 false (m * up e) (down e)) (own m e f) (round-fits binary32 false (m * up e) (down e))

@@ -1,13 +1,14 @@
 -- Our own steps for sine and cosine, in whole numbers; docs/ANGLES.md tells them in words. Definitions only.
--- R, the rest, and the results are in units of 2 ^ -48; z, its square, and the polynomials' inner values are fractions in units of 2 ^ -32.
+-- R, the rest, and the results are in units of 2 ^ -48; z, its square, and the coefficients k are fractions in units of 2 ^ -32.
 use Prim.Native.Nat.{ℕ, _+_, _*_, _-_, _/_, _%_, _^_}
-use mathlib.Core.Bool.{Bool, true, false, cond}
+use mathlib.Core.Bool.{Bool, true, false, _&&_, cond}
 use lib.IntN.{pos, negsuc}
-use lib.Dec.{ltb, eqb}
-use lib.Ieee.{Float, fin, binary32, round, neg, lt, le, toBits}
+use lib.Dec.{leb, ltb, eqb}
+use lib.Ieee.{Float, fin, binary32, unlike, round, neg, le, toBits}
 use Rattle.relay_math.specs.declared.angles.SineCosine.{SineCosine}
 use Rattle.relay_math.specs.declared.angles.Reduced.{Reduced}
-use Rattle.relay_math.specs.Exact.{Limit}
+use Rattle.relay_math.specs.Exact.{gap, Limit, upTo, isMinus}
+use Rattle.relay_math.specs.F32.{fabsf}
 
 -- 1, as such a fraction
 abbrev pub F : ℕ
@@ -21,28 +22,25 @@ part z t = z * t / F
 unfoldable pub cutSquare : ℕ → ℕ
 cutSquare R = part (R / 2 ^ 16) (R / 2 ^ 16)
 
--- one Horner step: 1 - z t / d
+-- one Horner step: k - z t
 abbrev pub horner : ℕ → ℕ → ℕ → ℕ
-horner z d t = F - part z t / d
+horner z k t = k - part z t
 
 -- R (1 - q)
 abbrev pub lessPart : ℕ → ℕ → ℕ
 lessPart R q = R - R / 2 ^ 16 * q / 2 ^ 16
 
-unfoldable pub sinPoly : ℕ → ℕ → ℕ
-sinPoly R z =
-    let t1 = F - z / 72 in
-    let t2 = horner z 42 t1 in
-    let t3 = horner z 20 t2 in
-    lessPart R (part z t3 / 6)
+-- R (1 - z (k0 - z (k1 - z (k2 - z k3))))
+abbrev pub polyOf : ℕ → ℕ → ℕ → ℕ → ℕ → ℕ → ℕ
+polyOf R z k0 k1 k2 k3 = lessPart R (part z (horner z k0 (horner z k1 (horner z k2 k3))))
 
+-- 1 / 3!, 1 / 5!, 1 / 7!, and 1 / 9! less 0.59 / 11!
+unfoldable pub sinPoly : ℕ → ℕ → ℕ
+sinPoly R z = polyOf R z 0x2AAAAAAB 0x2222222 0xD00D0 0x2DFC
+
+-- 1 / 2!, 1 / 4!, 1 / 6!, and 1 / 8! less 0.59 / 10!
 unfoldable pub cosPoly : ℕ → ℕ
-cosPoly z =
-    let c1 = F - z / 90 in
-    let c2 = horner z 56 c1 in
-    let c3 = horner z 30 c2 in
-    let c4 = horner z 12 c3 in
-    horner z 2 c4 * 2 ^ 16
+cosPoly z = polyOf (2 ^ 48) z 0x80000000 0xAAAAAAB 0x5B05B0 0x19D60
 
 -- v / 2 ^ 48, rounded once
 unfoldable pub toFloat : ℕ → Float
@@ -51,12 +49,9 @@ toFloat v = round binary32 false v (2 ^ 48)
 abbrev pub signed : Bool → Float → Float
 signed s v = cond s (neg v) v
 
-abbrev pub pick : Bool → Float → Float → Float
-pick b x y = cond b x y
-
--- an a from 2 ^ -12 to 2 ^ 13 in units of 2 ^ -48, by the fields of its bits
+-- the size of an x from 2 ^ -12 to 2 ^ 13 in units of 2 ^ -48, by the fields of its bits
 unfoldable pub fixed : Float → ℕ
-fixed a = (toBits binary32 a % 2 ^ 23 + 2 ^ 23) * 2 ^ (toBits binary32 a / 2 ^ 23 - 102)
+fixed x = (toBits binary32 x % 2 ^ 23 + 2 ^ 23) * 2 ^ (toBits binary32 x / 2 ^ 23 % 2 ^ 8 - 102)
 
 -- P in units of 2 ^ -48
 abbrev pub P48 : ℕ
@@ -66,21 +61,21 @@ P48 = 0x1921FB54442D1
 unfoldable pub reduceOf : ℕ → Reduced
 reduceOf X =
     let n = (X + P48 / 2) / P48 in
-    cond (ltb X (n * P48)) record { n = n % 4; r = n * P48 - X; back = true } record { n = n % 4; r = X - n * P48; back = false }
+    let r = gap X (n * P48) in
+    record { n = n % 4; r = r; z = cutSquare r; back = ltb X (n * P48) }
 
--- by n, from the sine sn and the cosine cs of what is left: the sine is sn, cs, -sn or -cs, negated if s; the cosine is cs, -sn, -cs or sn
-unfoldable pub quadrant : Bool → ℕ → Float → Float → SineCosine
-quadrant s n sn cs =
-    record {
-      sine = signed s (cond (eqb n 0) sn (cond (eqb n 1) cs (cond (eqb n 2) (neg sn) (neg cs))));
-      cosine = cond (eqb n 0) cs (cond (eqb n 1) (neg sn) (cond (eqb n 2) (neg cs) sn));
-    }
+-- By n: S, C, -S or -C, for a sine S and a cosine C of what is left; S has another sign if b, and all of it if s.
+unfoldable pub turned : Bool → ℕ → Bool → Float → Float → Float
+turned s n b S C =
+    let even = eqb (n % 2) 0 in
+    signed (unlike (unlike s (leb 2 n)) (even && b)) (cond even S C)
 
+abbrev pub turnedBy : Bool → ℕ → Reduced → Float
+turnedBy s n d = turned s n (d .back) (toFloat (sinPoly (d .r) (d .z))) (toFloat (cosPoly (d .z)))
+
+-- the cosine is the sine a quarter of a turn on
 unfoldable pub large : Bool → Float → SineCosine
-large s a =
-    let d = reduceOf (fixed a) in
-    let z = cutSquare (d .r) in
-    quadrant s (d .n) (signed (d .back) (toFloat (sinPoly (d .r) z))) (toFloat (cosPoly z))
+large s x = let d = reduceOf (fixed x) in record { sine = turnedBy s (d .n) d; cosine = turnedBy false ((d .n + 1) % 4) d }
 
 -- 0.0, 1.0, 2 ^ -12, and 2 ^ 13, which no limit passes
 abbrev pub Zero : Float
@@ -97,10 +92,8 @@ Most = fin false 1 (pos 13)
 
 -- sine and cosine of x, served up to a limit: +0.0 beyond it, x and 1 below 2 ^ -12
 unfoldable pub sincosTo : Float → Float → SineCosine
-sincosTo limit x =
-    let s = lt x Zero in
-    let a = signed s x in
-    cond (le a limit) (cond (le Tiny a) (large s a) record { sine = x; cosine = One }) record { sine = Zero; cosine = Zero }
+unfolding fabsf le
+sincosTo limit x = cond (upTo limit x) (cond (le Tiny (fabsf x)) (large (isMinus x) x) record { sine = x; cosine = One }) record { sine = Zero; cosine = Zero }
 
 unfoldable pub sincos : Float → SineCosine
 unfolding sincosTo

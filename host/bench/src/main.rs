@@ -1,6 +1,7 @@
 //! `make bench`: each of our calls beside what it is measured against, through the same kind of call, in one run.
 //! `make stack`: the stack that each of the core's calls takes.
 
+mod angles;
 mod joint;
 mod log;
 mod stack;
@@ -14,12 +15,6 @@ mod theirs {
     #[inline(never)]
     pub extern "C" fn sqrtf(x: f32) -> f32 {
         x.sqrt()
-    }
-
-    #[inline(never)]
-    pub extern "C" fn sincos(x: f32, sine: &mut f32) -> f32 {
-        *sine = relay_math_published::sinf(x);
-        relay_math_published::cosf(x)
     }
 }
 
@@ -43,10 +38,10 @@ fn pair(ours: impl Fn(f32) -> f32, theirs: impl Fn(f32) -> f32, inputs: &[f32]) 
 }
 
 /// Numbers in 0..1, the same every time.
-struct Rng(u64);
+pub struct Rng(u64);
 
 impl Rng {
-    fn next(&mut self) -> f64 {
+    pub fn next(&mut self) -> f64 {
         self.0 = self.0.wrapping_mul(6_364_136_223_846_793_005).wrapping_add(1_442_695_040_888_963_407);
         (self.0 >> 11) as f64 / (1u64 << 53) as f64
     }
@@ -107,24 +102,11 @@ fn main() {
     }
     let mut rng = Rng(1);
     let positive: Vec<f32> = (0..CALLS).map(|_| (rng.next() * 1000.0) as f32).collect();
-    let headings: Vec<f32> = (0..CALLS).map(|_| ((rng.next() - 0.5) * 2.0 * std::f64::consts::PI) as f32).collect();
-    let wide: Vec<f32> = (0..CALLS).map(|_| ((rng.next() - 0.5) * 256.0) as f32).collect();
-    let ours = |x| {
-        let (s, c) = faces::sincos(x);
-        s + c
-    };
-    let theirs = |x| {
-        let mut s = 0.0;
-        let c = theirs::sincos(x, &mut s);
-        s + c
-    };
     // Three visits, with the ticks between them: what disturbs the machine for a second or two meets one of them only.
-    let mut least = [(f64::INFINITY, f64::INFINITY); 3];
+    let mut least = (f64::INFINITY, f64::INFINITY);
     let mut visit = || {
-        let now = [pair(faces::sqrtf, |x| theirs::sqrtf(x), &positive), pair(ours, theirs, &headings), pair(ours, theirs, &wide)];
-        for (least, now) in least.iter_mut().zip(now) {
-            *least = (least.0.min(now.0), least.1.min(now.1));
-        }
+        let now = pair(faces::sqrtf, |x| theirs::sqrtf(x), &positive);
+        least = (least.0.min(now.0), least.1.min(now.1));
     };
     let mut good = true;
     visit();
@@ -155,10 +137,8 @@ fn main() {
         }
         visit();
     }
-    let [root, turn, wide] = least;
-    good &= line("root, against the hardware's", root, 2.5);
-    good &= line("sine and cosine, against relay's kernels, ±pi", turn, 1.0);
-    good &= line("sine and cosine, against relay's kernels, ±128", wide, 1.0);
+    good &= line("root, against the hardware's", least, 2.5);
+    good &= angles::rows(&mut rng);
     good &= logs();
     if !good {
         std::process::exit(1);

@@ -1,15 +1,15 @@
 //! The numbers of relay_math over every bit pattern, or every so many.
 
 use crate::progress::Progress;
-use crate::{exact, same, threads};
+use crate::{exact, same, steps, threads};
 use std::sync::Mutex;
 
 /// The size up to which sine and cosine are served.
 pub const LIMIT: f32 = 128.0;
 
-/// Bars: the worst distance from the true value, and the worst error in units in the last place where the value is at least 1e-3 in size.
-pub const DISTANCE: f64 = 3.4e-8;
-pub const ULPS: f64 = 0.6;
+/// Bars: the worst distance from document 01's exact value, and the worst error in units in the last place where the value is at least 1e-3 in size.
+pub const DISTANCE: f64 = 3.2e-8;
+pub const ULPS: f64 = 0.54;
 
 /// What a sweep over patterns found.
 #[derive(Clone, Default)]
@@ -34,6 +34,33 @@ impl Found {
         if self.wrong.is_none() {
             self.wrong = Some(text());
         }
+    }
+
+    /// Counts how far the answer of a function at x is from `value`.
+    fn look(&mut self, x: f32, got: f32, value: f64) {
+        let distance = (f64::from(got) - value).abs();
+        if distance > self.distance {
+            (self.distance, self.at) = (distance, x);
+        }
+        if value.abs() >= 1e-3 {
+            let ulps = distance / 2f64.powi((value.abs().log2().floor() as i32) - 23);
+            if ulps > self.ulps {
+                (self.ulps, self.ulps_at) = (ulps, x);
+            }
+        }
+    }
+
+    /// The same, with a fault where it passes a bar.
+    fn within_bars(mut self) -> Self {
+        if self.distance > DISTANCE {
+            let (d, at) = (self.distance, self.at.to_bits());
+            self.fault(|| format!("distance {d:e} at {at:08x}"));
+        }
+        if self.ulps > ULPS {
+            let (d, at) = (self.ulps, self.ulps_at.to_bits());
+            self.fault(|| format!("{d} units in the last place at {at:08x}"));
+        }
+        self
     }
 }
 
@@ -103,32 +130,13 @@ fn angle(x: f32, found: &mut Found) {
         found.fault(|| format!("signs at {:08x}", x.to_bits()));
     }
     let (ts, tc) = f64::from(x).sin_cos();
-    for (got, truth) in [(s, ts), (c, tc)] {
-        let distance = (f64::from(got) - truth).abs();
-        if distance > found.distance {
-            (found.distance, found.at) = (distance, x);
-        }
-        if truth.abs() >= 1e-3 {
-            let ulp = 2f64.powi((truth.abs().log2().floor() as i32) - 23);
-            if distance / ulp > found.ulps {
-                (found.ulps, found.ulps_at) = (distance / ulp, x);
-            }
-        }
-    }
+    found.look(x, s, ts);
+    found.look(x, c, tc);
 }
 
 /// Every size up to the limit.
 pub fn angles(stride: u32) -> Found {
-    let mut found = sweep("sine and cosine up to the limit", 0, LIMIT.to_bits(), stride, angle);
-    if found.distance > DISTANCE {
-        let (d, at) = (found.distance, found.at.to_bits());
-        found.fault(|| format!("distance {d:e} at {at:08x}"));
-    }
-    if found.ulps > ULPS {
-        let (d, at) = (found.ulps, found.ulps_at.to_bits());
-        found.fault(|| format!("{d} units in the last place at {at:08x}"));
-    }
-    found
+    sweep("sine and cosine up to the limit", 0, LIMIT.to_bits(), stride, angle).within_bars()
 }
 
 /// Beyond the limit, the infinities and the NaNs: +0.0 for both signs.
@@ -143,18 +151,21 @@ pub fn far(stride: u32) -> Found {
     })
 }
 
-/// Our sine and cosine against document 01's exact values, worked out from its own words: within 2^-22, which is also proved.
+/// Our steps up to 8192 against document 01's exact values, worked out from its own words; up to the limit the archive's answers are the steps'.
 pub fn document(stride: u32) -> Found {
-    sweep("sine and cosine against document 01", 0, LIMIT.to_bits(), stride, |x, found: &mut Found| {
-        let ((s, c), (es, ec)) = (faces::sincos(x), exact::sincos(x));
-        let distance = (f64::from(s) - es).abs().max((f64::from(c) - ec).abs());
-        if distance > found.distance {
-            (found.distance, found.at) = (distance, x);
+    sweep("sine and cosine against document 01", 0, steps::MOST.to_bits(), stride, |x, found: &mut Found| {
+        let ((s, c), (es, ec)) = (steps::sincos(x), exact::sincos(x));
+        found.look(x, s, es);
+        found.look(x, c, ec);
+        if !(s.abs() <= 1.0 && c.abs() <= 1.0) {
+            found.fault(|| format!("more than 1 at {:08x}", x.to_bits()));
         }
-        if distance > 2f64.powi(-22) {
-            found.fault(|| format!("{distance:e} from document 01 at {:08x}", x.to_bits()));
+        let served = x <= LIMIT;
+        if served && faces::sincos(x) != (s, c) {
+            found.fault(|| format!("not the steps' answer at {:08x}", x.to_bits()));
         }
     })
+    .within_bars()
 }
 
 /// The published f32 kernels against the true value, for the record.
@@ -163,10 +174,8 @@ pub fn published(stride: u32) -> Found {
         let (ts, tc) = f64::from(x).sin_cos();
         let s = relay_math_published::sinf(x);
         let c = relay_math_published::cosf(x);
-        let distance = (f64::from(s) - ts).abs().max((f64::from(c) - tc).abs());
-        if distance > found.distance {
-            (found.distance, found.at) = (distance, x);
-        }
+        found.look(x, s, ts);
+        found.look(x, c, tc);
     })
 }
 

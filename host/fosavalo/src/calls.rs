@@ -72,7 +72,7 @@ pub fn version() -> u32 {
     unsafe { raw::fosavalo_version() }
 }
 
-/// The sine of x, in radians: within 2⁻²² of the exact value up to 128 in size, +0.0 beyond it and for what is no number.
+/// The sine of x, in radians: within 2⁻²³ of the exact value up to 128 in size, +0.0 beyond it and for what is no number.
 ///
 /// ```
 /// assert_eq!(fosavalo::sinf(-0.0).to_bits(), (-0.0f32).to_bits());
@@ -84,7 +84,7 @@ pub fn sinf(x: f32) -> f32 {
     unsafe { raw::fosavalo_sinf(x) }
 }
 
-/// The cosine of x, in radians: within 2⁻²² of the exact value up to 128 in size, +0.0 beyond it and for what is no number.
+/// The cosine of x, in radians: within 2⁻²³ of the exact value up to 128 in size, +0.0 beyond it and for what is no number.
 ///
 /// ```
 /// assert_eq!(fosavalo::cosf(0.0), 1.0);

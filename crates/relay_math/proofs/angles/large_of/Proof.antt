@@ -8,9 +8,7 @@ pub large-of-spec : {M : Type 1} → statement M
 unfolding large
 large-of-spec =
     tie.close
-    (tie.spec (λ c κs. search needs) (λ c κs. search needs) (λ c κs. search needs) (λ c κs. search needs) (λ c κs. search needs) (λ c κs. search needs) (λ c κs. search needs) (λ c κs. search needs) (λ c κs. search needs)
+    (tie.spec (λ c κs. search needs) (λ c κs. search needs) (λ c κs. search needs) (λ c κs. search needs) (λ c κs. search needs) (λ c. search needs) (λ c κs. search needs)
     (λ c.
-    let d = c .before .before .before .before in
-    simp (c .quadrant-of .ensures, c .before .to-float2 .ensures, c .before .before .cos-poly .ensures .0, c .before .before .before .signed-of .ensures)
-    (simp (d .to-float .ensures, d .before .sin-poly .ensures .0, d .before .before .square-of .ensures .0)
-    (simp (d .before .before .before .reduce .ensures .0, d .before .before .before .before .fixed-of .ensures .0)))))
+    let d = c .before .before .before in
+    simp (c .turned-of2 .ensures, c .before .before .turned-of .ensures, d .either-poly2 .ensures .0, d .before .either-poly .ensures .0, d .before .before .reduce .ensures .0, d .before .before .before .fixed-of .ensures .0)))

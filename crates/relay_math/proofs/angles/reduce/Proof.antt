@@ -1,14 +1,18 @@
--- `angles::reduce`: each arm is a case of the definition. Assumes nothing.
+-- `angles::reduce`: the definition's steps, and the remainder by 2^63 is the number itself. Assumes nothing.
 use borrow.Author.Needs.{needs}
-use borrow.Author.Tests.{lt-ltb, le-ltb}
+use mathlib.Core.Path.{_≡_}
+use Prim.Native.Nat.{ℕ, _+_, _%_, _<_}
 use native.Mathlib.Omega.{arith}
-use Rattle.relay_math.specs.Steps.{reduceOf}
+use Rattle.relay_math.specs.Steps.{cutSquare, reduceOf}
 use Rattle.relay_math.proofs.angles.reduce.Statement.{statement}
 use Rattle.relay_math.proofs.angles.reduce.Tie as tie
 
+kept : (x : ℕ) → x < 4611686018427387904 → (x + 221069929750888) % 9223372036854775808 ≡ x + 221069929750888
+kept x h = omega arith
+
 pub reduce-spec : {M : Type 1} → statement M
-unfolding reduceOf
+unfolding reduceOf cutSquare
 reduce-spec =
     tie.close
-    (tie.spec (λ c. search needs) (λ c. search needs) (λ c. search needs)
-    (λ c. (simp (lt-ltb _ _ (c .if1 .taken)), (omega arith, omega arith))) (λ c. (simp (le-ltb _ _ (c .if1 .left)), (omega arith, omega arith))))
+    (tie.spec (λ c. search needs) (λ c. search needs) (λ c κs. search needs) (λ c κs. omega (arith, c .gap-of .ensures)) (λ c. search needs)
+    (λ c. (simp (c .part-of .ensures .0, c .before .gap-of .ensures, kept (c .before .before .args .x) (c .before .before .pre)), (omega arith, omega (arith, c .before .gap-of .ensures), c .part-of .ensures .1 .0))))

@@ -19,7 +19,7 @@ extern "C" {
 /* The version of this header; fosavalo_version() is the archive's. The second number is that of the last change request which both have: a request may
  * change what a word means and leave every length. */
 #define FOSAVALO_VERSION_MAJOR 0
-#define FOSAVALO_VERSION_MINOR 3
+#define FOSAVALO_VERSION_MINOR 4
 #define FOSAVALO_VERSION_PATCH 0
 #define FOSAVALO_VERSION_NUMBER ((FOSAVALO_VERSION_MAJOR << 16) + (FOSAVALO_VERSION_MINOR << 8) + FOSAVALO_VERSION_PATCH)
 #define FOSAVALO_VERSION FOSAVALO_TEXT(FOSAVALO_VERSION_MAJOR) "." FOSAVALO_TEXT(FOSAVALO_VERSION_MINOR) "." FOSAVALO_TEXT(FOSAVALO_VERSION_PATCH)
@@ -250,6 +250,9 @@ uint32_t fosavalo_setup(uint8_t *image, size_t image_len, const uint8_t *input, 
 /* One tick on an image that set-up or the last tick left.
  *
  * The input is the words FOSAVALO_TICK_.., of which every bit pattern is taken; the answer is the words FOSAVALO_ANSWER_..
+ * The margin is the smaller of psi_max - psi and 2 k_r (2 - psi) / lambda_j - |error|^2. The error is the filtered rate less the commanded one, which is
+ * what the trajectory and the yaw rate ask for (the feedforward), brought from the wanted attitude's axes to the body's; where there is no feedforward,
+ * since the wanted thrust is next to nothing, it is all of the filtered rate. With no wanted attitude the margin is minus infinity.
  *
  * Returns 0 to 4. Unless it is 0 no byte of the image or the answer is changed; the input never is. Each pointer has to be good for
  * its length, whatever that is, and no two of the three buffers may overlap. */

@@ -22,7 +22,7 @@ use Rattle.relay_geo.specs.Controller.{rateToward, desiredRate}
 use Rattle.joint_tick.specs.declared.state.State.{State}
 use Rattle.joint_tick.specs.declared.state.TickInput.{TickInput}
 use Rattle.joint_tick.specs.declared.stages.Reference.{Reference}
-use Rattle.joint_tick.specs.Tick.{prepare, cleaned, desired, plus, rateSq, marginOf, guide, guidance, ticked}
+use Rattle.joint_tick.specs.Tick.{prepare, cleaned, desired, ahead, plus, rateError, rateSq, marginOf, guide, guidance, ticked}
 use Rattle.joint_tick.proofs.Shielding.{tick-command}
 use Rattle.image.specs.Inputs.{inputAt}
 use Rattle.image.specs.Fits.{F32, FitsVec}
@@ -49,7 +49,10 @@ module _ (source : Float → Reference) (s : State) where
   unfolding guidance guide
   margin-fits i =
       let p = prepare (s .moving) i in
-      margin-of-fits (s .fixed .set) (quatToRotmat (i .quat)) (desired (source (p .time)) i) (rateSq (p .rate))
+      let w = source (p .time) in
+      let r = quatToRotmat (i .quat) in
+      let rd = desired w i in
+      margin-of-fits (s .fixed .set) r rd (rateSq (rateError (p .rate) r (ahead w i) rd))
 
   fallback-fits : (i : TickInput) → FitsVec (guidance source s i .fallback .0)
   unfolding guidance guide desiredRate

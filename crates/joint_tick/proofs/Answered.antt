@@ -24,7 +24,7 @@ use Rattle.joint_tick.specs.declared.state.State.{State}
 use Rattle.joint_tick.specs.declared.state.TickInput.{TickInput}
 use Rattle.joint_tick.specs.declared.state.Answer.{Answer}
 use Rattle.joint_tick.specs.declared.stages.Reference.{Reference}
-use Rattle.joint_tick.specs.Tick.{prepare, desired, rateSq, psiOf, guide, guidance, pick, finish, ticked}
+use Rattle.joint_tick.specs.Tick.{prepare, desired, ahead, rateError, rateSq, psiOf, guide, guidance, pick, finish, ticked}
 use Rattle.joint_tick.proofs.Once.{one-margin}
 use Rattle.joint_tick.proofs.Shielding.{tick-command, tick-torque}
 use Rattle.joint_tick.proofs.Clock.{tick-time, time-never-back}
@@ -36,7 +36,8 @@ unfolding guide
 guide-margin-ranges gains set w wanted i =
     let r = quatToRotmat (i .quat) in
     let rd = desired wanted i in
-    subst Ranges (one-margin set r rd (rateSq w)) (margin-finite-or-minus-infinity set (psiOf r rd) (rateSq w))
+    let wSq = rateSq (rateError w r (ahead wanted i) rd) in
+    subst Ranges (one-margin set r rd wSq) (margin-finite-or-minus-infinity set (psiOf r rd) wSq)
 
 minus-infinity-number : T (not (isNan minusInfinity))
 unfolding isNan

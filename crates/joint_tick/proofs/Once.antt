@@ -25,7 +25,7 @@ use Rattle.relay_adrc.specs.Rate.{rateTick}
 use Rattle.relay_adrc.proofs.Tick.{tick-in-halves}
 use Rattle.joint_tick.specs.declared.stages.Prepared.{Prepared}
 use Rattle.joint_tick.specs.declared.stages.Guided.{Guided}
-use Rattle.joint_tick.specs.Tick.{cleaned, plus, rateSq, psiOf, marginOf, guide, picked, pick}
+use Rattle.joint_tick.specs.Tick.{cleaned, plus, rateError, rateSq, psiOf, marginOf, guide, picked, pick}
 use Rattle.joint_tick.specs.Inner.{observe, followOn, pickOn}
 
 -- `desired_rate` cleans its acceleration, which is clean already: its R_d is the tick's
@@ -43,16 +43,17 @@ pub guided-once : (gains : GeoGains) (set : RecoverableSet) (w : BodyRate) (want
     → (let t = thrustOf (cleaned wanted .acc) in
     let r = quatToRotmat (i .quat) in
     let rd = attitudeOn t (i .yaw) in
+    let ff = feedforwardOn t (cleaned wanted .jerk) (i .«yaw_rate») rd in
     _≡_ {A = Guided} record {
-      fallback = plus (rateToward gains r rd) (feedforwardOn t (cleaned wanted .jerk) (i .«yaw_rate») rd);
+      fallback = plus (rateToward gains r rd) ff;
       psi = psiOf r rd;
-      margin = margin set (psiOf r rd) (rateSq w);
+      margin = margin set (psiOf r rd) (rateSq (rateError w r ff rd));
       planner = record { 0 = sanitise3 (i .agile .0) };
     } (guide gains set w wanted i))
 unfolding guide
 guided-once gains set w wanted i =
     let acc = cleaned wanted .acc in
-    rw (shared-attitude acc (i .yaw), shared-feedforward acc (cleaned wanted .jerk) (i .yaw) (i .«yaw_rate»), one-attitude gains (i .quat) (wanted .acc) (i .yaw), one-margin set (quatToRotmat (i .quat)) (thrustAttitude acc (i .yaw)) (rateSq w))
+    rw (shared-attitude acc (i .yaw), shared-feedforward acc (cleaned wanted .jerk) (i .yaw) (i .«yaw_rate»), one-attitude gains (i .quat) (wanted .acc) (i .yaw), one-margin set (quatToRotmat (i .quat)) (thrustAttitude acc (i .yaw)))
 
 -- ---- ADRC's observers go before the guidance, its control after it
 

@@ -14,7 +14,7 @@ use Rattle.joint_tick.specs.declared.stages.Reference.{Reference}
 use Rattle.joint_tick.specs.Tick.{shieldOf, prepare, guide, pick, finish, guidance, ticked}
 
 module _ (source : Float → Reference) (s : State) (i : TickInput) where
-  -- The flag is the latch of the margin that document 01 works out, and of nothing else of the tick.
+  -- The flag is the latch of the margin that the documents work out, and of nothing else of the tick.
   pub tick-latch : ticked source s i .answer .fallback ≡ latch (s .fixed .enter) (s .fixed .exit) (s .moving .engaged) (guidance source s i .margin)
   unfolding ticked prepare finish pick guidance
   tick-latch = let g = guidance source s i in step-latches (shieldOf s) (g .margin) (g .planner) (g .fallback)

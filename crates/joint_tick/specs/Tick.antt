@@ -1,8 +1,9 @@
 -- The joint tick, stage by stage, in document 01's order and with the Rust's own calls. Definitions only.
 use mathlib.Core.Bool.{cond}
 use lib.Ieee.{Float, nan, eq}
+use Rattle.relay_math.specs.declared.Vec3.{Vec3}
 use Rattle.relay_math.specs.declared.BodyRate.{BodyRate}
-use Rattle.relay_math.specs.F32.{_⊕_, ∞}
+use Rattle.relay_math.specs.F32.{_⊕_, _⊖_, ∞}
 use Rattle.relay_adrc.specs.declared.rate.RateTick.{RateTick}
 use Rattle.relay_adrc.specs.Rate.{rateTick, rateSetDeliveredFraction}
 use Rattle.relay_adrc.specs.Biquad.{gyroFilter}
@@ -15,7 +16,7 @@ use Rattle.relay_geo.specs.declared.controller.GeoGains.{GeoGains}
 use Rattle.relay_geo.specs.declared.set.RecoverableSet.{RecoverableSet}
 use Rattle.relay_geo.specs.declared.shield.SimplexShield.{SimplexShield}
 use Rattle.relay_geo.specs.declared.shield.Shielded.{Shielded}
-use Rattle.relay_geo.specs.Vectors.{dot, sanitise3}
+use Rattle.relay_geo.specs.Vectors.{dot, transpose3, matmul3, sanitise3}
 use Rattle.relay_geo.specs.Attitude.{quatToRotmat, thrustAttitude, flatnessOmegaFf}
 use Rattle.relay_geo.specs.Controller.{psi, desiredRate}
 use Rattle.relay_geo.specs.Set.{minusInfinity, margin}
@@ -70,14 +71,31 @@ cleaned w = record { acc = sanitise3 (w .acc); jerk = sanitise3 (w .jerk) }
 abbrev pub desired : Reference → TickInput → Attitude
 desired wanted i = thrustAttitude (cleaned wanted .acc) (i .yaw)
 
+-- the feedforward
+abbrev pub ahead : Reference → TickInput → Feedforward
+ahead wanted i = flatnessOmegaFf (cleaned wanted .acc) (cleaned wanted .jerk) (i .yaw) (i .«yaw_rate»)
+
 -- "`desired_rate` plus `flatness_omega_ff`, without the sum where the latter refuses". Without the sum isn't plus zero: a -0.0 stays.
 abbrev pub plus : BodyRate → Feedforward → BodyRate
 plus w (rate.Rate f) = record { 0 = (w .0 .0 ⊕ f .0 .0, w .0 .1 ⊕ f .0 .1, w .0 .2 ⊕ f .0 .2) }
 plus w rate.Refused = w
 
--- "the squared length of the filtered rate"
+-- the commanded rate, from R_d's axes to R's: the product of the matrices, then its rows with f, which start from no 0.0
+unfoldable pub commanded : Mat3 → Mat3 → Vec3 → Vec3
+commanded r rd f = let m = matmul3 (transpose3 r) rd in (dot (m .0) f, dot (m .1) f, dot (m .2) f)
+
+-- Request Four: "In the joint tick the rate error is the filtered rate less R transposed times R_d times the feedforward, matrix product first, then the
+-- vector; where the feedforward refuses, the old rule holds." That is the filtered rate itself, as where there is no R_d.
+abbrev pub rateError : BodyRate → Mat3 → Feedforward → Attitude → BodyRate
+rateError w r (rate.Rate f) (Matrix rd) =
+    let c = commanded r rd (f .0) in
+    record { 0 = (w .0 .0 ⊖ c .0, w .0 .1 ⊖ c .1, w .0 .2 ⊖ c .2) }
+rateError w r (rate.Rate f) Refused = w
+rateError w r rate.Refused rd = w
+
+-- "the squared length" of the rate error
 unfoldable pub rateSq : BodyRate → Float
-rateSq w = dot (w .0) (w .0)
+rateSq e = dot (e .0) (e .0)
 
 -- "If there is no R_d the margin is minus infinity and the psi word NaN."
 abbrev pub psiOf : Mat3 → Attitude → Float
@@ -90,14 +108,13 @@ marginOf set r Refused wSq = minusInfinity
 
 unfoldable pub guide : GeoGains → RecoverableSet → BodyRate → Reference → TickInput → Guided
 guide gains set w wanted i =
-    let acc = cleaned wanted .acc in
-    let jerk = cleaned wanted .jerk in
     let r = quatToRotmat (i .quat) in
     let rd = desired wanted i in
+    let ff = ahead wanted i in
     record {
-      fallback = plus (desiredRate gains (i .quat) acc (i .yaw)) (flatnessOmegaFf acc jerk (i .yaw) (i .«yaw_rate»));
+      fallback = plus (desiredRate gains (i .quat) (cleaned wanted .acc) (i .yaw)) ff;
       psi = psiOf r rd;
-      margin = marginOf set r rd (rateSq w);
+      margin = marginOf set r rd (rateSq (rateError w r ff rd));
       planner = record { 0 = sanitise3 (i .agile .0) };
     }
 

@@ -26,7 +26,7 @@ use relay_math::Torque;
 use relay_math::Vec3;
 use relay_traj::Segment3;
 ghost use mathlib.Core.Path.{_≡_};
-ghost use Rattle.joint_tick.specs.Tick.{prepare, sampleTime, referenceAt, cleaned, plus, rateSq, psiOf, guide, finish};
+ghost use Rattle.joint_tick.specs.Tick.{prepare, sampleTime, referenceAt, cleaned, plus, commanded, rateError, rateSq, psiOf, guide, finish};
 ghost use Rattle.joint_tick.specs.Inner.{observe, followOn, pickOn};
 
 // What moves, with its fractions, filters and clock moved on, the filtered rate and the governor's time.
@@ -138,10 +138,46 @@ fn plus(w: BodyRate, feedforward: Feedforward) -> BodyRate
     BodyRate(Vec3(w.0.0 + f.0.0, w.0.1 + f.0.1, w.0.2 + f.0.2))
 }
 
-fn rate_sq(w: BodyRate) -> f32
-    ensures { λ r. ⌜ r ≡ rateSq w ⌝ }
+// The commanded rate in the body's axes: R^T R_d times f, the product first. `qij` is entry (i, j) of the product, read where its numbers stand; each
+// starts from 0.0, the sums over them don't.
+fn commanded(r: Mat3, r_d: Mat3, f: Vec3) -> Vec3
+    ensures { λ c. ⌜ c ≡ commanded r «r_d» f ⌝ }
 {
-    dot(w.0, w.0)
+    let q00 = 0.0 + r.0.0 * r_d.0.0 + r.1.0 * r_d.1.0 + r.2.0 * r_d.2.0;
+    let q01 = 0.0 + r.0.0 * r_d.0.1 + r.1.0 * r_d.1.1 + r.2.0 * r_d.2.1;
+    let q02 = 0.0 + r.0.0 * r_d.0.2 + r.1.0 * r_d.1.2 + r.2.0 * r_d.2.2;
+    let q10 = 0.0 + r.0.1 * r_d.0.0 + r.1.1 * r_d.1.0 + r.2.1 * r_d.2.0;
+    let q11 = 0.0 + r.0.1 * r_d.0.1 + r.1.1 * r_d.1.1 + r.2.1 * r_d.2.1;
+    let q12 = 0.0 + r.0.1 * r_d.0.2 + r.1.1 * r_d.1.2 + r.2.1 * r_d.2.2;
+    let q20 = 0.0 + r.0.2 * r_d.0.0 + r.1.2 * r_d.1.0 + r.2.2 * r_d.2.0;
+    let q21 = 0.0 + r.0.2 * r_d.0.1 + r.1.2 * r_d.1.1 + r.2.2 * r_d.2.1;
+    let q22 = 0.0 + r.0.2 * r_d.0.2 + r.1.2 * r_d.1.2 + r.2.2 * r_d.2.2;
+    Vec3(
+        q00 * f.0 + q01 * f.1 + q02 * f.2,
+        q10 * f.0 + q11 * f.1 + q12 * f.2,
+        q20 * f.0 + q21 * f.1 + q22 * f.2,
+    )
+}
+
+// What nobody commanded of the filtered rate: all of it where there is no feedforward. Three zeros in its place would not do: by an entry of the product
+// that is not finite they give a NaN.
+fn rate_error(omega: BodyRate, r: Mat3, feedforward: Feedforward, r_d: Attitude) -> BodyRate
+    ensures { λ e. ⌜ e ≡ rateError omega r feedforward «r_d» ⌝ }
+{
+    let Feedforward::Rate(f) = feedforward else {
+        return omega;
+    };
+    let Attitude::Matrix(r_d) = r_d else {
+        return omega;
+    };
+    let c = commanded(r, r_d, f.0);
+    BodyRate(Vec3(omega.0.0 - c.0, omega.0.1 - c.1, omega.0.2 - c.2))
+}
+
+fn rate_sq(e: BodyRate) -> f32
+    ensures { λ r. ⌜ r ≡ rateSq e ⌝ }
+{
+    dot(e.0, e.0)
 }
 
 fn psi_of(r: Mat3, r_d: Attitude) -> f32
@@ -153,8 +189,8 @@ fn psi_of(r: Mat3, r_d: Attitude) -> f32
     }
 }
 
-// R and R_d are built once, and the length of g - a is taken once: the fallback, psi and the margin share them, bit for bit as the Rust's
-// own calls have them. With no R_d psi is a NaN, of which the margin is minus infinity.
+// R, R_d and the feedforward are built once, and the length of g - a is taken once: the fallback, psi and the margin share them, bit for bit as the
+// Rust's own calls have them. With no R_d psi is a NaN, of which the margin is minus infinity.
 fn guide(
     gains: GeoGains,
     set: RecoverableSet,
@@ -172,7 +208,8 @@ fn guide(
     let att = GeoAtt { gains };
     let fallback = plus(att.rate_toward(r, r_d), feedforward);
     let psi = psi_of(r, r_d);
-    let margin = set.margin(psi, rate_sq(rate));
+    let error = rate_error(rate, r, feedforward, r_d);
+    let margin = set.margin(psi, rate_sq(error));
     Guided {
         fallback,
         psi,

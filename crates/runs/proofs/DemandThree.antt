@@ -71,7 +71,7 @@ module _ (setup : List ℕ) (ticks : List Tick) (r : AllRight ticks) (k : ℕ) (
   upTo : UpTo (start setup) ticks k
   upTo = up-to (start setup) ticks (start-accepted setup) r k h
 
-  -- margin number k is the one that document 01 works out at tick number k
+  -- margin number k is the one that the documents work out at tick number k
   pub margin-at : getD margins k nan ≡ marginAt (start setup) ticks k
   margin-at = upTo .own
 

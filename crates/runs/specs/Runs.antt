@@ -56,7 +56,7 @@ abbrev pub sourceOn : Course → List ℕ → Float → Reference
 sourceOn Segment image = onSegment image
 sourceOn (Route route) image = onRoute route
 
--- what document 01 works out at a tick: the margin, and the fallback's command
+-- what the documents work out at a tick: the margin, and the fallback's command
 unfoldable pub guided : List ℕ → Tick → Guided
 guided image t = guidance (sourceOn (t .course) image) (stateAt image) (inputAt (t .input))
 

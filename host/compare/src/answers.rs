@@ -279,8 +279,8 @@ fn route_ticks() -> Section {
     Section::calls("route tick", 502, (0..RUNS).flat_map(|number| run("stored route ticks", number, ROUTE_TICKS, true)).collect())
 }
 
-/// Ticks from a set-up, the image handed on. Every other run is level, at rest and with no filter, and its rate goes about
-/// those at which the margin is enter and exit; the others are of all kinds. At times the call is refused, or an image with
+/// Ticks from a set-up, the image handed on. Every other run is level, at rest, with no filter and turning as commanded, and its rate beside that
+/// goes about those at which the margin is enter and exit; the others are of all kinds. At times the call is refused, or an image with
 /// one word replaced is lent; then the run goes on with the one before.
 fn run(name: &str, number: u64, ticks: u64, on_routes: bool) -> Vec<Row> {
     let mut rng = Rng::new(name, number);
@@ -300,7 +300,8 @@ fn run(name: &str, number: u64, ticks: u64, on_routes: bool) -> Vec<Row> {
             let mut words = filled::<{ TICK / 4 }>(kind, &INPUT, &mut rng);
             if level {
                 let x = rng.of(&[edges[0], edges[1], 0.5, 1.2, 1.3, 1.75]).unwrap_or(1.2);
-                words[..7].copy_from_slice(&[rng.near(x), 0.0, 0.0, 1.0, 0.0, 0.0, 0.0]);
+                let turn = words[9];
+                words[..7].copy_from_slice(&[rng.near(x), 0.0, turn, 1.0, 0.0, 0.0, 0.0]);
                 words[8] = rng.of(&[0.0, 0.0, 0.0, 0.0, 0.0, 0.0, 0.0, 0.0, f32::NAN, 129.0]).unwrap_or(0.0);
             } else if t % 8 == 7 {
                 // on to an infinite time

@@ -1,5 +1,6 @@
 //! docs/DIFFERENCES.md, line by line: the input that shows a difference is run through the archive's own calls and through the Rust as published.
 
+use compare::joint::bytes::{float, put, ANSWER, IMAGE, SETUP, TICK};
 use faces::geo::{Mat3, Quat, RecoverableSet};
 use faces::{adrc, geo, pos, traj, BodyRate, Vec3};
 use oracle::{adrc as rust_adrc, geo as rust_geo, pos as rust_pos, traj as rust_traj};
@@ -102,6 +103,19 @@ fn the_feedforward_has_the_other_sign() {
     let theirs = rust_geo::flatness_omega_ff([0.0; 3], [1.0, 0.0, 0.0], 0.0, 0.0).expect("a rate");
     assert!(ours.given && ours.rate.0 .1 < 0.0);
     both(ours.rate.0 .1, theirs[1], theirs[1].to_bits());
+}
+
+/// Level at heading 0, turning at 2 as commanded: through the archive, and with all of the rate handed to the Rust's own margin.
+#[test]
+fn a_tick_counts_no_commanded_turning_as_error() {
+    let (mut image, mut answer) = ([0; IMAGE], [0; ANSWER]);
+    let mut set_up = [0; SETUP];
+    [(9, 1.0f32), (10, 1.0), (11, 1.75), (35, 2.0)].iter().for_each(|(at, x)| put(&mut set_up, *at, x.to_bits()));
+    let mut input = [0; TICK];
+    [(2, 2.0f32), (3, 1.0), (9, 2.0), (10, 0.001)].iter().for_each(|(at, x)| put(&mut input, *at, x.to_bits()));
+    assert_eq!([faces::setup(&mut image, &set_up), faces::tick(&mut image, &input, &mut answer)], [0, 0]);
+    let set = rust_geo::RecoverableSet::new(1.0, 1.0, 1.75);
+    assert_eq!([float(&answer, 9), set.margin(float(&answer, 8), 4.0)], [1.75, 0.0]);
 }
 
 #[test]

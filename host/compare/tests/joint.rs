@@ -3,7 +3,7 @@
 
 use compare::generate::Rng;
 use compare::joint::bytes::{float, put, word, ANSWER, IMAGE, SETUP, TICK};
-use compare::joint::fault::{Fault, WRONG};
+use compare::joint::fault::{Fault, WRONG, WRONG_ERROR};
 use compare::joint::guide::PLAIN;
 use compare::joint::lent::Lending;
 use compare::joint::model::{self, Flight};
@@ -33,6 +33,7 @@ fn covered(seen: &Seen) {
     assert!(fallback * 10 >= passes, "the fallback flew in the band for {fallback} of {passes} ticks of passes");
     assert!(seen.changes > 1000 && seen.edge > 1000);
     assert!(seen.no_attitude > 1000 && seen.no_feedforward > 1000 && seen.at_the_end > 1000);
+    assert!(seen.turning.as_flattened().iter().all(|n| *n > 1000), "{:?}", seen.turning);
     for (at, [accepted, refused]) in seen.damaged.iter().enumerate() {
         // the words that row 4 looks at, and word 0, of which any other value is refused
         let looked_at = [0, 13, 14, 15, 16, 26, 33, 40].contains(&at);
@@ -45,7 +46,7 @@ fn covered(seen: &Seen) {
 
 #[test]
 fn what_looks_right_but_is_wrong_is_caught() {
-    let missed: Vec<_> = WRONG.iter().filter(|fault| !caught(**fault, runs::GATE, Watch::All, PLAIN)).collect();
+    let missed: Vec<_> = [WRONG, WRONG_ERROR].concat().into_iter().filter(|fault| !caught(*fault, runs::GATE, Watch::All, PLAIN)).collect();
     assert!(missed.is_empty(), "not caught within {} ticks: {missed:?}", runs::GATE);
 }
 
@@ -241,16 +242,52 @@ fn a_fraction_is_of_the_last_command() {
     assert_eq!(float(&image, 44), 0.5 * u);
 }
 
-/// Between 1e-9 and 1e-3 there is an R_d and no feedforward: nothing is added, so minus zeros stay.
-#[test]
-fn without_the_sum_is_not_plus_zero() {
+/// The thrust between 1e-9 and 1e-3, where there is an R_d and no feedforward; enter and exit beyond every margin.
+fn falling() -> [u8; SETUP] {
     let a = (9.81f32 - 5e-4).to_bits();
     let (v, p) = ((2.0 * f32::from_bits(a)).to_bits(), (2.0 * f32::from_bits(a)).to_bits());
-    // a0, pf, vf, af downwards over 2 s; enter and exit beyond every margin
-    let falling = with(set_up(), &[(25, a), (28, p), (31, v), (34, a), (12, 5.0f32.to_bits()), (13, 9.0f32.to_bits())]);
-    let mut image = image_of(&falling);
+    // a0, pf, vf, af downwards over 2 s
+    with(set_up(), &[(25, a), (28, p), (31, v), (34, a), (12, 5.0f32.to_bits()), (13, 9.0f32.to_bits())])
+}
+
+/// Nothing is added where there is no feedforward, so minus zeros stay.
+#[test]
+fn without_the_sum_is_not_plus_zero() {
+    let mut image = image_of(&falling());
     let answer = tick(&mut image, &still());
     assert_eq!([3, 4, 5, 6].map(|at| word(&answer, at)), [0x8000_0000, 0x8000_0000, 0x8000_0000, 1]);
+}
+
+/// Request Four: at heading 0 with a yaw rate of 2 commanded.
+#[test]
+fn commanded_turning_is_no_error() {
+    let margin = |set_up: &[u8; SETUP], attitude: [f32; 4], gyro: [f32; 3]| {
+        let words: Vec<(usize, u32)> =
+            gyro.iter().chain(&attitude).map(|x| x.to_bits()).enumerate().chain([(9, 2.0f32.to_bits())]).collect();
+        float(&tick(&mut image_of(set_up), &with(still(), &words)), 9)
+    };
+    let level = [1.0, 0.0, 0.0, 0.0];
+    // psi 0, cap 4: the error is 0, then 1 and 4 in size
+    assert_eq!(margin(&set_up(), level, [0.0, 0.0, 2.0]), 1.75);
+    assert_eq!(margin(&set_up(), level, [1.5, 0.0, 2.5]), 4.0 - 2.5);
+    assert_eq!(margin(&set_up(), level, [0.0, 0.0, -2.0]), 4.0 - 16.0);
+    // R has the rows 1 0 0, 0 -1 -2, 0 2 -1 (the quaternion is no unit), so psi is 2, the cap 0 and what is commanded (0, 4, -2)
+    let tilted = [1.0, 1.0, 0.0, 0.0];
+    assert_eq!(margin(&set_up(), tilted, [0.0, 4.0, -2.0]), -0.25);
+    assert_eq!(margin(&set_up(), tilted, [0.0, -4.0, -2.0]), -64.0);
+    // where the feedforward refuses, all of the rate counts
+    assert_eq!(margin(&falling(), level, [1.5, 0.0, 2.0]), 4.0 - 6.25);
+}
+
+/// At twice the heading and far too long a quaternion entries of Rᵀ R_d overflow and psi does not. Zeros times them are no number.
+#[test]
+fn a_refused_feedforward_is_not_zeros() {
+    let (long, yaw) = (1.2e19f32.to_bits(), std::f32::consts::FRAC_PI_4.to_bits());
+    let input = with(still(), &[(3, long), (6, long), (8, yaw)]);
+    for (set_up, known) in [(falling(), true), (set_up(), false)] {
+        let answer = tick(&mut image_of(&set_up), &input);
+        assert_eq!((float(&answer, 8).is_finite(), float(&answer, 9).is_finite()), (true, known));
+    }
 }
 
 #[test]

@@ -2,7 +2,7 @@
 //! third demand by looking back.
 
 use compare::joint::bytes::{float, put, raw, word, ANSWER, IMAGE, LEG, SETUP, TICK};
-use compare::joint::fault::{Fault, WRONG_ON_ROUTES};
+use compare::joint::fault::{Fault, WRONG_ERROR, WRONG_ON_ROUTES};
 use compare::joint::guide::MIXED;
 use compare::joint::runs::{self, caught, Watch, GATE_ON_ROUTES};
 use compare::joint::{archive, lengths, model};
@@ -31,13 +31,15 @@ fn every_tick_on_a_route_is_the_rust_s_and_the_look_back_s() {
     ] {
         assert!(counts.iter().all(|count| *count > 1000), "{what}: {counts:?}");
     }
+    assert!(seen.turning.as_flattened().iter().all(|count| *count > 100), "{:?}", seen.turning);
     let [planner, fallback] = seen.band;
     assert!(planner * 20 >= seen.passes() && fallback * 20 >= seen.passes() && seen.changes > 1000);
 }
 
 #[test]
 fn what_looks_right_but_is_wrong_is_caught() {
-    let missed: Vec<_> = WRONG_ON_ROUTES.iter().filter(|fault| !caught(**fault, GATE_ON_ROUTES, Watch::All, MIXED)).collect();
+    let missed: Vec<_> =
+        [WRONG_ON_ROUTES, WRONG_ERROR].concat().into_iter().filter(|fault| !caught(*fault, GATE_ON_ROUTES, Watch::All, MIXED)).collect();
     assert!(missed.is_empty(), "not caught within {GATE_ON_ROUTES} ticks: {missed:?}");
 }
 

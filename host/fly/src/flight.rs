@@ -28,7 +28,7 @@ impl Rule {
     }
 
     /// Who flies by this rule, worked out from the margins alone.
-    fn pilots(self, enter: f32, exit: f32, margins: impl Iterator<Item = f32>) -> impl Iterator<Item = Pilot> {
+    pub fn pilots(self, enter: f32, exit: f32, margins: impl Iterator<Item = f32>) -> impl Iterator<Item = Pilot> {
         let above = match self {
             Rule::Shield => exit,
             Rule::Earlier => enter,

@@ -1,7 +1,7 @@
 //! A pass of three legs on a route, through the same loop: up to the stage, past its middle, and on to rest where the slow pass ends.
 
 use crate::flight::{Flight, Rule};
-use crate::pass::{self, FROM, TO};
+use crate::pass::{self, Way, FROM, TO};
 use crate::planner::Reference;
 use crate::vector::V3;
 use fosavalo::{Leg, Pilot, Refusal, Route};
@@ -36,7 +36,7 @@ fn flown(legs: &[Leg], time: f32) -> (usize, f32) {
 }
 
 /// Where the route is at a time: the leg's quintic, as the core has it.
-fn reference(legs: &[Leg], time: f32) -> Reference {
+pub fn reference(legs: &[Leg], time: f32) -> Reference {
     let (at, x) = flown(legs, time);
     let (Some(leg), x) = (legs.get(at), f64::from(x)) else {
         return Reference { position: FROM, velocity: [0.0; 3], acceleration: [0.0; 3] };
@@ -61,7 +61,8 @@ fn reference(legs: &[Leg], time: f32) -> Reference {
 /// The pass as drawn, on the route.
 pub fn fly(seed: u64) -> Result<Flight, Refusal> {
     let legs = legs();
-    pass::fly_along(&pass::SHOWN, seed, Rule::Shield, Some(Route::new(&legs)?), |time| reference(&legs, time))
+    let way = Way { reference: |time| reference(&legs, time), heading: pass::heading };
+    pass::fly_along(&pass::SHOWN, seed, Rule::Shield, Some(Route::new(&legs)?), way, |_, _| {})
 }
 
 /// What happened on each leg.

@@ -3,7 +3,7 @@
 use fly::flight::Flight;
 use fly::scenario::{self, Scenario};
 use fly::table::{choices, passes, table, Pair};
-use fly::{legs, output, pass};
+use fly::{curve, legs, output, pass};
 use fosavalo::{LEG_BYTES, TICK_BYTES};
 use std::io::Write;
 use std::path::{Path, PathBuf};
@@ -22,7 +22,8 @@ fn usage() -> String {
 fly --choices
 
 Without a scenario: the slow pass above a stage in a closed loop, five seeds, our shield and the earlier rule side by side;
-then a pass of three legs on a route. With one: the flight of that file.
+then a pass of three legs on a route, and a curved one by the margin of today and by document 01's. With one: the flight
+of that file.
 
   --out FOLDER   where the files go, `{FOLDER}` if it is not given: NAME-shield.csv and NAME-earlier.csv with every tick,
                  NAME-shield.log and NAME-earlier.log, and where gnuplot is there NAME.svg and NAME.png, drawn from
@@ -82,6 +83,9 @@ fn run() -> Result<(), String> {
     }
     if scenario.is_none() {
         say(&format!("\n{}", legs::table().map_err(|refusal| refusal.to_string())?))?;
+        say(&format!("\n{}", curve::table().map_err(|refusal| refusal.to_string())?))?;
+        let said = curve::write(&folder).map_err(|error| format!("{}: {error}", folder.display()))?;
+        say(&format!("\n{}\n", said.join("\n")))?;
     }
     Ok(())
 }

@@ -5,7 +5,7 @@ use crate::flight::{Flight, Rule};
 use crate::planner::{Planner, Reference};
 use crate::random::Random;
 use crate::vector::{norm, sub, V3};
-use fosavalo::{Answer, BodyRate, Governor, GyroFilter, Pilot, RecoverableSet, Refusal, Route, Segment, SetUp, TickInput, Torque};
+use fosavalo::{Answer, BodyRate, Governor, GyroFilter, Image, Pilot, RecoverableSet, Refusal, Route, Segment, SetUp, TickInput, Torque};
 
 pub const SECONDS: f64 = 20.0;
 pub const DT: f32 = 0.001;
@@ -32,8 +32,8 @@ pub struct Choice {
     pub gyro_noise: f64,
 }
 
-/// The one that is drawn. The set is tight, for the camera: level, the margin is 0.09 less the squared rate, which is 14 degrees a second
-/// at enter and 8 at exit.
+/// The one that is drawn. The set is tight, for the camera: level, the margin is 0.09 less the squared rate error, which is 14 degrees
+/// a second at enter and 8 at exit.
 pub const SHOWN: Choice = Choice {
     name: "as shown",
     set: RecoverableSet { k_r: 0.0009, lambda_j: 0.04, psi_max: 0.5 },
@@ -95,30 +95,52 @@ fn reference(time: f32) -> Reference {
 
 /// Flies the pass. The noise, the planner's whims and everything else depend on the seed alone.
 pub fn fly(choice: &Choice, seed: u64, rule: Rule) -> Result<Flight, Refusal> {
-    fly_along(choice, seed, rule, None, reference)
+    fly_along(choice, seed, rule, None, Way { reference, heading }, |_, _| {})
 }
 
-/// The same, on a route where one is given; `reference` says where its trajectory is.
+/// The wanted heading at a time since the start, and how fast it turns.
+pub fn heading(seconds: f64) -> Heading {
+    Heading { yaw: PAN * (seconds - 0.5 * SECONDS), turn: PAN, own: false }
+}
+
+/// Which way the camera is to look.
+pub struct Heading {
+    pub yaw: f64,
+    pub turn: f64,
+    /// Whether the planner turns with it, and looks about no more.
+    pub own: bool,
+}
+
+/// Where the trajectory is at a governed time, and the heading at a time since the start.
+pub struct Way<R, H> {
+    pub reference: R,
+    pub heading: H,
+}
+
+/// The same another way, on a route where one is given; `look` sees the image and the answer after each tick.
 pub fn fly_along(
     choice: &Choice,
     seed: u64,
     rule: Rule,
     route: Option<Route>,
-    reference: impl Fn(f32) -> Reference,
+    Way { reference, heading }: Way<impl Fn(f32) -> Reference, impl Fn(f64) -> Heading>,
+    mut look: impl FnMut(&Image, &Answer),
 ) -> Result<Flight, Refusal> {
     let (mut flight, mut image) = Flight::begin(&set_up(choice), rule, route)?;
     let (mut whims, mut noise) = (Random::new(2 * seed), Random::new(2 * seed + 1));
     let dt = f64::from(DT);
-    let yaw_at = |k: u64| PAN * (k as f64 * dt - 0.5 * SECONDS);
-    let (mut aircraft, mut planner) = (Aircraft::at(FROM, yaw_at(0)), Planner::new(&mut whims));
+    let (mut aircraft, mut planner) = (Aircraft::at(reference(0.0).position, heading(0.0).yaw), Planner::new(&mut whims));
     let mut delivered = [1.0; 3];
     let mut last =
         Answer { torque: Torque([0.0; 3]), command: BodyRate([0.0; 3]), pilot: Pilot::Fallback, time: 0.0, psi: 0.0, margin: 0.0 };
     for k in 0..TICKS {
         let (sensed, reference) = (aircraft.sense(choice.gyro_noise, dt, &mut noise), reference(last.time));
-        let yaw = yaw_at(k);
+        let Heading { yaw, turn, own } = heading(k as f64 * dt);
         let wanted = Planner::wanted(aircraft.position, aircraft.velocity, &reference);
-        let rate = planner.rate(sensed.attitude, wanted, yaw, dt, &mut whims);
+        let rate = match own {
+            true => Planner::rate_of(sensed.attitude, wanted, yaw, turn),
+            false => planner.rate(sensed.attitude, wanted, yaw, dt, &mut whims),
+        };
         let single = |v: V3| v.map(|x| x as f32);
         last = flight.tick(
             &mut image,
@@ -127,12 +149,13 @@ pub fn fly_along(
                 attitude: sensed.attitude.map(|x| x as f32),
                 tracking_error: norm(sub(aircraft.position, reference.position)) as f32,
                 yaw: yaw as f32,
-                yaw_rate: PAN as f32,
+                yaw_rate: turn as f32,
                 dt: DT,
                 planner: BodyRate(single(rate)),
                 delivered,
             },
         )?;
+        look(&image, &last);
         let torque = last.torque.0.map(f64::from);
         delivered = single(aircraft.fly(torque, aircraft.thrust_for(wanted[2]), dt));
     }

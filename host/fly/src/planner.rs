@@ -43,8 +43,13 @@ impl Planner {
     /// The body rate that it wants.
     pub fn rate(&mut self, attitude: Quat, wanted: V3, yaw: f64, dt: f64, random: &mut Random) -> V3 {
         let pan = self.pan(dt, random);
-        let off = error(&axes(attitude), &looking(wanted, yaw + self.aim));
-        [-TURN[0] * off[0], -TURN[1] * off[1], (pan - TURN[2] * off[2]).clamp(-FASTEST, FASTEST)]
+        Planner::rate_of(attitude, wanted, yaw + self.aim, pan)
+    }
+
+    /// The body rate that holds this heading, which turns so fast.
+    pub fn rate_of(attitude: Quat, wanted: V3, yaw: f64, turn: f64) -> V3 {
+        let off = error(&axes(attitude), &looking(wanted, yaw));
+        [-TURN[0] * off[0], -TURN[1] * off[1], (turn - TURN[2] * off[2]).clamp(-FASTEST, FASTEST)]
     }
 
     /// Moves the aim; how fast it moves.

@@ -12,8 +12,10 @@ pub struct Gains {
     pub j: [f32; 3],
 }
 
-/// What the margin is measured against: the smaller of `psi_max - psi` and `2 k_r (2 - psi) / lambda_j - |rate|²`, where psi is one
-/// minus the cosine of the angle between the attitude and the wanted one.
+/// What the margin is measured against: the smaller of `psi_max - psi` and `2 k_r (2 - psi) / lambda_j - |error|²`, where psi is one
+/// minus the cosine of the angle between the attitude and the wanted one, and the error is the filtered rate less the commanded one, which is
+/// what the trajectory and the yaw rate ask for. Where the wanted thrust is next to nothing there is no commanded rate, and all of the filtered
+/// rate counts.
 #[derive(Clone, Copy, Debug, PartialEq)]
 pub struct RecoverableSet {
     /// The attitude gain that the set was worked out with.

@@ -63,7 +63,7 @@ pub struct TickInput {
     pub tracking_error: f32,
     /// The wanted heading, rad. One that is no number, or beyond 128 in size, leaves no wanted attitude: the fallback flies.
     pub yaw: f32,
-    /// Its rate, rad/s.
+    /// Its rate, rad/s: commanded turning, which the margin does not count as error.
     pub yaw_rate: f32,
     /// Since the last tick, s.
     pub dt: f32,

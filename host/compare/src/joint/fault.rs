@@ -49,6 +49,15 @@ faults! {
         Untouched = "a sham that leaves the image";
         Echo = "a sham that echoes its first answer";
     }
+    /// Those of the rate error.
+    WRONG_ERROR {
+        WholeRate = "commanded turning counted as error";
+        VectorFirst = "R_d times the feedforward, then R transposed";
+        OtherTransposed = "R_d transposed times R";
+        PlusCommanded = "the rate plus what is commanded";
+        RefusedAsZeros = "a refused feedforward taken for zeros";
+        ZerosAsRefused = "a feedforward of zeros taken for refused";
+    }
     /// And those of route ticks alone.
     WRONG_ON_ROUTES {
         EarlierAtEnd = "a time equal to an end flies the earlier leg";

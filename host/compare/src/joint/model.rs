@@ -28,6 +28,27 @@ pub struct Way {
     pub feedforward: bool,
     pub at_the_end: bool,
     pub time: f32,
+    /// With R_d and a finite psi: the feedforward, and whether every entry of Rᵀ R_d is finite.
+    pub turning: Option<(Ahead, bool)>,
+}
+
+/// The feedforward: none, zeros, or some.
+#[derive(Clone, Copy)]
+pub enum Ahead {
+    Refused,
+    Zeros,
+    Some,
+}
+
+impl Ahead {
+    #[inline]
+    fn of(ahead: Option<Vec3>) -> Self {
+        match ahead {
+            None => Ahead::Refused,
+            Some(ff) if ff == [0.0; 3] => Ahead::Zeros,
+            Some(_) => Ahead::Some,
+        }
+    }
 }
 
 impl Flight {
@@ -116,13 +137,25 @@ impl Flight {
             None if fault == Fault::PlusZero => wanted.map(|x| x + 0.0),
             None => wanted,
         };
+        let mut turning = None;
         let (psi, margin) = match r_d {
             Some(r_d) => {
                 let [k_r, lambda_j, psi_max, ..] = self.shield.words();
                 let k_r = if fault == Fault::OtherGain { self.controller.words()[0][0] } else { k_r };
                 let rate = if fault == Fault::RawRate { gyro } else { omega };
                 let psi = GeoAtt::psi(&r, &r_d);
-                (psi, RecoverableSet::new(k_r, lambda_j, psi_max).margin(psi, geo::private::dot(rate, rate)))
+                let product = product(&r, &r_d);
+                let whole = product.iter().flatten().all(|entry| entry.is_finite());
+                turning = psi.is_finite().then_some((Ahead::of(ahead), whole));
+                let error = match (fault, Ahead::of(ahead)) {
+                    (Fault::WholeRate, _) | (Fault::ZerosAsRefused, Ahead::Zeros) => rate,
+                    (Fault::VectorFirst, _) => rate_error(rate, &geo::private::transpose3(r), ahead.map(|ff| times(&r_d, ff))),
+                    (Fault::OtherTransposed, _) => rate_error(rate, &geo::private::transpose3(product), ahead),
+                    (Fault::PlusCommanded, _) => rate_error(rate, &product, ahead.map(|ff| ff.map(|x| -x))),
+                    (Fault::RefusedAsZeros, _) => rate_error(rate, &product, ahead.or(Some([0.0; 3]))),
+                    _ => rate_error(rate, &product, ahead),
+                };
+                (psi, RecoverableSet::new(k_r, lambda_j, psi_max).margin(psi, geo::private::dot(error, error)))
             }
             None => (if fault == Fault::PsiZero { 0.0 } else { f32::NAN }, f32::NEG_INFINITY),
         };
@@ -161,13 +194,14 @@ impl Flight {
         o.floats(command);
         o.word(u32::from(flag));
         o.floats([if fault == Fault::TimeBefore { before } else { time }, psi, margin]);
-        Way { attitude: r_d.is_some(), feedforward: ahead.is_some(), at_the_end: time == f32::INFINITY, time }
+        Way { attitude: r_d.is_some(), feedforward: ahead.is_some(), at_the_end: time == f32::INFINITY, time, turning }
     }
 
-    /// The attitude that a tick with these inputs would want.
-    pub fn attitude_ahead(&self, source: &Source, track_err: f32, yaw: f32, dt: f32) -> Option<Mat3> {
+    /// The attitude that a tick with these inputs would want, and the feedforward.
+    pub fn attitude_ahead(&self, source: &Source, [track_err, yaw, yaw_rate, dt]: [f32; 4]) -> (Option<Mat3>, Option<Vec3>) {
         let (sample, _) = self.sample(Fault::None, source, self.time_ahead(track_err, dt));
-        attitude(geo::private::sanitise3(sample.acc), yaw)
+        let (acc, jerk) = (geo::private::sanitise3(sample.acc), geo::private::sanitise3(sample.jerk));
+        (attitude(acc, yaw), geo::flatness_omega_ff(acc, jerk, yaw, yaw_rate))
     }
 
     /// And its time.
@@ -186,6 +220,26 @@ impl Flight {
             }
         }
     }
+}
+
+/// Request Four's rate error: the rate less the product's rows with the feedforward, and the rate itself where there is none.
+#[inline]
+fn rate_error(rate: Vec3, product: &Mat3, ahead: Option<Vec3>) -> Vec3 {
+    let Some(ff) = ahead else { return rate };
+    let commanded = times(product, ff);
+    [rate[0] - commanded[0], rate[1] - commanded[1], rate[2] - commanded[2]]
+}
+
+/// Rᵀ R_d.
+#[inline]
+pub fn product(r: &Mat3, r_d: &Mat3) -> Mat3 {
+    geo::private::matmul3(geo::private::transpose3(*r), *r_d)
+}
+
+/// A matrix times a vector, row by row.
+#[inline]
+pub fn times(m: &Mat3, v: Vec3) -> Vec3 {
+    m.map(|row| geo::private::dot(row, v))
 }
 
 /// R_d.

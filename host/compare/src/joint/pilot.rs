@@ -1,10 +1,10 @@
 //! What comes in: set-ups, ticks and damage. All of it depends on the run's number alone.
 
 use super::bytes::{put, raw, word, SETUP, TICK, WORDS};
-use super::model::Flight;
+use super::model::{product, times, Flight};
 use super::route::Source;
 use crate::generate::{self, Rng};
-use oracle::geo::Mat3;
+use oracle::geo::{self, Mat3};
 
 /// How a run comes about.
 #[derive(Clone, Copy, Debug, PartialEq, Eq)]
@@ -54,6 +54,8 @@ enum Style {
     Fall,
     /// Long steps, up to an infinite time.
     Clock,
+    /// A quaternion so long that entries of Rᵀ R_d overflow, and psi does not.
+    Long,
 }
 
 /// The words of a set-up by their places.
@@ -127,7 +129,7 @@ impl Pilot {
     fn of(kind: Kind, turn: u64, mut rng: Rng) -> Self {
         let style = match kind {
             Kind::Pass => [Style::Tilt, Style::Turn, Style::Tilt, Style::Edge][(turn % 4) as usize],
-            Kind::Wild => [Style::Bits, Style::Special, Style::Spoilt, Style::Fall, Style::Clock][(turn % 5) as usize],
+            Kind::Wild => [Style::Bits, Style::Special, Style::Spoilt, Style::Fall, Style::Clock, Style::Long][(turn % 6) as usize],
             Kind::SetUp | Kind::Damaged => Style::Fly,
         };
         let set_up = flight(&mut rng);
@@ -165,16 +167,11 @@ impl Pilot {
                 (self.yaw, self.pan) = (0.0, 0.0);
             }
             Style::Fall => {
-                // coefficients c5 to c3 are exactly zero, so that the acceleration is a0 at all times
                 let t = rng.of(&[1.0, 2.0, 4.0, 8.0]).unwrap_or(1.0);
                 let a = 9.81 - rng.near_one(&[1e-3, 1e-3, 5e-4, 1e-6, 1e-9, 0.0, 2e-3]);
-                s[place::P0..place::T].fill(0.0);
-                s[place::T] = t;
-                let (a0, af) = (place::A0 + 2, place::AF + 2);
-                (s[a0], s[af], s[place::VF + 2], s[place::PF + 2]) = (a, a, a * t, 0.5 * a * t * t);
+                fall(s, t, a);
                 if rng.below(4) == 0 {
-                    (s[a0], s[af], s[place::PF + 2]) = (9.81, 9.81, 0.5 * 9.81 * t * t);
-                    s[place::VF + 2] = 9.81 * t;
+                    fall(s, t, 9.81);
                     s[place::A0] = rng.near_one(&[1e-3, 1e-9, 5e-4]);
                     (s[place::AF], s[place::VF], s[place::PF]) = (s[place::A0], s[place::A0] * t, 0.5 * s[place::A0] * t * t);
                 }
@@ -184,6 +181,18 @@ impl Pilot {
                 }
                 if rng.flag() {
                     (self.yaw, self.pan) = (rng.of(&[0.0, -0.0]).unwrap_or(0.0), 0.0);
+                }
+            }
+            Style::Long => {
+                // at rest, in a fall that has an attitude and no feedforward, or as in flight
+                self.yaw = rng.range(0.5, 1.1);
+                match turn / 6 % 3 {
+                    0 => {
+                        s[place::P0..place::T].fill(0.0);
+                        self.pan = 0.0;
+                    }
+                    1 => fall(s, 2.0, 9.81 - 5e-4),
+                    _ => {}
                 }
             }
             Style::Fly if self.kind == Kind::SetUp => match turn % 3 {
@@ -232,7 +241,7 @@ impl Pilot {
                     words[11 + rng.below(3)] = rng.special();
                 }
             }
-            Style::Fall => {}
+            Style::Fall | Style::Long => {}
         }
         // a clock far out stands still, so long steps are mostly for the runs that are about them
         if self.style != Style::Clock && words[10].is_finite() && words[10] > 1.0 && rng.below(64) != 0 {
@@ -264,10 +273,16 @@ impl Pilot {
         // a direction that turns slowly, so that the filter lets it through
         let (sine, cosine) = (0.3 * self.yaw + self.pan).sin_cos();
         let mut gyro = [speed * cosine, speed * sine * 0.8, speed * sine * 0.6];
-        let mut q = match flight.attitude_ahead(source, track_err, self.yaw, dt) {
-            Some(r_d) => turned(&r_d, [0.6 * cosine, 0.6 * sine, 0.8], error),
+        let (r_d, ahead) = flight.attitude_ahead(source, [track_err, self.yaw, self.pan, dt]);
+        let mut q = match &r_d {
+            Some(r_d) => turned(r_d, [0.6 * cosine, 0.6 * sine, 0.8], error),
             None => rng.direction(),
         };
+        // that, and what is commanded, which is no error
+        if let (Some(r_d), Some(ahead)) = (&r_d, ahead) {
+            let commanded = times(&product(&geo::quat_to_rotmat(q), r_d), ahead);
+            gyro.iter_mut().zip(commanded).for_each(|(rate, own)| *rate += own);
+        }
         match self.style {
             Style::Edge => {
                 let x = match rng.below(4) {
@@ -278,6 +293,12 @@ impl Pilot {
                 (gyro, q) = ([x, 0.0, 0.0], [1.0, 0.0, 0.0, 0.0]);
             }
             Style::Fall if self.yaw == 0.0 => q = [1.0, 0.0, 0.0, 0.0],
+            // about the third axis by twice the heading: the trace's two large terms cancel, the entries beside it add up to twice the square
+            Style::Long => {
+                let long = if rng.flag() { rng.range(1.2e19, 1.5e19) } else { rng.range(0.0, 63.0).exp2() };
+                let (sine, cosine) = self.yaw.sin_cos();
+                q = [long * cosine, 0.0, 0.0, long * sine];
+            }
             _ => {}
         }
         let agile: [f32; 3] = std::array::from_fn(|_| rng.range(-2.0, 2.0));
@@ -351,6 +372,13 @@ fn flight(rng: &mut Rng) -> [f32; SETUP / 4] {
     s[36..place::FC].iter_mut().zip(adrc).for_each(|(w, x)| *w = x * rng.range(0.7, 1.4));
     s[place::FC..].copy_from_slice(&[rng.range(30.0, 120.0), rng.range(300.0, 1000.0)]);
     s
+}
+
+/// Down with this acceleration at all times: coefficients c5 to c3 are exactly zero.
+fn fall(s: &mut [f32; SETUP / 4], t: f32, a: f32) {
+    s[place::P0..place::T].fill(0.0);
+    s[place::T] = t;
+    (s[place::A0 + 2], s[place::AF + 2], s[place::VF + 2], s[place::PF + 2]) = (a, a, a * t, 0.5 * a * t * t);
 }
 
 /// The quaternion of an attitude, turned about an axis of the body.

@@ -64,6 +64,8 @@ counts! {
         pub looked_back: u64,
         pub no_attitude: u64,
         pub no_feedforward: u64,
+        /// Ticks with R_d and a finite psi, by the feedforward (refused, zeros, some) and the entries of Rᵀ R_d (finite, not all finite).
+        pub turning: [[u64; 2]; 3],
         pub at_the_end: u64,
         /// For each word of the image, damages that were accepted and that were refused.
         pub damaged: [[u64; 2]; WORDS],
@@ -103,6 +105,8 @@ impl fmt::Display for Seen {
             "{} ticks without R_d, {} with R_d and no feedforward, {} at an infinite time",
             self.no_attitude, self.no_feedforward, self.at_the_end
         )?;
+        let [refused, zeros, some] = self.turning;
+        writeln!(f, "by the product of attitudes, finite and not: feedforward refused {refused:?}, zeros {zeros:?}, some {some:?}")?;
         let all = self.damaged.iter().fold([0; 2], |[a, b], [c, d]| [a + c, b + d]);
         let least = self.damaged.iter().map(|[a, b]| a + b).min().unwrap_or(0);
         write!(f, "{} damaged words accepted, {} refused, at least {least} at each word", all[0], all[1])?;
@@ -205,6 +209,9 @@ pub fn run(face: Face, number: u64, watch: Watch, calls: &'static [Call], seen: 
             seen.ticks[kind] += 1;
             seen.no_attitude += u64::from(!way.attitude);
             seen.no_feedforward += u64::from(way.attitude && !way.feedforward);
+            if let Some((ahead, whole)) = way.turning {
+                seen.turning[ahead as usize][usize::from(!whole)] += 1;
+            }
             seen.at_the_end += u64::from(way.at_the_end);
             if let Source::Route(route) = &source {
                 seen.routes.take(hands.route.bytes(), route, way.time);

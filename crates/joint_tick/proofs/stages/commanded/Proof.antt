@@ -1,0 +1,9 @@
+use mathlib.Core.Path.{refl}
+use Rattle.relay_geo.specs.Vectors.{dot, prod3, matmul3}
+use Rattle.joint_tick.specs.Tick.{commanded}
+use Rattle.joint_tick.proofs.stages.commanded.Statement.{statement}
+use Rattle.joint_tick.proofs.stages.commanded.Tie as tie
+
+pub commanded-spec : {M : Type 1} → statement M
+unfolding commanded matmul3 prod3 dot
+commanded-spec = tie.close (tie.spec (λ c. refl))

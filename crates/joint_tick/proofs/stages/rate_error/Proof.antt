@@ -1,0 +1,13 @@
+use borrow.Author.Needs.{needs}
+use Rattle.joint_tick.proofs.stages.rate_error.Statement.{statement}
+use Rattle.joint_tick.proofs.stages.rate_error.Tie as tie
+
+pub rate-error-spec : {M : Type 1} → statement M
+rate-error-spec =
+    tie.close
+    (tie.spec (λ c. search needs) (λ c. search needs) (λ c. search needs) (λ c. search needs) (λ c. search needs)
+    (λ c. simp (c .enum-told2 .given .1, c .before .before .before .feedforward .given .1)) (λ c κs. search needs)
+    (λ c.
+    let m = c .before .before .before .before .before .before in
+    let d = m .before .before in
+    simp (m .commanded .ensures, d .r-d .given .1, d .before .before .before .feedforward .given .1)))

@@ -19,7 +19,7 @@ extern "C" {
 /* The version of this header; fosavalo_version() is the archive's. The second number is that of the last change request which both have: a request may
  * change what a word means and leave every length. */
 #define FOSAVALO_VERSION_MAJOR 0
-#define FOSAVALO_VERSION_MINOR 4
+#define FOSAVALO_VERSION_MINOR 5
 #define FOSAVALO_VERSION_PATCH 0
 #define FOSAVALO_VERSION_NUMBER ((FOSAVALO_VERSION_MAJOR << 16) + (FOSAVALO_VERSION_MINOR << 8) + FOSAVALO_VERSION_PATCH)
 #define FOSAVALO_VERSION FOSAVALO_TEXT(FOSAVALO_VERSION_MAJOR) "." FOSAVALO_TEXT(FOSAVALO_VERSION_MINOR) "." FOSAVALO_TEXT(FOSAVALO_VERSION_PATCH)
@@ -79,7 +79,7 @@ static inline uint32_t fosavalo_float_environment(void) {
     return (down == 0x3f800000u && up == 0x3f800002u ? 0u : FOSAVALO_ROUNDING_WRONG) + (subnormal == 0x00000002u ? 0u : FOSAVALO_SUBNORMALS_WRONG);
 }
 
-/* Sine and cosine of x, in radians: within 2^-23 of the exact value up to 128 in size; +0.0 beyond it, for an infinity and for a NaN.
+/* Sine and cosine of x, in radians: within 2^-23 of the exact value up to 8192 in size; +0.0 beyond it, for an infinity and for a NaN.
  * The sine of a zero is that zero. */
 float fosavalo_sinf(float x);
 float fosavalo_cosf(float x);

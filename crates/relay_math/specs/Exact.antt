@@ -107,9 +107,9 @@ exactCosine s u = cosineBy (quarter s u) (unlike s (back u)) (rest u)
 
 -- ---- the rule
 
--- LIMIT = 2 ^ 7: sine and cosine are served up to this size
+-- LIMIT = 2 ^ 13: sine and cosine are served up to this size (document 01 has 2 ^ 7, request Five this)
 abbrev pub Limit : Float
-Limit = fin false 1 (pos 7)
+Limit = fin false 1 (pos 13)
 
 -- |x| is at most the limit: of no NaN, and of no infinity where the limit is finite
 abbrev pub upTo : Float → Float → Bool

@@ -9,7 +9,7 @@ ghost use Rattle.relay_math.specs.Exact.{gap, Limit, IsSine, IsCosine};
 ghost use Rattle.relay_math.specs.Steps.{part, lessPart, polyOf, sinPoly, cosPoly, toFloat, signed, reduceOf, turned, fixed, large, sincos, sinf, cosf, Tiny, Most};
 
 // Sine and cosine are served up to this size, and give +0.0 beyond it.
-const LIMIT: f32 = 128.0;
+const LIMIT: f32 = 8192.0;
 
 // Below this size sine is the number itself and cosine is 1: 2^-12.
 const TINY: f32 = 0.000244140625;

@@ -1,6 +1,7 @@
 //! Sine and cosine beside relay's own f32 kernels.
 
 use crate::Rng;
+use compare::numbers::LIMIT;
 use std::hint::black_box;
 use std::time::Instant;
 
@@ -97,11 +98,11 @@ pub fn rows(rng: &mut Rng) -> bool {
         s + c
     };
     let mut within = |size: f64| (0..HEADINGS).map(|_| ((rng.next() - 0.5) * 2.0 * size) as f32).collect::<Vec<f32>>();
-    let (turn, limit) = (within(std::f64::consts::PI), within(128.0));
+    let (turn, near, limit) = (within(std::f64::consts::PI), within(128.0), within(LIMIT.into()));
     let slow: Vec<f32> = (0..HEADINGS).map(|k| 0.3 + k as f32 * 1e-5).collect();
     println!("sine and cosine, against relay's kernels: median / least");
     let mut good = true;
-    for (name, headings, barred) in [("±pi", turn, true), ("±128", limit, true), ("a heading that turns slowly", slow, false)] {
+    for (name, headings, barred) in [("±pi", turn, true), ("±128", near, true), ("±8192", limit, true), ("a heading that turns slowly", slow, false)] {
         let bar = |bar: f64| barred.then_some(bar);
         let h = &headings;
         good &= row(&format!("sine, {name}"), turns(faces::sinf, |x| theirs::sinf(x), h, Calls::Apart), bar(0.6));

@@ -9,6 +9,7 @@ use compare::joint::model::Flight;
 use compare::joint::pilot::Pilot;
 use compare::joint::route::Source;
 use compare::log::{model, RECORD, TRAILER};
+use compare::numbers::LIMIT;
 use std::hint::black_box;
 use std::time::Instant;
 
@@ -31,10 +32,10 @@ pub fn pass() -> Run {
     run(|_, _| {})
 }
 
-/// The same with any heading up to 128 and any attitude at each tick.
+/// The same with any heading up to the limit and any attitude at each tick.
 pub fn headings() -> Run {
     let heading = |rng: &mut Rng, input: &mut Input| {
-        put(input, 8, rng.range(-128.0, 128.0).to_bits());
+        put(input, 8, rng.range(-LIMIT, LIMIT).to_bits());
         rng.direction::<4>().iter().enumerate().for_each(|(k, x)| put(input, 3 + k, x.to_bits()));
     };
     run(heading)

@@ -1,6 +1,8 @@
 //! Inputs. Every row depends on the routine's name and the row's number alone, so a run can be had again on any machine,
 //! with any number of threads.
 
+use crate::numbers::LIMIT;
+
 /// splitmix64.
 pub struct Rng(u64);
 
@@ -98,7 +100,7 @@ pub enum Part {
     Above(f32),
     /// Three of them.
     Gains(f32),
-    /// Radians: mostly a turn or two, at times to beyond the limit of 128.
+    /// Radians: mostly a turn or two, at times to beyond the limit.
     Angle,
     /// A step in seconds: mostly a few ms, at times beyond both clamps.
     Step,
@@ -129,7 +131,7 @@ impl Part {
             Part::Number(size) | Part::Vector(size) => words.iter_mut().for_each(|w| *w = rng.range(-size, size)),
             Part::Above(size) | Part::Gains(size) | Part::End(size) => words.iter_mut().for_each(|w| *w = rng.range(0.0, size)),
             Part::Angle => {
-                let size = rng.of(&[3.2, 3.2, 7.0, 130.0, 260.0]).unwrap_or(7.0);
+                let size = rng.of(&[3.2, 3.2, 7.0, 130.0, 260.0, 1.02 * LIMIT, 2.04 * LIMIT]).unwrap_or(7.0);
                 words.iter_mut().for_each(|w| *w = rng.range(-size, size));
             }
             Part::Step => {
@@ -172,7 +174,7 @@ fn rotation([w, x, y, z]: [f32; 4]) -> [f32; 9] {
 }
 
 /// What the Rust and document 01 decide or reckon by.
-const LITERALS: [f32; 13] = [1e-9, 1e-4, 1e-3, 0.1, 0.5, 1.0, 2.0, 3.0, 9.81, 10.0, 128.0, 256.0, std::f32::consts::PI];
+const LITERALS: [f32; 13] = [1e-9, 1e-4, 1e-3, 0.1, 0.5, 1.0, 2.0, 3.0, 9.81, 10.0, LIMIT, 2.0 * LIMIT, std::f32::consts::PI];
 
 /// By bits: zero; the least subnormal, another and the largest; the least normal; 2^126, 2^127 and the largest; infinity;
 /// NaNs that are plain, signalling and all ones; the numbers whose squares are at the ends of the range; 1e38 and 3e38.

@@ -4,8 +4,9 @@ use crate::progress::Progress;
 use crate::{exact, same, steps, threads};
 use std::sync::Mutex;
 
-/// The size up to which sine and cosine are served.
-pub const LIMIT: f32 = 128.0;
+/// The size up to which sine and cosine are served, and the one up to which they were before request Five.
+pub const LIMIT: f32 = 8192.0;
+pub const EARLIER_LIMIT: f32 = 128.0;
 
 /// Bars: the worst distance from document 01's exact value, and the worst error in units in the last place where the value is at least 1e-3 in size.
 pub const DISTANCE: f64 = 3.2e-8;
@@ -118,8 +119,7 @@ pub fn hardware(stride: u32) -> Found {
     })
 }
 
-/// Sine and cosine at x and at -x: the pair and the two single calls agree, sine is odd and cosine even bit for bit,
-/// and both lie where the bars say.
+/// Sine and cosine at x and at -x: the pair and the two single calls agree, and sine is odd and cosine even bit for bit.
 fn angle(x: f32, found: &mut Found) {
     let (s, c) = faces::sincos(x);
     let (sm, cm) = faces::sincos(-x);
@@ -134,9 +134,46 @@ fn angle(x: f32, found: &mut Found) {
     found.look(x, c, tc);
 }
 
-/// Every size up to the limit.
+/// Every size up to the limit. How far the true value is, is for the record: P is not quite half of pi, and n times as far off.
 pub fn angles(stride: u32) -> Found {
-    sweep("sine and cosine up to the limit", 0, LIMIT.to_bits(), stride, angle).within_bars()
+    sweep("sine and cosine up to the limit", 0, LIMIT.to_bits(), stride, angle)
+}
+
+/// The answers at many angles in one number, whatever the order in which they are taken.
+#[derive(Clone, Default)]
+pub struct Checksum {
+    pub cases: u64,
+    pub sum: u64,
+}
+
+impl Sweeps for Checksum {
+    fn of(cases: u64) -> Self {
+        Checksum { cases, sum: 0 }
+    }
+
+    fn join(&mut self, other: Checksum) {
+        self.cases += other.cases;
+        self.sum = self.sum.wrapping_add(other.sum);
+    }
+}
+
+/// A word from a word in which every bit counts (the last steps of splitmix64).
+fn mixed(word: u64) -> u64 {
+    let word = (word ^ word >> 30).wrapping_mul(0xbf58_476d_1ce4_e5b9);
+    let word = (word ^ word >> 27).wrapping_mul(0x94d0_49bb_1331_11eb);
+    word ^ word >> 31
+}
+
+/// Sine and cosine of every f32 up to the earlier limit, of either sign.
+pub fn checksum() -> Checksum {
+    sweep("a checksum up to the earlier limit", 0, EARLIER_LIMIT.to_bits(), 1, |x, found: &mut Checksum| {
+        for x in [x, -x] {
+            for (function, answer) in [faces::sinf(x), faces::cosf(x)].into_iter().enumerate() {
+                let answer = u64::from(answer.to_bits()) << 32 | u64::from(x.to_bits());
+                found.sum = found.sum.wrapping_add(mixed(mixed(answer) + function as u64));
+            }
+        }
+    })
 }
 
 /// Beyond the limit, the infinities and the NaNs: +0.0 for both signs.
@@ -151,17 +188,16 @@ pub fn far(stride: u32) -> Found {
     })
 }
 
-/// Our steps up to 8192 against document 01's exact values, worked out from its own words; up to the limit the archive's answers are the steps'.
+/// Our answers up to the limit against document 01's exact values, worked out from its own words, and against the steps as they are written a second time.
 pub fn document(stride: u32) -> Found {
-    sweep("sine and cosine against document 01", 0, steps::MOST.to_bits(), stride, |x, found: &mut Found| {
-        let ((s, c), (es, ec)) = (steps::sincos(x), exact::sincos(x));
+    sweep("sine and cosine against document 01", 0, LIMIT.to_bits(), stride, |x, found: &mut Found| {
+        let ((s, c), (es, ec)) = (faces::sincos(x), exact::sincos(x));
         found.look(x, s, es);
         found.look(x, c, ec);
         if !(s.abs() <= 1.0 && c.abs() <= 1.0) {
             found.fault(|| format!("more than 1 at {:08x}", x.to_bits()));
         }
-        let served = x <= LIMIT;
-        if served && faces::sincos(x) != (s, c) {
+        if steps::sincos(x) != (s, c) {
             found.fault(|| format!("not the steps' answer at {:08x}", x.to_bits()));
         }
     })
@@ -170,7 +206,7 @@ pub fn document(stride: u32) -> Found {
 
 /// The published f32 kernels against the true value, for the record.
 pub fn published(stride: u32) -> Found {
-    sweep("the published kernels", 0, LIMIT.to_bits(), stride, |x, found: &mut Found| {
+    sweep("the published kernels", 0, EARLIER_LIMIT.to_bits(), stride, |x, found: &mut Found| {
         let (ts, tc) = f64::from(x).sin_cos();
         let s = relay_math_published::sinf(x);
         let c = relay_math_published::cosf(x);
@@ -229,11 +265,11 @@ impl Sweeps for Apart {
     }
 }
 
-/// Ours beside a published kernel, at every angle up to the limit of either sign. The zeros are left out: -0.0 has a line of its own in
+/// Ours beside a published kernel, at every angle up to 128, the published ones' envelope, of either sign. The zeros are left out: -0.0 has a line of its own in
 /// docs/DIFFERENCES.md.
 pub fn apart(stride: u32, ours: fn(f32) -> f32, published: fn(f32) -> f32) -> Apart {
     let signed = |sign: u32| {
-        sweep("ours beside the published kernel", sign + 1, sign + LIMIT.to_bits(), stride, |x, found: &mut Apart| {
+        sweep("ours beside the published kernel", sign + 1, sign + EARLIER_LIMIT.to_bits(), stride, |x, found: &mut Apart| {
             found.look(x, ours(x), published(x));
         })
     };

@@ -1,11 +1,9 @@
-//! Our steps for sine and cosine written a second time, from docs/ANGLES.md and not from the Rattle text, and served up to 8192: what holds of every
-//! limit can then be run beyond today's.
+//! Our steps for sine and cosine written a second time, from docs/ANGLES.md and not from the Rattle text.
 
 /// P in units of 2^-48.
 const P: u64 = 0x1921_FB54_442D1;
 
-/// The size up to which the steps are served here, and the one below which the sine is x.
-pub const MOST: f32 = 8192.0;
+/// The size below which the sine is x.
 const TINY: f32 = 1.0 / 4096.0;
 
 /// The coefficients in units of 2^-32, innermost first.
@@ -23,7 +21,7 @@ fn rounded(v: u64) -> f32 {
     (v as f64 / 2f64.powi(48)) as f32
 }
 
-/// Sine and cosine of an x of at most 8192 in size.
+/// Sine and cosine of an x up to the limit.
 pub fn sincos(x: f32) -> (f32, f32) {
     let a = x.abs();
     if a < TINY {

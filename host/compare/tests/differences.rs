@@ -29,7 +29,7 @@ fn both(ours: f32, theirs: f32, bits: u32) {
 #[test]
 fn sine_and_cosine_are_not_the_published_ones() {
     assert_eq!([faces::sinf(-0.0).to_bits(), published::sinf(-0.0).to_bits()], [0x8000_0000, 0]);
-    let beyond = f(0x4300_0001);
+    let beyond = f(0x4600_0001);
     assert_eq!([faces::sinf(beyond).to_bits(), faces::cosf(beyond).to_bits()], [0, 0]);
     assert_eq!(published::sinf(beyond).to_bits(), 0x3f38_953d);
     assert_eq!([faces::sinf(1.0).to_bits(), published::sinf(1.0).to_bits()], [0x3f57_6aa4, 0x3f57_6aa5]);
@@ -52,8 +52,8 @@ fn sine_and_cosine_are_near_the_published_ones() {
 
 /// Built with its own kernels the Rust has a heading there; built with ours, as document 01 asks, it has none, and neither have we.
 #[test]
-fn headings_beyond_128_have_no_attitude() {
-    let (limit, beyond) = (f(0x4300_0000), f(0x4300_0001));
+fn headings_beyond_8192_have_no_attitude() {
+    let (limit, beyond) = (f(0x4600_0000), f(0x4600_0001));
     let down = Vec3(0.0, 0.0, 1.0);
     let own = [published::cosf(beyond), published::sinf(beyond), 0.0];
     assert!(rust_geo::private::normalize(rust_geo::private::cross(array(down), own)).is_some());
@@ -77,8 +77,8 @@ fn headings_beyond_128_have_no_attitude() {
     assert_eq!((lost.pilot, lost.margin, lost.psi.is_nan()), (fosavalo::Pilot::Fallback, f32::NEG_INFINITY, true));
     assert_eq!(lost.command.0.map(f32::to_bits), [0; 3]);
     assert_eq!(tick(0.0).pilot, fosavalo::Pilot::Planner);
-    // half the angle counts, so here the limit is 256, for each of the three
-    let (at, past) = (f(0x4380_0000), f(0x4380_0001));
+    // half the angle counts, so here the limit is 16384, for each of the three
+    let (at, past) = (f(0x4680_0000), f(0x4680_0001));
     for (angle, none) in [(at, false), (past, true)] {
         for [roll, pitch, yaw] in [[angle, 0.25, 0.5], [0.25, angle, 0.5], [0.25, 0.5, angle]] {
             let ours = faces::pos::euler_to_quaternion(roll, pitch, yaw);

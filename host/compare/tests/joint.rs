@@ -209,7 +209,7 @@ fn a_tick_by_hand() {
 
 #[test]
 fn a_heading_that_is_no_number() {
-    for yaw in [NAN, INFINITY, 0xff80_0000, 0x4300_0001, 0xffff_ffff] {
+    for yaw in [NAN, INFINITY, 0xff80_0000, 0x4600_0001, 0xffff_ffff] {
         let mut image = image_of(&set_up());
         let answer = tick(&mut image, &with(still(), &[(8, yaw)]));
         assert_eq!([3, 4, 5, 6].map(|at| word(&answer, at)), [0, 0, 0, 1]);

@@ -15,7 +15,7 @@ fn root_size_and_finiteness_are_the_hardware_s() {
 }
 
 #[test]
-fn angles_up_to_the_limit_meet_the_bars() {
+fn angles_up_to_the_limit_have_their_signs() {
     none_wrong(numbers::angles(STRIDE));
 }
 
@@ -71,8 +71,9 @@ fn figures_of_document_01() {
     // the limit is served, one unit beyond it is not, for both signs
     for sign in [0, 0x8000_0000u32] {
         let at = |b: u32| f32::from_bits(b | sign);
-        assert_ne!(faces::cosf(at(0x4300_0000)), 0.0);
-        assert_eq!(faces::sinf(at(0x4300_0001)).to_bits(), 0);
-        assert_eq!(faces::cosf(at(0x4300_0001)).to_bits(), 0);
+        for served in [0x4300_0000, 0x4300_0001, 0x4600_0000] {
+            assert!(faces::cosf(at(served)) != 0.0 && faces::sinf(at(served)) != 0.0, "{served:08x}");
+        }
+        assert_eq!([faces::sinf(at(0x4600_0001)).to_bits(), faces::cosf(at(0x4600_0001)).to_bits()], [0, 0]);
     }
 }

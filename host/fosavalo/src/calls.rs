@@ -72,7 +72,7 @@ pub fn version() -> u32 {
     unsafe { raw::fosavalo_version() }
 }
 
-/// The sine of x, in radians: within 2⁻²³ of the exact value up to 128 in size, +0.0 beyond it and for what is no number.
+/// The sine of x, in radians: within 2⁻²³ of the exact value up to 8192 in size, +0.0 beyond it and for what is no number.
 ///
 /// ```
 /// assert_eq!(fosavalo::sinf(-0.0).to_bits(), (-0.0f32).to_bits());
@@ -84,11 +84,11 @@ pub fn sinf(x: f32) -> f32 {
     unsafe { raw::fosavalo_sinf(x) }
 }
 
-/// The cosine of x, in radians: within 2⁻²³ of the exact value up to 128 in size, +0.0 beyond it and for what is no number.
+/// The cosine of x, in radians: within 2⁻²³ of the exact value up to 8192 in size, +0.0 beyond it and for what is no number.
 ///
 /// ```
 /// assert_eq!(fosavalo::cosf(0.0), 1.0);
-/// assert_eq!(fosavalo::cosf(128.001), 0.0);
+/// assert_eq!(fosavalo::cosf(8192.001), 0.0);
 /// ```
 #[inline]
 pub fn cosf(x: f32) -> f32 {

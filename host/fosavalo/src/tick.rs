@@ -61,7 +61,7 @@ pub struct TickInput {
     pub attitude: [f32; 4],
     /// How far the aircraft is from the trajectory, in metres.
     pub tracking_error: f32,
-    /// The wanted heading, rad. One that is no number, or beyond 128 in size, leaves no wanted attitude: the fallback flies.
+    /// The wanted heading, rad. One that is no number, or beyond 8192 in size, leaves no wanted attitude: the fallback flies.
     pub yaw: f32,
     /// Its rate, rad/s: commanded turning, which the margin does not count as error.
     pub yaw_rate: f32,

@@ -35,12 +35,14 @@ fn beside(name: &str, found: numbers::Apart) {
 
 fn main() {
     let mut good = report("root, size, finiteness against the hardware", numbers::hardware(1));
-    good &= report("sine and cosine up to 128 against the true value", numbers::angles(1));
-    good &= report("sine and cosine beyond 128", numbers::far(1));
-    good &= report("the steps up to 8192 against document 01, the archive's up to 128", numbers::document(1));
+    good &= report("sine and cosine up to 8192 against the true value, for the record", numbers::angles(1));
+    good &= report("sine and cosine beyond 8192", numbers::far(1));
+    good &= report("sine and cosine up to 8192 against document 01", numbers::document(1));
     report("the published kernels up to 128, for the record", numbers::published(7));
     beside("sine", numbers::apart(1, faces::sinf, relay_math_published::sinf));
     beside("cosine", numbers::apart(1, faces::cosf, relay_math_published::cosf));
+    let numbers::Checksum { cases, sum } = numbers::checksum();
+    println!("sine and cosine up to 128: checksum {sum:016x} over {cases} sizes of either sign");
     if !good {
         std::process::exit(1);
     }

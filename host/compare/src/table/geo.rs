@@ -1,6 +1,7 @@
 //! 000: relay-geo.
 
 use crate::generate::{Part, Rng};
+use crate::numbers::{EARLIER_LIMIT, LIMIT};
 use crate::routine::Routine;
 use crate::words::In;
 use faces::geo;
@@ -263,7 +264,7 @@ fn free_fall(rng: &mut Rng, words: &mut [f32]) {
     let last = words.len() - 1;
     if last > 2 && rng.below(4) == 0 {
         let heading = if last > 6 { 6 } else { 3 };
-        words[heading] = rng.near_one(&[128.0, f32::INFINITY, 0.0]);
+        words[heading] = rng.near_one(&[LIMIT, EARLIER_LIMIT, f32::INFINITY, 0.0]);
     }
 }
 
@@ -271,7 +272,7 @@ fn free_fall(rng: &mut Rng, words: &mut [f32]) {
 fn axis_along_the_heading(rng: &mut Rng, words: &mut [f32]) {
     match rng.below(4) {
         0 => norm_at_the_least(rng, &mut words[..3]),
-        1 => words[3] = rng.near_one(&[128.0, f32::INFINITY, 0.0]),
+        1 => words[3] = rng.near_one(&[LIMIT, EARLIER_LIMIT, f32::INFINITY, 0.0]),
         _ => {
             let scale = rng.range(0.5, 2.0);
             let off = rng.of(&[0.0, 1e-9, 1e-8, 1e-7, -1e-9]).unwrap_or(0.0);

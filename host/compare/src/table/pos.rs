@@ -1,6 +1,7 @@
 //! 003: relay-pos, of which one routine is ported.
 
 use crate::generate::{Part, Rng};
+use crate::numbers::{EARLIER_LIMIT, LIMIT};
 use crate::routine::Routine;
 use faces::pos;
 
@@ -17,5 +18,5 @@ pub fn routines() -> Vec<Routine> {
 /// Angles whose half is at the limit of sine and cosine.
 fn halves_at_the_limit(rng: &mut Rng, words: &mut [f32]) {
     let at = rng.below(3);
-    words[at] = rng.near_one(&[256.0]);
+    words[at] = rng.near_one(&[2.0 * LIMIT, 2.0 * EARLIER_LIMIT]);
 }

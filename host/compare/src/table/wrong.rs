@@ -1,6 +1,7 @@
 //! Ways to be wrong that look right, each beside the Rust as if it were ours. The generator has to catch every one:
 //! a comparison that cannot fail shows nothing.
 
+use crate::numbers::LIMIT;
 use crate::routine::Routine;
 use crate::words::{In, Words};
 use faces::geo::AxisAnswer;
@@ -71,9 +72,9 @@ fn geometry() -> Vec<Option<Routine>> {
             answer.given |= vectors::norm([0.0 - a[0], 0.0 - a[1], 9.81 - a[2]]) == 1e-3;
             answer
         }),
-        instead("desired_attitude", "a heading of 128 itself refused", |i| {
+        instead("desired_attitude", "a heading at the limit itself refused", |i| {
             let (b3, yaw): (Vec3, f32) = i.get();
-            geo::desired_attitude(b3, if yaw.abs() == 128.0 { f32::NAN } else { yaw })
+            geo::desired_attitude(b3, if yaw.abs() == LIMIT { f32::NAN } else { yaw })
         }),
         instead("GeoAtt::tick", "no damping where there is no attitude", |i| {
             let (gains, q): (geo::GeoAtt, geo::Quat) = i.get();

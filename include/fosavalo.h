@@ -19,7 +19,7 @@ extern "C" {
 /* The version of this header; fosavalo_version() is the archive's. The second number is that of the last change request which both have: a request may
  * change what a word means and leave every length. */
 #define FOSAVALO_VERSION_MAJOR 0
-#define FOSAVALO_VERSION_MINOR 5
+#define FOSAVALO_VERSION_MINOR 6
 #define FOSAVALO_VERSION_PATCH 0
 #define FOSAVALO_VERSION_NUMBER ((FOSAVALO_VERSION_MAJOR << 16) + (FOSAVALO_VERSION_MINOR << 8) + FOSAVALO_VERSION_PATCH)
 #define FOSAVALO_VERSION FOSAVALO_TEXT(FOSAVALO_VERSION_MAJOR) "." FOSAVALO_TEXT(FOSAVALO_VERSION_MINOR) "." FOSAVALO_TEXT(FOSAVALO_VERSION_PATCH)
@@ -87,8 +87,8 @@ float fosavalo_cosf(float x);
 /* Set-up and the joint tick work on bytes: words of 32 bits, little-endian, a float as its bits. A NaN that is written is 7fc00000. */
 
 /* The lengths of the buffers, in bytes. */
-#define FOSAVALO_IMAGE_BYTES 380
-#define FOSAVALO_SETUP_BYTES 200
+#define FOSAVALO_IMAGE_BYTES 384
+#define FOSAVALO_SETUP_BYTES 204
 #define FOSAVALO_TICK_BYTES 68
 #define FOSAVALO_ANSWER_BYTES 40
 #define FOSAVALO_LEG_BYTES 76
@@ -98,8 +98,8 @@ float fosavalo_cosf(float x);
 #define FOSAVALO_LOG_TRAILER_BYTES 12
 #define FOSAVALO_MOST_RECORDS 65535
 
-/* What set-up and the ticks return. Of 0 to 4 it is the lowest that holds; 5 to 7 come after 4, in the order that the route tick tells. The
- * log's calls tell theirs. */
+/* What set-up and the ticks return. Of 0 to 4 it is the lowest that holds; 5 to 7 come after 4, in the order that the route tick tells; 10 comes
+ * after 2. The log's calls tell theirs. */
 #define FOSAVALO_DONE 0                 /* what the call writes is written: the image, at a tick the answer too, what a log's call tells */
 #define FOSAVALO_WRONG_IMAGE_LENGTH 1   /* image_len is not FOSAVALO_IMAGE_BYTES */
 #define FOSAVALO_WRONG_INPUT_LENGTH 2   /* input_len is not FOSAVALO_SETUP_BYTES, at a tick and an append FOSAVALO_TICK_BYTES; count_len is not 4 */
@@ -110,6 +110,7 @@ float fosavalo_cosf(float x);
 #define FOSAVALO_LEGS_APART 7           /* route tick only: a leg does not start where the one before it ends */
 #define FOSAVALO_BROKEN_LOG 8           /* log only: the log's length and its three words do not go together */
 #define FOSAVALO_NO_ROOM 9              /* append only: under 108 bytes beyond the log, or FOSAVALO_MOST_RECORDS in it */
+#define FOSAVALO_WRONG_PROFILE 10       /* set-up only: the profile is neither 0 nor 1 */
 #define FOSAVALO_NO_RECORD 13           /* record only: the log has no record at that place */
 #define FOSAVALO_WRONG_RECORD_LENGTH 14 /* record only: record_len is not FOSAVALO_RECORD_BYTES */
 
@@ -139,6 +140,8 @@ static inline const char *fosavalo_meaning(uint32_t number) {
     case FOSAVALO_NO_ROOM:
         return "the buffer has no room for " FOSAVALO_TEXT(FOSAVALO_RECORD_BYTES) " bytes more, or the log has "
                FOSAVALO_TEXT(FOSAVALO_MOST_RECORDS) " records";
+    case FOSAVALO_WRONG_PROFILE:
+        return "the profile is neither 0 nor 1";
     case FOSAVALO_NO_RECORD:
         return "the log has no record at that place";
     case FOSAVALO_WRONG_RECORD_LENGTH:
@@ -170,6 +173,7 @@ static inline const char *fosavalo_meaning(uint32_t number) {
 #define FOSAVALO_SETUP_TAU(axis) (39 + 4 * (axis))
 #define FOSAVALO_SETUP_FC 48        /* the gyro's filter, Hz */
 #define FOSAVALO_SETUP_FS 49
+#define FOSAVALO_SETUP_PROFILE 50   /* a whole number: FOSAVALO_WHOLE or FOSAVALO_LOST_ROTOR */
 
 /* A leg of a route, and the segment of a set-up. */
 #define FOSAVALO_LEG_P0 0  /* 3 */
@@ -238,12 +242,17 @@ static inline const char *fosavalo_meaning(uint32_t number) {
 #define FOSAVALO_IMAGE_FILTER_X2(axis) (74 + 9 * (axis))
 #define FOSAVALO_IMAGE_FILTER_Y1(axis) (75 + 9 * (axis))
 #define FOSAVALO_IMAGE_FILTER_Y2(axis) (76 + 9 * (axis))
+#define FOSAVALO_IMAGE_PROFILE 95 /* a whole number, set-up's */
+
+/* The profiles: what there is to fly with. */
+#define FOSAVALO_WHOLE 0      /* all rotors */
+#define FOSAVALO_LOST_ROTOR 1 /* one is lost, and with it the hold on yaw: the aircraft is brought down level, as a tick tells */
 
 /* Writes a fresh image, the state that goes from tick to tick; what stood in it is not read.
  *
- * The input is the words FOSAVALO_SETUP_.. Every bit pattern is taken and mended where it is no use.
+ * The input is the words FOSAVALO_SETUP_.. Every bit pattern of a number is taken and mended where it is no use.
  *
- * Returns 0, 1 or 2. Unless it is 0 no byte is changed; the input never is. Each pointer has to be good for its length, whatever
+ * Returns 0, 1, 2 or 10. Unless it is 0 no byte is changed; the input never is. Each pointer has to be good for its length, whatever
  * that is, and the two buffers must not overlap. */
 uint32_t fosavalo_setup(uint8_t *image, size_t image_len, const uint8_t *input, size_t input_len);
 
@@ -253,6 +262,10 @@ uint32_t fosavalo_setup(uint8_t *image, size_t image_len, const uint8_t *input, 
  * The margin is the smaller of psi_max - psi and 2 k_r (2 - psi) / lambda_j - |error|^2. The error is the filtered rate less the commanded one, which is
  * what the trajectory and the yaw rate ask for (the feedforward), brought from the wanted attitude's axes to the body's; where there is no feedforward,
  * since the wanted thrust is next to nothing, it is all of the filtered rate. With no wanted attitude the margin is minus infinity.
+ *
+ * With FOSAVALO_LOST_ROTOR only the thrust axis is held: the fallback turns it to the wanted one, psi is 1 less the cosine of the angle between them, the
+ * error is the first two filtered rates, and with no wanted thrust axis the margin is minus infinity. Yaw and yaw rate are not read. The third numbers of
+ * the command and of the torque are 0, whatever the planner wants, and the words FOSAVALO_IMAGE_Z1(2) to FOSAVALO_IMAGE_TAU(2) stay.
  *
  * Returns 0 to 4. Unless it is 0 no byte of the image or the answer is changed; the input never is. Each pointer has to be good for
  * its length, whatever that is, and no two of the three buffers may overlap. */
@@ -276,7 +289,8 @@ uint32_t fosavalo_tick_refusal(const uint8_t *image, size_t image_len, size_t in
 uint32_t fosavalo_route_tick(uint8_t *image, size_t image_len, const uint8_t *input, size_t input_len, const uint8_t *route, size_t route_len, uint8_t *answer, size_t answer_len);
 
 /* A flight log is 0 to 65,535 records of 108 bytes, each a tick's input and then its answer, and behind them three words: the count, how many
- * bytes back from there the first record starts (108 times the count), and 108. A log of no record is these words alone:
+ * bytes back from there the first record starts (108 times the count), and 108. It tells neither the thresholds nor the profile. A log of no record is
+ * these words alone:
  *
  *   uint8_t log[FOSAVALO_LOG_TRAILER_BYTES + 1000 * FOSAVALO_RECORD_BYTES] = FOSAVALO_EMPTY_LOG;
  *   uint64_t log_len = FOSAVALO_LOG_TRAILER_BYTES;

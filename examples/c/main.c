@@ -1,5 +1,5 @@
 /* Asks whether the archive and this thread's floating-point environment are right; sets up an image, ticks it along a slow pass, keeps a log of it and
- * prints who flies; then reads the log back, ticks on a route of two legs, and makes calls that are refused.
+ * prints who flies; then reads the log back, ticks on a route of two legs, makes calls that are refused, and sets up for a lost rotor.
  *
  *   gcc -std=c11 -Wall -Wextra -Werror -I../../include main.c ../../target/staticlib/libfosavalo.a -o joint && ./joint
  */
@@ -33,7 +33,8 @@ static float number(const uint8_t *bytes, size_t at) {
 
 static void refusal(const char *what, uint32_t number) { printf("%s: refused with %u, %s\n", what, (unsigned)number, fosavalo_meaning(number)); }
 
-/* The words of a set-up: three metres to the north in eight seconds. What is not here is 0: the segment's other ends, and fc, so that nothing is filtered. */
+/* The words of a set-up: three metres to the north in eight seconds. What is not here is 0: the segment's other ends, fc, so that nothing is filtered, and
+ * the profile, which is a whole number. */
 static const float setup[FOSAVALO_SETUP_BYTES / 4] = {
     [FOSAVALO_SETUP_K_R] = 0.6f, 0.6f, 0.15f,
     [FOSAVALO_SETUP_K_OMEGA] = 0.12f, 0.12f, 0.35f,
@@ -153,5 +154,28 @@ int main(void) {
     if (fosavalo_tick_refusal(image, sizeof image, FOSAVALO_TICK_BYTES, sizeof answer) != FOSAVALO_BROKEN_IMAGE) return 1;
     refused = fosavalo_tick(image, sizeof image, input, FOSAVALO_TICK_BYTES, answer, sizeof answer);
     refusal("a broken image", refused);
-    return refused == FOSAVALO_BROKEN_IMAGE && memcmp(before, image, sizeof before) == 0 ? 0 : 1;
+    if (refused != FOSAVALO_BROKEN_IMAGE || memcmp(before, image, sizeof before) != 0) return 1;
+
+    /* with a rotor lost, spinning and with no heading: the planner flies, and nothing is asked about the third axis */
+    for (size_t k = 0; k < FOSAVALO_SETUP_PROFILE; k++) put(input, k, setup[k]);
+    put_word(input, FOSAVALO_SETUP_PROFILE, 2);
+    refused = fosavalo_setup(image, sizeof image, input, sizeof input);
+    refusal("a profile of 2", refused);
+    if (refused != FOSAVALO_WRONG_PROFILE || memcmp(before, image, sizeof before) != 0) return 1;
+    put_word(input, FOSAVALO_SETUP_PROFILE, FOSAVALO_LOST_ROTOR);
+    if (fosavalo_setup(image, sizeof image, input, sizeof input) != FOSAVALO_DONE) return 1;
+    const float spinning[FOSAVALO_TICK_BYTES / 4] = {
+        [FOSAVALO_TICK_GYRO + 2] = 20,
+        [FOSAVALO_TICK_ATTITUDE] = 1,
+        [FOSAVALO_TICK_DT] = 0.001f,
+        [FOSAVALO_TICK_PLANNER] = 0.5f, -0.25f, 2,
+        [FOSAVALO_TICK_DELIVERED] = 1, 1, 1,
+    };
+    for (size_t k = 0; k < FOSAVALO_TICK_BYTES / 4; k++) put(input, k, spinning[k]);
+    put_word(input, FOSAVALO_TICK_YAW, 0x7fc00000u); /* a NaN */
+    refused = fosavalo_tick(image, sizeof image, input, FOSAVALO_TICK_BYTES, answer, sizeof answer);
+    printf("a rotor lost: %u, flag %u, command", (unsigned)refused, (unsigned)word(answer, FOSAVALO_ANSWER_FLAG));
+    for (size_t k = 0; k < 3; k++) printf(" %.4f", number(answer, FOSAVALO_ANSWER_COMMAND + k));
+    printf(", third torque %.4f\n", number(answer, FOSAVALO_ANSWER_TORQUE + 2));
+    return refused == FOSAVALO_DONE && word(answer, FOSAVALO_ANSWER_FLAG) == 0 ? 0 : 1;
 }

@@ -33,7 +33,7 @@ sized image inputLen answerLen e =
 -- a tick that asked a function, which said o, and was not refused (t is whether o is done)
 pub flown : (source : Float → Reference) (image input answer : List ℕ) {o r : Outcome} {t : Bool} → o ≡ r → t ≡ isDone o → not t ≡ false
     → {given : TickInput} {f : Fixed} {p : Prepared} {wanted : Reference} {done : Ticked} {later answered : List ℕ}
-    → given ≡ inputAt input → f ≡ fixedAt image → p ≡ prepare (movingAt image) given → wanted ≡ source (p .time) → done ≡ finish f p wanted given
+    → given ≡ inputAt input → f ≡ fixedAt image → p ≡ prepare (f .profile) (movingAt image) given → wanted ≡ source (p .time) → done ≡ finish f p wanted given
     → Leaves f p done later answered → left Done (lent later answered) ≡ tickFrom source r image input answer
 unfolding tickFrom ticked
 flown source image input answer {o} {r} {t} e d n i k q w h l = rw (← e, ← d, not-false t n, l .image, l .answer, h, w, q, k, i)

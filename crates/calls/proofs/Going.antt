@@ -1,6 +1,6 @@
 -- Runs exist and go on for ever: the image that set-up writes is never refused, nor the one that an accepted tick writes. Assumes nothing.
-use mathlib.Core.Path.{_≡_, refl, ap}
-use mathlib.Core.Bool.{Bool, true, false, _||_, _&&_}
+use mathlib.Core.Path.{_≡_, refl, ap, _∙_}
+use mathlib.Core.Bool.{Bool, true, false, cond, _||_, _&&_}
 use mathlib.Core.List.{List}
 use Prim.Native.Nat.{ℕ}
 use lib.Dec.{T, eqb}
@@ -12,21 +12,24 @@ use Rattle.relay_math.specs.F32.{0·0, isFinite}
 use Rattle.laws.proofs.Tests.{no}
 use Rattle.relay_geo.specs.Shield.{newShield}
 use Rattle.joint_tick.specs.declared.state.State.{State}
+use Rattle.joint_tick.specs.declared.profile.Profile.{Profile}
+use Rattle.joint_tick.specs.declared.profile.Profile.the-variants.{Whole, LostRotor}
 use Rattle.joint_tick.specs.declared.stages.Reference.{Reference}
+use Rattle.joint_tick.specs.Profile.{profileWord, isProfile, profileOf}
 use Rattle.joint_tick.specs.SetUp.{setUp, segmentOf}
 use Rattle.joint_tick.specs.Tick.{ticked, prepare, pick, finish, stateAfter}
 use Rattle.joint_tick.specs.Good.{thresholdsOk, good}
 use Rattle.joint_tick.proofs.Kept.{Good, good-parts, set-up-good, tick-good}
 use Rattle.outcome.specs.Outcomes.{isDone}
 use Rattle.outcome.proofs.Tables.{done-none}
-use Rattle.image.specs.Layout.{COUNT, ENGAGED, IMAGE-WORDS, INPUT-BYTES, ANSWER-BYTES, SETUP-ENTER}
-use Rattle.image.specs.Parts.{gainsAt, setAt, legAt, adrcGainsAt}
+use Rattle.image.specs.Layout.{COUNT, ENGAGED, PROFILE, IMAGE-WORDS, INPUT-BYTES, ANSWER-BYTES, SETUP-ENTER}
+use Rattle.image.specs.Parts.{gainsAt, setAt, legAt, adrcGainsAt, profileAt}
 use Rattle.image.specs.Image.{fixedAt, movingAt, stateAt, imageOf}
 use Rattle.image.specs.Inputs.{setupAt, inputAt}
 use Rattle.calls.specs.Entry.{intact, tickTable, tickRefusal}
 use Rattle.calls.specs.Ticks.{Accepted}
 use Rattle.image.specs.Fits.{Fits}
-use Rattle.image.proofs.Decoded.{image-length, count-written, engaged-written, decode-encode, state-fits}
+use Rattle.image.proofs.Decoded.{image-length, count-written, engaged-written, profile-written, decode-encode, state-fits}
 use Rattle.image.proofs.Fitting.{new-shield-fits, governor-fits, advance-fits, segment-fits, rate-new-fits, rate-fraction-fits, rate-tick-fits, gyro-new-fits, gyro-filter-fits}
 
 -- ---- every state that set-up and ticks make is one of f32 values
@@ -58,7 +61,7 @@ tick-fits source s b f =
       exit = f .exit;
       segment = f .segment;
       governor = advance-fits _ _ _ (f .governor);
-      rate = rate-tick-fits _ _ _ _ (rate-fraction-fits _ _ (f .rate) (search float-fits));
+      rate = rate-tick-fits (s .fixed .profile) _ _ _ _ (rate-fraction-fits (s .fixed .profile) _ _ (f .rate) (search float-fits));
       lpf = gyro-filter-fits _ _ (f .lpf) (search float-fits);
     }
 
@@ -68,9 +71,14 @@ flag-ok : (b : Bool) → (eqb (flag b) 0 || eqb (flag b) 1) ≡ true
 flag-ok true = refl
 flag-ok false = refl
 
+profile-ok : (p : Profile) → isProfile (profileWord p) ≡ true
+unfolding isProfile
+profile-ok Whole = refl
+profile-ok LostRotor = refl
+
 taken : (s : State) → Fits s → good s ≡ true → Accepted (imageOf s)
 unfolding tickRefusal intact
-taken s f g = simp (image-length s, count-written s, engaged-written s, flag-ok (s .moving .engaged), decode-encode s f, g)
+taken s f g = simp (image-length s, count-written s, profile-written s, profile-ok (s .fixed .profile), engaged-written s, flag-ok (s .moving .engaged), decode-encode s f, g)
 
 enter-fits : (b : List ℕ) → T (fits binary32 (setupAt b .enter))
 unfolding setupAt
@@ -86,42 +94,59 @@ sound : (image : List ℕ) → Accepted image → intact image ≡ true
 unfolding tickRefusal
 sound image e = not-false (intact image) (done-none (tickTable image INPUT-BYTES ANSWER-BYTES) refl (ap isDone e) 3)
 
-last : (x y z : Bool) → (x && y && z) ≡ true → z ≡ true
-last true true true e = refl
-last true true false e = no e
-last true false z e = no e
-last false y z e = no e
+-- row 4's four tests, each by itself
+abbrev Tests : List ℕ → Type 0
+Tests image =
+    (eqb (word image COUNT) IMAGE-WORDS ≡ true)
+    × (isProfile (word image PROFILE) ≡ true)
+    × ((eqb (word image ENGAGED) 0 || eqb (word image ENGAGED) 1) ≡ true)
+    × (good (stateAt image) ≡ true)
+
+tests : (image : List ℕ) → Accepted image → Tests image
+unfolding intact
+tests image e =
+    each (eqb (word image COUNT) IMAGE-WORDS) (isProfile (word image PROFILE)) (eqb (word image ENGAGED) 0 || eqb (word image ENGAGED) 1) (good (stateAt image))
+    (sound image e)
+  where
+    each : (x y z v : Bool) → (x && y && z && v) ≡ true → (x ≡ true) × (y ≡ true) × (z ≡ true) × (v ≡ true)
+    each true true true true e = (refl, refl, refl, refl)
+    each true true true false e = no e
+    each true true false v e = no e
+    each true false z v e = no e
+    each false y z v e = no e
+
+-- a word that is 0 or 1
+bit : (w : ℕ) → (eqb w 0 || eqb w 1) ≡ true → w ≡ flag (eqb w 1)
+bit w e = go (eqb w 0) (eqb w 1) e refl refl
+  where
+    go : (a b : Bool) → (a || b) ≡ true → eqb w 0 ≡ a → eqb w 1 ≡ b → w ≡ flag b
+    go a true e p q = eqb-true w 1 q
+    go true false e p q = eqb-true w 0 p
+    go false false e p q = no e
 
 pub good-image : (image : List ℕ) → Accepted image → Good (stateAt image)
-unfolding tickRefusal intact
-good-image image e = record { holds = state-fits image .governor .0; ok = last (eqb (word image COUNT) IMAGE-WORDS) (eqb (word image ENGAGED) 0 || eqb (word image ENGAGED) 1) (good (stateAt image)) (sound image e) }
+good-image image e = record { holds = state-fits image .governor .0; ok = tests image e .3 }
 
 -- its count is its own
 pub count-of-image : (image : List ℕ) → Accepted image → word image COUNT ≡ IMAGE-WORDS
-unfolding tickRefusal intact
-count-of-image image e = eqb-true (word image COUNT) IMAGE-WORDS (first (eqb (word image COUNT) IMAGE-WORDS) (eqb (word image ENGAGED) 0 || eqb (word image ENGAGED) 1) (good (stateAt image)) (sound image e))
-  where
-    first : (x y z : Bool) → (x && y && z) ≡ true → x ≡ true
-    first true y z e = refl
-    first false y z e = no e
+count-of-image image e = eqb-true (word image COUNT) IMAGE-WORDS (tests image e .0)
 
--- its flag is in its word
+-- its flag is in its word, and so is its profile
 pub flag-of-image : (image : List ℕ) → Accepted image → word image ENGAGED ≡ flag (movingAt image .engaged)
-unfolding tickRefusal intact movingAt
-flag-of-image image e = bit (word image ENGAGED) (middle (eqb (word image COUNT) IMAGE-WORDS) (eqb (word image ENGAGED) 0 || eqb (word image ENGAGED) 1) (good (stateAt image)) (sound image e))
-  where
-    middle : (x y z : Bool) → (x && y && z) ≡ true → y ≡ true
-    middle true true z e = refl
-    middle true false z e = no e
-    middle false y z e = no e
+unfolding movingAt
+flag-of-image image e = bit (word image ENGAGED) (tests image e .2)
 
-    bit : (w : ℕ) → (eqb w 0 || eqb w 1) ≡ true → w ≡ flag (eqb w 1)
-    bit w e = go (eqb w 0) (eqb w 1) e refl refl
-      where
-        go : (a b : Bool) → (a || b) ≡ true → eqb w 0 ≡ a → eqb w 1 ≡ b → w ≡ flag b
-        go a true e p q = eqb-true w 1 q
-        go true false e p q = eqb-true w 0 p
-        go false false e p q = no e
+pub profile-of-word : (w : ℕ) → isProfile w ≡ true → w ≡ profileWord (profileOf w)
+unfolding isProfile
+profile-of-word w e = bit w e ∙ by (eqb w 1)
+  where
+    by : (b : Bool) → flag b ≡ profileWord (cond b LostRotor Whole)
+    by true = refl
+    by false = refl
+
+pub profile-of-image : (image : List ℕ) → Accepted image → word image PROFILE ≡ profileWord (fixedAt image .profile)
+unfolding fixedAt profileAt
+profile-of-image image e = profile-of-word (word image PROFILE) (tests image e .1)
 
 -- its thresholds are in order
 pub in-order : (image : List ℕ) → Accepted image → lt (fixedAt image .enter) (fixedAt image .exit) ≡ true
@@ -129,6 +154,12 @@ unfolding thresholdsOk
 in-order image e =
     let f = fixedAt image in
     last (isFinite (f .enter)) (lt 0·0 (f .enter)) (lt (f .enter) (f .exit)) (good-parts (stateAt image) (good-image image e .ok) .0)
+  where
+    last : (x y z : Bool) → (x && y && z) ≡ true → z ≡ true
+    last true true true e = refl
+    last true true false e = no e
+    last true false z e = no e
+    last false y z e = no e
 
 -- "nor the one that an accepted tick writes": whatever the input, and from any source of references
 pub tick-never-refused : (source : Float → Reference) (image input : List ℕ) → Accepted image → Accepted (imageOf (stateAfter source (stateAt image) (inputAt input)))

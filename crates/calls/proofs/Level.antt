@@ -1,6 +1,7 @@
--- Level flight at rest: its margin is 1.75, so that a fresh shield whose exit is 1 gives the planner control in the very first tick. Assumes nothing.
+-- Level flight at rest: its margin is 1.75, so that a fresh shield whose exit is 1 gives the planner control in the very first tick, in either profile. Assumes nothing.
 use mathlib.Core.Path.{_≡_, refl, ap, _∙_}
 use mathlib.Core.Bool.{true, false}
+use Prim.Native.Nat.{ℕ}
 use lib.Ieee.{Float, ofBits, add, sub, mul, div, neg, lt, le, eq}
 use Rattle.words.specs.Words.{word, float, vec}
 use Rattle.relay_math.specs.F32.{f32, 0·0, 0·5, 1·0, 1·75, isFinite, grains}
@@ -23,15 +24,17 @@ use Rattle.relay_traj.specs.Segment.{segment, eval3}
 use Rattle.relay_traj.specs.Governor.{advance, gate, gateFactor, clampTo}
 use Rattle.relay_adrc.specs.Biquad.{lowpass, biquadFilter, gyroNew, gyroFilter}
 use Rattle.relay_geo.specs.declared.shield.SimplexShield.{SimplexShield}
+use Rattle.joint_tick.specs.declared.profile.Profile.the-variants.{Whole, LostRotor}
 use Rattle.joint_tick.specs.declared.state.State.{State}
 use Rattle.joint_tick.specs.declared.state.TickInput.{TickInput}
 use Rattle.joint_tick.specs.declared.stages.Reference.{Reference}
+use Rattle.joint_tick.specs.declared.stages.Guided.{Guided}
 use Rattle.joint_tick.specs.SetUp.{setUp, segmentOf}
-use Rattle.joint_tick.specs.Tick.{prepare, referenceAt, cleaned, commanded, rateError, rateSq, guide, guidance, shieldOf, ticked}
-use Rattle.joint_tick.proofs.Shielding.{tick-latch}
-use Rattle.image.specs.Parts.{setAt, legAt, quatAt}
+use Rattle.joint_tick.specs.Tick.{prepare, referenceAt, cleaned, commanded, rateError, rateSq, guideWhole, psiToAxis, tiltRateSq, guideLostRotor, guide, guidance, shieldOf, ticked}
+use Rattle.joint_tick.proofs.Shielding.{filtered, wantedAt, by-profile, tick-latch}
+use Rattle.image.specs.Parts.{setAt, legAt, quatAt, profileAt}
 use Rattle.image.specs.Inputs.{setupAt, inputAt}
-use Rattle.calls.specs.Shams.{levelSetUp, levelInput}
+use Rattle.calls.specs.Shams.{levelSetUpBy, headedInput}
 
 abbrev zeros : Vec3
 zeros = (0·0, 0·0, 0·0)
@@ -63,56 +66,82 @@ none-ahead : flatnessOmegaFf zeros zeros 0·0 0·0 ≡ Rate none
 unfolding flatnessOmegaFf thrustForce isFinite lt le eq ofBits sub div
 none-ahead = rw (root-of-gravity, level, none-turning)
 
--- ---- what the first tick reads
+-- ---- what the first tick reads, in either profile and at any heading
 
-abbrev s : State
-s = setUp (setupAt levelSetUp)
+module _ (profile yaw : ℕ) where
+  abbrev s : State
+  s = setUp (setupAt (levelSetUpBy profile))
 
-abbrev i : TickInput
-i = inputAt levelInput
+  abbrev i : TickInput
+  i = inputAt (headedInput yaw)
 
-abbrev source : Float → Reference
-source = referenceAt (s .fixed .segment)
+  abbrev source : Float → Reference
+  source = referenceAt (s .fixed .segment)
 
-shield-is : shieldOf s ≡ record { set = newSet 1·0 1·0 1·75; engaged = true; enter = 0·5; exit = 1·0 }
-unfolding setUp setupAt setAt float word newShield mend isFinite lt ofBits
-shield-is = refl
+  shield-is : shieldOf s ≡ record { set = newSet 1·0 1·0 1·75; engaged = true; enter = 0·5; exit = 1·0 }
+  unfolding setUp setupAt setAt float word newShield mend isFinite lt ofBits
+  shield-is = refl
 
-no-motion : let w = cleaned (source (prepare (s .moving) i .time)) in (w .acc ≡ zeros) × (w .jerk ≡ zeros)
-unfolding setUp setupAt inputAt segmentOf legAt vec float word segment quintic mend-leg ofMended referenceAt eval3 eval sampleAt timeOn prepare advance gate gateFactor clampTo isFinite lt le eq ofBits add sub mul div neg
-no-motion = (refl, refl)
+  no-motion : let w = cleaned (wantedAt source s i) in (w .acc ≡ zeros) × (w .jerk ≡ zeros)
+  unfolding setUp setupAt inputAt segmentOf legAt vec float word segment quintic mend-leg ofMended referenceAt eval3 eval sampleAt timeOn prepare advance gate gateFactor clampTo isFinite lt le eq ofBits add sub mul div neg
+  no-motion = (refl, refl)
 
-no-rate : prepare (s .moving) i .rate ≡ record { 0 = zeros }
-unfolding setUp setupAt inputAt vec float word prepare gyroNew lowpass gyroFilter biquadFilter isFinite lt le ofBits add sub mul
-no-rate = refl
+  no-rate : filtered source s i ≡ record { 0 = zeros }
+  unfolding setUp setupAt inputAt vec float word prepare gyroNew lowpass gyroFilter biquadFilter isFinite lt le ofBits add sub mul
+  no-rate = refl
 
-north : i .yaw ≡ 0·0
+  level-body : quatToRotmat (i .quat) ≡ identity3
+  unfolding inputAt quatAt float word quatToRotmat add sub mul ofBits
+  level-body = refl
+
+  -- a margin of 1.75 gives the planner control
+  released : guidance source s i .margin ≡ 1·75 → ticked source s i .answer .fallback ≡ false
+  unfolding latch isFinite lt ofBits
+  released e =
+      tick-latch source s i
+      ∙ rw (e, ap (λ (h : SimplexShield). h .enter) shield-is, ap (λ (h : SimplexShield). h .exit) shield-is, ap (λ (h : SimplexShield). h .engaged) shield-is)
+
+-- ---- by the old rules, at heading 0
+
+whole : s 0 0 .fixed .profile ≡ Whole
+unfolding setUp setupAt profileAt word
+whole = refl
+
+north : i 0 0 .yaw ≡ 0·0
 unfolding inputAt float word
 north = refl
 
-no-turning : i .«yaw_rate» ≡ 0·0
+no-turning : i 0 0 .«yaw_rate» ≡ 0·0
 unfolding inputAt float word
 no-turning = refl
-
-level-body : quatToRotmat (i .quat) ≡ identity3
-unfolding inputAt quatAt float word quatToRotmat add sub mul ofBits
-level-body = refl
 
 level-margin : margin (newSet 1·0 1·0 1·75) (psi identity3 identity3) (rateSq (rateError record { 0 = zeros } identity3 (Rate none) (Matrix identity3))) ≡ 1·75
 unfolding margin psi prod3 matmul3 commanded rateSq dot isFinite lt le ofBits add sub mul div
 level-margin = refl
 
-released : latch 0·5 1·0 true 1·75 ≡ false
-unfolding latch isFinite lt ofBits
-released = refl
+first-margin : guidance (source 0 0) (s 0 0) (i 0 0) .margin ≡ 1·75
+unfolding guide guideWhole
+first-margin =
+    ap (λ (g : Guided). g .margin) (by-profile (source 0 0) (s 0 0) (i 0 0) whole)
+    ∙ rw (level-body 0 0, no-motion 0 0 .0, no-motion 0 0 .1, no-rate 0 0, north, no-turning, at-rest, none-ahead, ap (λ (h : SimplexShield). h .set) (shield-is 0 0), level-margin)
 
--- ---- so
+pub planner-first : ticked (source 0 0) (s 0 0) (i 0 0) .answer .fallback ≡ false
+planner-first = released 0 0 first-margin
 
-first-margin : guidance source s i .margin ≡ 1·75
-unfolding guidance guide
-first-margin = rw (level-body, no-motion .0, no-motion .1, no-rate, north, no-turning, at-rest, none-ahead, ap (λ (h : SimplexShield). h .set) shield-is, level-margin)
+-- ---- with a rotor lost, at any heading: one that is no number takes nothing from the planner
 
-pub planner-first : ticked source s i .answer .fallback ≡ false
-planner-first =
-    tick-latch source s i
-    ∙ rw (first-margin, ap (λ (h : SimplexShield). h .enter) shield-is, ap (λ (h : SimplexShield). h .exit) shield-is, ap (λ (h : SimplexShield). h .engaged) shield-is, released)
+module _ (yaw : ℕ) where
+  lost : s 1 yaw .fixed .profile ≡ LostRotor
+  unfolding setUp setupAt profileAt word
+  lost = refl
+
+  tilt-margin : margin (newSet 1·0 1·0 1·75) (psiToAxis identity3 (Axis (0·0, 0·0, 1·0))) (tiltRateSq record { 0 = zeros }) ≡ 1·75
+  unfolding margin dot isFinite lt le ofBits add sub mul div
+  tilt-margin = refl
+
+  pub planner-first-lost : ticked (source 1 yaw) (s 1 yaw) (i 1 yaw) .answer .fallback ≡ false
+  unfolding guide guideLostRotor
+  planner-first-lost =
+      released 1 yaw
+      (ap (λ (g : Guided). g .margin) (by-profile (source 1 yaw) (s 1 yaw) (i 1 yaw) lost)
+      ∙ rw (level-body 1 yaw, no-motion 1 yaw .0, no-rate 1 yaw, upright, ap (λ (h : SimplexShield). h .set) (shield-is 1 yaw), tilt-margin))

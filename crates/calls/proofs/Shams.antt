@@ -1,7 +1,7 @@
 -- Sham builds: a program that keeps the promises does not refuse all calls and does not leave the image untouched, by one run, at whose first tick the
 -- planner gets control (specs/Shams.antt). The other two shams fall to demand 3 alone (crate `runs`, proofs/Shams.antt). Assumes nothing.
 use mathlib.Core.Path.{_≡_, refl, sym, ap, _∙_}
-use mathlib.Core.Bool.{Bool, false}
+use mathlib.Core.Bool.{Bool, true, false}
 use mathlib.Core.List.{List}
 use Prim.Native.Nat.{ℕ}
 use native.Mathlib.Nat.{suc-ne-zero}
@@ -10,12 +10,13 @@ use Rattle.words.specs.Words.{word}
 use Rattle.relay_geo.specs.Shield.{newShield}
 use Rattle.joint_tick.specs.declared.state.State.{State}
 use Rattle.joint_tick.specs.declared.stages.Ticked.{Ticked}
+use Rattle.joint_tick.specs.Profile.{isProfile}
 use Rattle.joint_tick.specs.SetUp.{setUp}
 use Rattle.joint_tick.specs.Tick.{referenceAt, ticked, stateAfter}
 use Rattle.joint_tick.proofs.Shielding.{tick-keeps-flag}
 use Rattle.outcome.specs.declared.Outcome.the-variants.{Done}
 use Rattle.outcome.specs.Outcomes.{left, Filled, lent, Called}
-use Rattle.image.specs.Layout.{COUNT, ENGAGED, SETUP-BYTES, INPUT-BYTES}
+use Rattle.image.specs.Layout.{COUNT, ENGAGED, SETUP-PROFILE, SETUP-BYTES, INPUT-BYTES}
 use Rattle.image.specs.Image.{stateAt, imageOf}
 use Rattle.image.specs.Inputs.{setupAt, inputAt, answerOf}
 use Rattle.calls.specs.Entry.{setUpRefusal, onSegment, tickFrom, setUpCall, tickCall}
@@ -34,9 +35,13 @@ tick image input = ticked (onSegment image) (stateAt image) (inputAt input)
 unfoldable leaves : List ℕ → List ℕ → List ℕ
 leaves image input = imageOf (stateAfter (onSegment image) (stateAt image) (inputAt input))
 
-set-up-accepted : (b : List ℕ) → length b ≡ SETUP-BYTES → setUpCall blankImage b ≡ left Done (imageOf (setUp (setupAt b)))
+set-up-accepted : (b : List ℕ) → length b ≡ SETUP-BYTES → isProfile (word b SETUP-PROFILE) ≡ true → setUpCall blankImage b ≡ left Done (imageOf (setUp (setupAt b)))
 unfolding setUpCall setUpRefusal
-set-up-accepted b e = rw e
+set-up-accepted b e p = rw (e, p)
+
+pub level-profile : isProfile (word levelSetUp SETUP-PROFILE) ≡ true
+unfolding isProfile word
+level-profile = refl
 
 tick-accepted : (image input : List ℕ) → Accepted image → length input ≡ INPUT-BYTES
     → tickCall image input blankAnswer ≡ left Done (lent (leaves image input) (answerOf (tick image input .answer)))
@@ -78,7 +83,7 @@ released-after =
 -- a blank image has no count of words, and a fresh one has
 counted : ¬ (blankImage ≡ fresh)
 unfolding word
-counted e = suc-ne-zero 94 (sym (count-written s) ∙ ap (λ (b : List ℕ). word b COUNT) (sym e))
+counted e = suc-ne-zero 95 (sym (count-written s) ∙ ap (λ (b : List ℕ). word b COUNT) (sym e))
 
 -- ---- the shams
 
@@ -88,7 +93,7 @@ honest = record { setUp = λ image input. refl; tick = λ image input answer. re
 
 module _ (p : Program) (k : Keeps p) where
   sets-up : p .setUp blankImage levelSetUp ≡ left Done fresh
-  sets-up = k .setUp blankImage levelSetUp ∙ set-up-accepted levelSetUp refl
+  sets-up = k .setUp blankImage levelSetUp ∙ set-up-accepted levelSetUp refl level-profile
 
   ticks : (image input : List ℕ) → Accepted image → length input ≡ INPUT-BYTES
       → p .tick image input blankAnswer ≡ left Done (lent (leaves image input) (answerOf (tick image input .answer)))

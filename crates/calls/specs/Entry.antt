@@ -7,25 +7,30 @@ use lib.Ieee.{Float}
 use lib.ListN.{length}
 use Rattle.words.specs.Words.{word}
 use Rattle.joint_tick.specs.declared.stages.Reference.{Reference}
+use Rattle.joint_tick.specs.Profile.{isProfile}
 use Rattle.joint_tick.specs.SetUp.{setUp}
 use Rattle.joint_tick.specs.Tick.{referenceAt, ticked, stateAfter}
 use Rattle.joint_tick.specs.Good.{good}
-use Rattle.image.specs.Layout.{COUNT, ENGAGED, IMAGE-WORDS, IMAGE-BYTES, SETUP-BYTES, INPUT-BYTES, ANSWER-BYTES}
+use Rattle.image.specs.Layout.{COUNT, ENGAGED, PROFILE, IMAGE-WORDS, IMAGE-BYTES, SETUP-PROFILE, SETUP-BYTES, INPUT-BYTES, ANSWER-BYTES}
 use Rattle.image.specs.Image.{fixedAt, stateAt, imageOf}
 use Rattle.image.specs.Inputs.{setupAt, inputAt, answerOf}
 use Rattle.outcome.specs.declared.Outcome.{Outcome}
-use Rattle.outcome.specs.declared.Outcome.the-variants.{ImageLength, InputLength, AnswerLength, BrokenImage}
+use Rattle.outcome.specs.declared.Outcome.the-variants.{ImageLength, InputLength, AnswerLength, BrokenImage, BadProfile}
 use Rattle.outcome.specs.Outcomes.{Table, firstOf, differs, leftUnless, Filled, lent, Called}
 
 -- ---- what is refused: the first row that holds, and so the lowest number
 
--- row 4's tests: its count is its own, its flag is 0 or 1, and a tick takes its state
+-- row 4's tests: its count is its own, its profile is 0 or 1, its flag is 0 or 1, and a tick takes its state
 unfoldable pub intact : List ℕ → Bool
-intact b = eqb (word b COUNT) IMAGE-WORDS && (eqb (word b ENGAGED) 0 || eqb (word b ENGAGED) 1) && good (stateAt b)
+intact b = eqb (word b COUNT) IMAGE-WORDS && isProfile (word b PROFILE) && (eqb (word b ENGAGED) 0 || eqb (word b ENGAGED) 1) && good (stateAt b)
 
 -- of set-up, which does not look at the image's bytes
 abbrev pub setUpTable : ℕ → List ℕ → Table
-setUpTable imageLen input = (differs imageLen IMAGE-BYTES, ImageLength) ∷ (differs (length input) SETUP-BYTES, InputLength) ∷ []
+setUpTable imageLen input =
+    (differs imageLen IMAGE-BYTES, ImageLength)
+    ∷ (differs (length input) SETUP-BYTES, InputLength)
+    ∷ (not (isProfile (word input SETUP-PROFILE)), BadProfile)
+    ∷ []
 
 -- of a tick, which is refused whatever its input's bytes are
 abbrev pub tickTable : List ℕ → ℕ → ℕ → Table

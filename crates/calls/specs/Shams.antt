@@ -1,10 +1,12 @@
 -- Sham builds: programs that look like this one and do nothing of what it is for. Definitions only.
 use Prim.Native.Nat.{ℕ, suc}
 use mathlib.Core.Path.{_≡_}
+use mathlib.Core.Bool.{true}
 use mathlib.Core.List.{List, [], _∷_, _++_}
 use lib.ListN.{length, replicate}
-use Rattle.words.specs.Words.{bytesOf}
-use Rattle.image.specs.Layout.{IMAGE-BYTES, ANSWER-BYTES, INPUT-BYTES, SETUP-BYTES}
+use Rattle.words.specs.Words.{word, bytesOf}
+use Rattle.joint_tick.specs.Profile.{isProfile}
+use Rattle.image.specs.Layout.{IMAGE-BYTES, ANSWER-BYTES, INPUT-BYTES, SETUP-PROFILE, SETUP-BYTES}
 use Rattle.outcome.specs.declared.Outcome.the-variants.{Done}
 use Rattle.outcome.specs.Outcomes.{Filled, Called}
 use Rattle.calls.specs.Entry.{setUpCall, tickCall}
@@ -59,20 +61,26 @@ answered p image input = p .tick image input blankAnswer .later .answer
 
 -- from set-up: after a first tick and n more, one more tick answers as the first did, whatever its input. An echo does so for every n; one n is enough.
 pub record EchoesAfter (p : Program) (n : ℕ) : Type 0 where
-  pub again : (b first later : List ℕ) → length b ≡ SETUP-BYTES → length first ≡ INPUT-BYTES → length later ≡ INPUT-BYTES →
+  pub again : (b first later : List ℕ) → length b ≡ SETUP-BYTES → isProfile (word b SETUP-PROFILE) ≡ true → length first ≡ INPUT-BYTES → length later ≡ INPUT-BYTES →
       answered p (ran p (p .setUp blankImage b .later) (replicate (suc n) first)) later ≡ answered p (p .setUp blankImage b .later) first
 
 -- ---- a run in which the planner is given control and then loses it
 
--- the set (1, 1, 1.75), enter 0.5, exit 1; else all zeros
+-- the set (1, 1, 1.75), enter 0.5, exit 1, the profile by its word; else all zeros
+abbrev pub levelSetUpBy : ℕ → List ℕ
+levelSetUpBy profile =
+    bytesOf (replicate 9 0 ++ 0x3f80_0000 ∷ 0x3f80_0000 ∷ 0x3fe0_0000 ∷ 0x3f00_0000 ∷ 0x3f80_0000 ∷ replicate 36 0 ++ profile ∷ [])
+
 abbrev pub levelSetUp : List ℕ
-levelSetUp =
-    bytesOf (replicate 9 0 ++ 0x3f80_0000 ∷ 0x3f80_0000 ∷ 0x3fe0_0000 ∷ 0x3f00_0000 ∷ 0x3f80_0000 ∷ replicate 36 0)
+levelSetUp = levelSetUpBy 0
 
--- level and at rest: the quaternion (1, 0, 0, 0), else all zeros
+-- level and at rest, the heading by its word: the quaternion (1, 0, 0, 0), else all zeros
+abbrev pub headedInput : ℕ → List ℕ
+headedInput yaw = bytesOf (replicate 3 0 ++ 0x3f80_0000 ∷ replicate 4 0 ++ yaw ∷ replicate 8 0)
+
 abbrev pub levelInput : List ℕ
-levelInput = bytesOf (replicate 3 0 ++ 0x3f80_0000 ∷ replicate 13 0)
+levelInput = headedInput 0
 
--- a heading that is no number, else all zeros
+-- a heading that is no number
 abbrev pub lostInput : List ℕ
-lostInput = bytesOf (replicate 8 0 ++ 0x7fc0_0000 ∷ replicate 8 0)
+lostInput = headedInput 0x7fc0_0000

@@ -8,9 +8,11 @@ use image::GOVERNOR;
 use image::IMAGE_BYTES;
 use image::IMAGE_WORDS;
 use image::INPUT_BYTES;
+use image::PROFILE;
 use image::QUINTIC_WORDS;
 use image::SEGMENT;
 use image::SETUP_BYTES;
+use image::SETUP_PROFILE;
 use image::T_END;
 use image::fixed_at;
 use image::input_at;
@@ -20,8 +22,10 @@ use image::put_state;
 use image::setup_at;
 use joint_tick::Fixed;
 use joint_tick::Prepared;
+use joint_tick::Profile;
 use joint_tick::TickInput;
 use joint_tick::Ticked;
+use joint_tick::is_profile;
 use outcome::Outcome;
 use outcome::is_done;
 use words::float_at;
@@ -79,6 +83,9 @@ fn intact(image: &[u8]) -> bool
     if count != IMAGE_WORDS as u32 {
         return false;
     }
+    if !is_profile(word_at(image, PROFILE)) {
+        return false;
+    }
     if engaged == 0 {
         return good_at(image);
     }
@@ -107,7 +114,7 @@ pub fn tick_refusal(image: &[u8], input_len: usize, answer_len: usize) -> Outcom
     Outcome::BrokenImage
 }
 
-// A fresh image from 50 words. What the image held before is not read.
+// A fresh image from 51 words. What the image held before is not read.
 pub fn setup(image: &mut [u8], input: &[u8]) -> Outcome
     ensures { λ r. ⌜ left r (now (image .exit)) ≡ setUpCall (now (image .entry)) (now (input .entry)) ⌝ }
 {
@@ -116,6 +123,9 @@ pub fn setup(image: &mut [u8], input: &[u8]) -> Outcome
     }
     if input.len() != SETUP_BYTES {
         return Outcome::InputLength;
+    }
+    if !is_profile(word_at(input, SETUP_PROFILE)) {
+        return Outcome::BadProfile;
     }
     let state = joint_tick::set_up(setup_at(input));
     put_state(
@@ -130,11 +140,11 @@ pub fn setup(image: &mut [u8], input: &[u8]) -> Outcome
 }
 
 // A tick up to its reference. What was read is gone from the stack once it is prepared.
-pub fn begin(image: &[u8], given: TickInput) -> Prepared
+pub fn begin(image: &[u8], profile: Profile, given: TickInput) -> Prepared
     requires { ⌜ length (now image) ≡ IMAGE-BYTES ⌝ }
-    ensures { λ r. ⌜ r ≡ prepare (movingAt (now (image .entry))) given ⌝ }
+    ensures { λ r. ⌜ r ≡ prepare profile (movingAt (now (image .entry))) given ⌝ }
 {
-    joint_tick::prepare(moving_at(image), given)
+    joint_tick::prepare(profile, moving_at(image), given)
 }
 
 // What a tick leaves. A plain tick and a route tick differ by where their reference comes from, and by nothing else.
@@ -162,7 +172,8 @@ pub fn tick(image: &mut [u8], input: &[u8], answer: &mut [u8]) -> Outcome
     }
     let given = input_at(input);
     let fixed = fixed_at(image);
-    let prepared = begin(image, given);
+    let profile = fixed.profile;
+    let prepared = begin(image, profile, given);
     let wanted = joint_tick::reference_at(fixed.segment, prepared.time);
     let done = joint_tick::finish(fixed, prepared, wanted, given);
     leave(image, answer, fixed, prepared, done);

@@ -9,6 +9,8 @@ use Rattle.words.proofs.Back.{float-fits}
 use Rattle.relay_math.specs.declared.Vec3.{Vec3}
 use Rattle.relay_math.specs.declared.BodyRate.{BodyRate}
 use Rattle.relay_geo.specs.declared.vectors.Mat3.{Mat3}
+use Rattle.relay_geo.specs.declared.vectors.Direction.{Direction}
+use Rattle.relay_geo.specs.declared.vectors.Direction.the-variants as direction
 use Rattle.relay_geo.specs.declared.attitude.Attitude.{Attitude}
 use Rattle.relay_geo.specs.declared.attitude.Attitude.the-variants.{Matrix, Refused}
 use Rattle.relay_geo.specs.declared.attitude.Feedforward.{Feedforward}
@@ -16,14 +18,16 @@ use Rattle.relay_geo.specs.declared.attitude.Feedforward.the-variants as rate
 use Rattle.relay_geo.specs.declared.controller.GeoGains.{GeoGains}
 use Rattle.relay_geo.specs.declared.set.RecoverableSet.{RecoverableSet}
 use Rattle.relay_geo.specs.Vectors.{sanitise3}
-use Rattle.relay_geo.specs.Attitude.{quatToRotmat, thrustAttitude, flatnessOmegaFf}
+use Rattle.relay_geo.specs.Attitude.{quatToRotmat, thrustAxisNed, thrustAttitude, flatnessOmegaFf}
 use Rattle.relay_geo.specs.Set.{margin}
 use Rattle.relay_geo.specs.Controller.{rateToward, desiredRate}
+use Rattle.joint_tick.specs.declared.profile.Profile.{Profile}
+use Rattle.joint_tick.specs.declared.profile.Profile.the-variants.{Whole, LostRotor}
 use Rattle.joint_tick.specs.declared.state.State.{State}
 use Rattle.joint_tick.specs.declared.state.TickInput.{TickInput}
 use Rattle.joint_tick.specs.declared.stages.Reference.{Reference}
-use Rattle.joint_tick.specs.Tick.{prepare, cleaned, desired, ahead, plus, rateError, rateSq, marginOf, guide, guidance, ticked}
-use Rattle.joint_tick.proofs.Shielding.{tick-command}
+use Rattle.joint_tick.specs.Tick.{plannerOf, cleaned, desired, ahead, plus, rateError, rateSq, marginOf, guideWhole, rateTowardAxis, tiltRateSq, marginToAxis, guideLostRotor, guide, guidance, ticked}
+use Rattle.joint_tick.proofs.Shielding.{filtered, wantedAt, tick-command}
 use Rattle.image.specs.Inputs.{inputAt}
 use Rattle.image.specs.Fits.{F32, FitsVec}
 use Rattle.image.proofs.Fitting.{fitting}
@@ -32,6 +36,15 @@ margin-of-fits : (set : RecoverableSet) (r : Mat3) (a : Attitude) (wSq : Float) 
 unfolding margin
 margin-of-fits set r (Matrix rd) wSq = search (fitting, inf-fits)
 margin-of-fits set r Refused wSq = search inf-fits
+
+margin-to-axis-fits : (set : RecoverableSet) (r : Mat3) (axis : Direction) (wSq : Float) → F32 (marginToAxis set r axis wSq)
+unfolding margin
+margin-to-axis-fits set r (direction.Axis b3) wSq = search (fitting, inf-fits)
+margin-to-axis-fits set r direction.Refused wSq = search inf-fits
+
+rate-toward-axis-fits : (g : GeoGains) (r : Mat3) (axis : Direction) → FitsVec (rateTowardAxis g r axis .0)
+rate-toward-axis-fits g r (direction.Axis b3) = search fitting
+rate-toward-axis-fits g r direction.Refused = search fitting
 
 rate-toward-fits : (g : GeoGains) (r : Mat3) (a : Attitude) → FitsVec (rateToward g r a .0)
 rate-toward-fits g r (Matrix rd) = search fitting
@@ -44,22 +57,35 @@ plus-fits w rate.Refused h = h
 clean-fits : (v : Vec3) → FitsVec v → FitsVec (sanitise3 v)
 clean-fits v f = search fitting
 
+planner-fits : (p : Profile) (agile : BodyRate) → FitsVec (agile .0) → FitsVec (plannerOf p agile .0)
+planner-fits Whole agile f = clean-fits (agile .0) f
+planner-fits LostRotor agile f = search fitting
+
+module _ (gains : GeoGains) (set : RecoverableSet) (w : BodyRate) (wanted : Reference) (i : TickInput) where
+  guide-margin-fits : (p : Profile) → F32 (guide p gains set w wanted i .margin)
+  unfolding guide guideWhole guideLostRotor
+  guide-margin-fits Whole =
+      let r = quatToRotmat (i .quat) in
+      let rd = desired wanted i in
+      margin-of-fits set r rd (rateSq (rateError w r (ahead wanted i) rd))
+  guide-margin-fits LostRotor = margin-to-axis-fits set (quatToRotmat (i .quat)) (thrustAxisNed (cleaned wanted .acc)) (tiltRateSq w)
+
+  guide-fallback-fits : (p : Profile) → FitsVec (guide p gains set w wanted i .fallback .0)
+  unfolding guide guideWhole guideLostRotor desiredRate
+  guide-fallback-fits Whole =
+      let c = cleaned wanted in
+      plus-fits (desiredRate gains (i .quat) (c .acc) (i .yaw)) (flatnessOmegaFf (c .acc) (c .jerk) (i .yaw) (i .«yaw_rate»))
+      (rate-toward-fits gains (quatToRotmat (i .quat)) (thrustAttitude (sanitise3 (c .acc)) (i .yaw)))
+  guide-fallback-fits LostRotor = rate-toward-axis-fits gains (quatToRotmat (i .quat)) (thrustAxisNed (cleaned wanted .acc))
+
 module _ (source : Float → Reference) (s : State) where
   pub margin-fits : (i : TickInput) → F32 (guidance source s i .margin)
-  unfolding guidance guide
-  margin-fits i =
-      let p = prepare (s .moving) i in
-      let w = source (p .time) in
-      let r = quatToRotmat (i .quat) in
-      let rd = desired w i in
-      margin-of-fits (s .fixed .set) r rd (rateSq (rateError (p .rate) r (ahead w i) rd))
+  unfolding guidance
+  margin-fits i = guide-margin-fits (s .fixed .gains) (s .fixed .set) (filtered source s i) (wantedAt source s i) i (s .fixed .profile)
 
   fallback-fits : (i : TickInput) → FitsVec (guidance source s i .fallback .0)
-  unfolding guidance guide desiredRate
-  fallback-fits i =
-      let w = cleaned (source (prepare (s .moving) i .time)) in
-      plus-fits (desiredRate (s .fixed .gains) (i .quat) (w .acc) (i .yaw)) (flatnessOmegaFf (w .acc) (w .jerk) (i .yaw) (i .«yaw_rate»))
-      (rate-toward-fits (s .fixed .gains) (quatToRotmat (i .quat)) (thrustAttitude (sanitise3 (w .acc)) (i .yaw)))
+  unfolding guidance
+  fallback-fits i = guide-fallback-fits (s .fixed .gains) (s .fixed .set) (filtered source s i) (wantedAt source s i) i (s .fixed .profile)
 
   agile-fits : (b : List ℕ) → FitsVec (inputAt b .agile .0)
   unfolding inputAt vec
@@ -69,8 +95,8 @@ module _ (source : Float → Reference) (s : State) where
   command-fits b =
       let i = inputAt b in
       rw (tick-command source s i)
-      (either (ticked source s i .answer .fallback) (guidance source s i .fallback .0) (i .agile .0) (fallback-fits i) (agile-fits b))
+      (either (ticked source s i .answer .fallback) (guidance source s i .fallback .0) _ (fallback-fits i) (planner-fits (s .fixed .profile) (i .agile) (agile-fits b)))
     where
-      either : (e : Bool) (v w : Vec3) → FitsVec v → FitsVec w → FitsVec (cond {A = BodyRate} e record { 0 = sanitise3 v } record { 0 = sanitise3 w } .0)
+      either : (e : Bool) (v : Vec3) (w : BodyRate) → FitsVec v → FitsVec (w .0) → FitsVec (cond {A = BodyRate} e record { 0 = sanitise3 v } w .0)
       either true v w f g = clean-fits v f
-      either false v w f g = clean-fits w g
+      either false v w f g = g

@@ -6,7 +6,7 @@ use Rattle.words.specs.Words.{word, float, vec, bits, flag, Holds}
 use Rattle.words.proofs.Back.{word-back, bits-back, float-back, vec-back, flag-lt}
 use Rattle.words.proofs.Written.{length-bytesOf}
 use Rattle.joint_tick.specs.declared.state.Answer.{Answer}
-use Rattle.image.specs.Layout.{COMMAND, FLAG, MARGIN, ANSWER-BYTES}
+use Rattle.image.specs.Layout.{TORQUE, COMMAND, FLAG, MARGIN, ANSWER-BYTES}
 use Rattle.image.specs.Inputs.{wordsOfAnswer, answerOf}
 use Rattle.image.specs.Fits.{F32, FitsVec}
 
@@ -30,6 +30,9 @@ margin-answered a f = float-back (answer-is a) MARGIN (a .margin) refl f
 -- the same by their words, in which a NaN is 0x7fc0_0000
 pub margin-word : (a : Answer) → F32 (a .margin) → word (answerOf a) MARGIN ≡ bits (a .margin)
 margin-word a f = bits-back (answer-is a) MARGIN (a .margin) refl f
+
+pub third-torque-word : (a : Answer) → F32 (a .torque .0 .2) → word (answerOf a) (TORQUE + 2) ≡ bits (a .torque .0 .2)
+third-torque-word a f = bits-back (answer-is a) (TORQUE + 2) (a .torque .0 .2) refl f
 
 pub command-words : (a : Answer) → FitsVec (a .command .0)
     → (word (answerOf a) COMMAND ≡ bits (a .command .0 .0)) × (word (answerOf a) (COMMAND + 1) ≡ bits (a .command .0 .1)) × (word (answerOf a) (COMMAND + 2) ≡ bits (a .command .0 .2))

@@ -1,7 +1,7 @@
 -- The state image holds the state: what is written is read again, and what is read is written again in canonical words. Assumes nothing.
 use mathlib.Core.Path.{_≡_, refl, sym, ap, _∙_}
-use mathlib.Core.List.{List, _∷_, _++_}
-use Prim.Native.Nat.{ℕ, _+_, _-_}
+use mathlib.Core.List.{List, [], _∷_, _++_}
+use Prim.Native.Nat.{ℕ, _+_, _-_, _<_}
 use native.Mathlib.Nat.{add-assoc}
 use lib.Dec.{eqb, lit<}
 use lib.ListN.{length, getD, take, drop}
@@ -15,9 +15,12 @@ use Rattle.relay_traj.specs.declared.governor.RefGovernor.{RefGovernor}
 use Rattle.relay_traj.specs.declared.quintic.Quintic.{Quintic}
 use Rattle.relay_adrc.specs.declared.axis.AdrcAxis.{AdrcAxis}
 use Rattle.relay_adrc.specs.declared.biquad.Biquad.{Biquad}
+use Rattle.joint_tick.specs.declared.profile.Profile.{Profile}
+use Rattle.joint_tick.specs.declared.profile.Profile.the-variants.{Whole, LostRotor}
 use Rattle.joint_tick.specs.declared.state.State.{State}
-use Rattle.image.specs.Layout.{QUINTIC-WORDS, AXIS-WORDS, BIQUAD-WORDS, COUNT, GAINS, SET, ENTER, EXIT, ENGAGED, GOVERNOR, SEGMENT, RATE, LPF, IMAGE-WORDS, IMAGE-BYTES}
-use Rattle.image.specs.Parts.{gainsAt, setAt, governorAt, quinticAt, segmentAt, adrcGainsAt, axisAt, rateAt, biquadAt, lpfAt, floatsOfGains, floatsOfSet, floatsOfGovernor, floatsOfQuintic, floatsOfAxis, floatsOfBiquad}
+use Rattle.joint_tick.specs.Profile.{profileWord, profileOf}
+use Rattle.image.specs.Layout.{QUINTIC-WORDS, AXIS-WORDS, BIQUAD-WORDS, COUNT, GAINS, SET, ENTER, EXIT, ENGAGED, GOVERNOR, SEGMENT, RATE, LPF, PROFILE, IMAGE-WORDS, IMAGE-BYTES}
+use Rattle.image.specs.Parts.{gainsAt, setAt, governorAt, quinticAt, segmentAt, adrcGainsAt, axisAt, rateAt, biquadAt, lpfAt, profileAt, floatsOfGains, floatsOfSet, floatsOfGovernor, floatsOfQuintic, floatsOfAxis, floatsOfBiquad}
 use Rattle.image.specs.Image.{fixedAt, movingAt, stateAt, wordsOfState, imageOf, canonicalImage}
 use Rattle.image.specs.Fits.{F32, FitsGains, FitsSet, FitsGovernor, FitsQuintic, FitsSegment, FitsAxis, FitsRate, FitsBiquad, FitsLpf, Fits}
 
@@ -75,6 +78,18 @@ count-written s = word-back (image-is s) COUNT refl (lit< tt)
 pub engaged-written : (s : State) → word (imageOf s) ENGAGED ≡ flag (s .moving .engaged)
 engaged-written s = word-back (image-is s) ENGAGED refl (flag-lt (s .moving .engaged))
 
+-- a profile's word is a word, and is read as that profile
+pub profile-lt : (p : Profile) → profileWord p < 4294967296
+profile-lt Whole = lit< tt
+profile-lt LostRotor = lit< tt
+
+pub profile-back : (p : Profile) → profileOf (profileWord p) ≡ p
+profile-back Whole = refl
+profile-back LostRotor = refl
+
+pub profile-written : (s : State) → word (imageOf s) PROFILE ≡ profileWord (s .fixed .profile)
+profile-written s = word-back (image-is s) PROFILE refl (profile-lt (s .fixed .profile))
+
 -- the float at a place of the image is the one that the state's words have there
 pub float-written : (s : State) (k : ℕ) (x : Float) → getD (wordsOfState s) k 0 ≡ bits x → F32 x → float (imageOf s) k ≡ x
 float-written s k x held f = float-back (image-is s) k x held f
@@ -110,7 +125,7 @@ lpf-written s f =
 
 -- what is written is read again
 pub decode-encode : (s : State) → Fits s → stateAt (imageOf s) ≡ s
-unfolding fixedAt movingAt
+unfolding fixedAt movingAt profileAt
 decode-encode s f =
     simp (
       gains-back (image-is s) GAINS (s .fixed .gains) refl (f .gains),
@@ -118,6 +133,8 @@ decode-encode s f =
       enter-written s (f .enter),
       exit-written s (f .exit),
       segment-written s (f .segment),
+      profile-written s,
+      profile-back (s .fixed .profile),
       engaged-written s,
       flag-back (s .moving .engaged),
       governor-back (image-is s) GOVERNOR (s .moving .governor) refl (f .governor),
@@ -127,11 +144,11 @@ decode-encode s f =
 
 -- ---- written again
 
-same-words : (b : List ℕ) → wordsOfState (stateAt b) ≡ IMAGE-WORDS ∷ canons b GAINS (ENGAGED - GAINS) ++ flag (eqb (word b ENGAGED) 1) ∷ canons b GOVERNOR (IMAGE-WORDS - GOVERNOR)
-unfolding fixedAt movingAt gainsAt vec setAt governorAt segmentAt quinticAt rateAt axisAt adrcGainsAt lpfAt biquadAt float
+same-words : (b : List ℕ) → wordsOfState (stateAt b) ≡ IMAGE-WORDS ∷ canons b GAINS (ENGAGED - GAINS) ++ flag (eqb (word b ENGAGED) 1) ∷ canons b GOVERNOR (PROFILE - GOVERNOR) ++ profileWord (profileOf (word b PROFILE)) ∷ []
+unfolding fixedAt movingAt gainsAt vec setAt governorAt segmentAt quinticAt rateAt axisAt adrcGainsAt lpfAt biquadAt profileAt float
 same-words b = refl
 
--- what is read is written again, but for the count, the flag and the NaNs
+-- what is read is written again, but for the count, the flag, the profile and the NaNs
 pub encode-decode : (b : List ℕ) → imageOf (stateAt b) ≡ canonicalImage b
 unfolding canonicalImage
 encode-decode b = image-is (stateAt b) .is ∙ ap bytesOf (same-words b)

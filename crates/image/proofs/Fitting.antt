@@ -17,8 +17,11 @@ use Rattle.relay_adrc.specs.declared.rate.AdrcRate.{AdrcRate}
 use Rattle.relay_adrc.specs.declared.biquad.Biquad.{Biquad}
 use Rattle.relay_adrc.specs.declared.biquad.GyroLpf.{GyroLpf}
 use Rattle.relay_adrc.specs.Axis.{axisNew, axisTick, axisSetDeliveredFraction}
-use Rattle.relay_adrc.specs.Rate.{rateNew, rateTick, rateSetDeliveredFraction}
+use Rattle.relay_adrc.specs.Rate.{rateNew}
 use Rattle.relay_adrc.specs.Biquad.{passesThrough, passthrough, filterAt, lowpass, biquadFilter, gyroNew, gyroFilter}
+use Rattle.joint_tick.specs.declared.profile.Profile.{Profile}
+use Rattle.joint_tick.specs.declared.profile.Profile.the-variants.{Whole, LostRotor}
+use Rattle.joint_tick.specs.Tick.{fractionThird, fractions, tickThird, follow}
 use Rattle.image.specs.Fits.{F32, FitsVec, FitsGovernor, FitsQuintic, FitsSegment, FitsAdrcGains, FitsAxis, FitsRate, FitsBiquad, FitsLpf}
 
 -- each operation rounds to an f32, a literal is one, and a choice of two is one of them
@@ -64,16 +67,24 @@ axis-tick-fits a m d dt f = search fitting
 pub rate-new-fits : (x y z : AdrcGains) → FitsAdrcGains x → FitsAdrcGains y → FitsAdrcGains z → FitsRate (rateNew x y z)
 rate-new-fits x y z f g h = (axis-new-fits x f, axis-new-fits y g, axis-new-fits z h)
 
-pub rate-fraction-fits : (r : AdrcRate) (v : Vec3) → FitsRate r → FitsVec v → FitsRate (rateSetDeliveredFraction r v)
-rate-fraction-fits r v f g =
-    let at = axis-fraction-fits in
-    (at (r .roll) (v .0) (f .0) (g .0), at (r .pitch) (v .1) (f .1) (g .1 .0), at (r .yaw) (v .2) (f .2) (g .1 .1 .0))
+third-fraction-fits : (p : Profile) (a : AdrcAxis) (x : Float) → FitsAxis a → F32 x → FitsAxis (fractionThird p a x)
+third-fraction-fits Whole a x f h = axis-fraction-fits a x f h
+third-fraction-fits LostRotor a x f h = f
 
-pub rate-tick-fits : (r : AdrcRate) (m d : BodyRate) (dt : Float) → FitsRate r → FitsRate (rateTick r m d dt .rate)
-unfolding rateTick
-rate-tick-fits r m d dt f =
+pub rate-fraction-fits : (p : Profile) (r : AdrcRate) (v : Vec3) → FitsRate r → FitsVec v → FitsRate (fractions p r v)
+rate-fraction-fits p r v f g =
+    let at = axis-fraction-fits in
+    (at (r .roll) (v .0) (f .0) (g .0), at (r .pitch) (v .1) (f .1) (g .1 .0), third-fraction-fits p (r .yaw) (v .2) (f .2) (g .1 .1 .0))
+
+third-tick-fits : (p : Profile) (a : AdrcAxis) (m d dt : Float) → FitsAxis a → FitsAxis (tickThird p a m d dt .axis)
+third-tick-fits Whole a m d dt f = axis-tick-fits a m d dt f
+third-tick-fits LostRotor a m d dt f = f
+
+pub rate-tick-fits : (p : Profile) (r : AdrcRate) (m d : BodyRate) (dt : Float) → FitsRate r → FitsRate (follow p r m d dt .rate)
+unfolding follow
+rate-tick-fits p r m d dt f =
     let at = axis-tick-fits in
-    (at (r .roll) (m .0 .0) (d .0 .0) dt (f .0), at (r .pitch) (m .0 .1) (d .0 .1) dt (f .1), at (r .yaw) (m .0 .2) (d .0 .2) dt (f .2))
+    (at (r .roll) (m .0 .0) (d .0 .0) dt (f .0), at (r .pitch) (m .0 .1) (d .0 .1) dt (f .1), third-tick-fits p (r .yaw) (m .0 .2) (d .0 .2) dt (f .2))
 
 -- ---- the filter
 

@@ -9,11 +9,20 @@ use Rattle.relay_geo.specs.declared.set.RecoverableSet.{RecoverableSet}
 use Rattle.joint_tick.specs.declared.state.Fixed.{Fixed}
 use Rattle.joint_tick.specs.declared.state.Moving.{Moving}
 use Rattle.joint_tick.specs.declared.state.State.{State}
-use Rattle.image.specs.Layout.{GAINS, SET, ENTER, EXIT, ENGAGED, GOVERNOR, SEGMENT, RATE, LPF, IMAGE-WORDS}
-use Rattle.image.specs.Parts.{gainsAt, setAt, governorAt, segmentAt, rateAt, lpfAt, floatsOfGains, floatsOfSet, floatsOfGovernor, floatsOfSegment, floatsOfRate, floatsOfLpf}
+use Rattle.joint_tick.specs.Profile.{profileWord, profileOf}
+use Rattle.image.specs.Layout.{GAINS, SET, ENTER, EXIT, ENGAGED, GOVERNOR, SEGMENT, RATE, LPF, PROFILE, IMAGE-WORDS}
+use Rattle.image.specs.Parts.{gainsAt, setAt, governorAt, segmentAt, rateAt, lpfAt, profileAt, floatsOfGains, floatsOfSet, floatsOfGovernor, floatsOfSegment, floatsOfRate, floatsOfLpf}
 
 unfoldable pub fixedAt : List ℕ → Fixed
-fixedAt b = record { gains = gainsAt b GAINS; set = setAt b SET; enter = float b ENTER; exit = float b EXIT; segment = segmentAt b SEGMENT }
+fixedAt b =
+    record {
+      gains = gainsAt b GAINS;
+      set = setAt b SET;
+      enter = float b ENTER;
+      exit = float b EXIT;
+      segment = segmentAt b SEGMENT;
+      profile = profileAt b PROFILE;
+    }
 
 -- engaged is a 1 in its word: any other word is not, and a tick refuses one that is neither 0 nor 1
 unfoldable pub movingAt : List ℕ → Moving
@@ -32,14 +41,15 @@ wordsOfState s =
     IMAGE-WORDS ∷
     wordsOf (floatsOfGains (f .gains)) ++
     wordsOfShield (f .set) (f .enter) (f .exit) (m .engaged) ++
-    wordsOf (floatsOfGovernor (m .governor)) ++ wordsOf (floatsOfSegment (f .segment)) ++ wordsOf (floatsOfRate (m .rate)) ++ wordsOf (floatsOfLpf (m .lpf))
+    wordsOf (floatsOfGovernor (m .governor)) ++
+    wordsOf (floatsOfSegment (f .segment)) ++ wordsOf (floatsOfRate (m .rate)) ++ wordsOf (floatsOfLpf (m .lpf)) ++ profileWord (f .profile) ∷ []
 
 unfoldable pub imageOf : State → List ℕ
 imageOf s = bytesOf (wordsOfState s)
 
 -- ---- what the theorems in proofs/ speak of
 
--- an image read and written again: the count is put in, engaged becomes 1 or 0, and every float its canonical word
+-- an image read and written again: the count is put in, engaged and the profile become 1 or 0, and every float its canonical word
 unfoldable pub canonicalImage : List ℕ → List ℕ
 canonicalImage b =
-    bytesOf (IMAGE-WORDS ∷ canons b GAINS (ENGAGED - GAINS) ++ flag (eqb (word b ENGAGED) 1) ∷ canons b GOVERNOR (IMAGE-WORDS - GOVERNOR))
+    bytesOf (IMAGE-WORDS ∷ canons b GAINS (ENGAGED - GAINS) ++ flag (eqb (word b ENGAGED) 1) ∷ canons b GOVERNOR (PROFILE - GOVERNOR) ++ profileWord (profileOf (word b PROFILE)) ∷ [])

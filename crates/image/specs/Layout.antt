@@ -54,8 +54,11 @@ RATE = 41
 abbrev pub LPF : ℕ
 LPF = 68
 
+abbrev pub PROFILE : ℕ
+PROFILE = 95
+
 abbrev pub IMAGE-WORDS : ℕ
-IMAGE-WORDS = 95
+IMAGE-WORDS = 96
 
 abbrev pub IMAGE-BYTES : ℕ
 IMAGE-BYTES = 4 * IMAGE-WORDS
@@ -88,8 +91,11 @@ SETUP-FC = 48
 abbrev pub SETUP-FS : ℕ
 SETUP-FS = 49
 
+abbrev pub SETUP-PROFILE : ℕ
+SETUP-PROFILE = 50
+
 abbrev pub SETUP-WORDS : ℕ
-SETUP-WORDS = 50
+SETUP-WORDS = 51
 
 abbrev pub SETUP-BYTES : ℕ
 SETUP-BYTES = 4 * SETUP-WORDS

@@ -2,7 +2,7 @@
 use mathlib.Core.List.{List, [], _∷_, _++_}
 use Prim.Native.Nat.{ℕ, _+_}
 use lib.Ieee.{Float}
-use Rattle.words.specs.Words.{float, vec, floatsOfVec}
+use Rattle.words.specs.Words.{word, float, vec, floatsOfVec}
 use Rattle.relay_geo.specs.declared.vectors.Quat.{Quat}
 use Rattle.relay_geo.specs.declared.controller.GeoGains.{GeoGains}
 use Rattle.relay_geo.specs.declared.set.RecoverableSet.{RecoverableSet}
@@ -14,7 +14,9 @@ use Rattle.relay_adrc.specs.declared.axis.AdrcAxis.{AdrcAxis}
 use Rattle.relay_adrc.specs.declared.rate.AdrcRate.{AdrcRate}
 use Rattle.relay_adrc.specs.declared.biquad.Biquad.{Biquad}
 use Rattle.relay_adrc.specs.declared.biquad.GyroLpf.{GyroLpf}
+use Rattle.joint_tick.specs.declared.profile.Profile.{Profile}
 use Rattle.joint_tick.specs.declared.state.Leg.{Leg}
+use Rattle.joint_tick.specs.Profile.{profileOf}
 use Rattle.image.specs.Layout.{VEC-WORDS, QUINTIC-WORDS, T-END, AXIS-WORDS, BIQUAD-WORDS}
 
 -- ---- read
@@ -92,6 +94,9 @@ legAt b k =
       af = vec b (k + 15);
       t = float b (k + 18);
     }
+
+unfoldable pub profileAt : List ℕ → ℕ → Profile
+profileAt b k = profileOf (word b k)
 
 -- ---- written
 

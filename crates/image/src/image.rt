@@ -7,15 +7,18 @@ use super::layout::GAINS;
 use super::layout::GOVERNOR;
 use super::layout::IMAGE_WORDS;
 use super::layout::LPF;
+use super::layout::PROFILE;
 use super::layout::RATE;
 use super::layout::SEGMENT;
 use super::layout::SET;
 use super::parts::gains_at;
 use super::parts::governor_at;
 use super::parts::lpf_at;
+use super::parts::profile_at;
 use super::parts::put_gains;
 use super::parts::put_governor;
 use super::parts::put_lpf;
+use super::parts::put_profile;
 use super::parts::put_rate;
 use super::parts::put_segment;
 use super::parts::put_set;
@@ -50,6 +53,7 @@ pub fn fixed_at(image: &[u8]) -> Fixed
         enter: float_at(image, ENTER),
         exit: float_at(image, EXIT),
         segment: segment_at(image, SEGMENT),
+        profile: profile_at(image, PROFILE),
     }
 }
 
@@ -87,6 +91,7 @@ pub fn put_state(
     requires { ⌜ length (now image) ≡ IMAGE-BYTES ⌝ }
     ensures { λ _. ⌜ now (image .exit) ≡ imageOf record { fixed = fixed; moving = record { engaged = engaged; governor = governor; rate = rate; lpf = lpf } } ⌝ }
 {
+    let profile = fixed.profile;
     put_word(image, COUNT, IMAGE_WORDS as u32);
     put_gains(image, GAINS, fixed.gains);
     put_shield(image, fixed.set, fixed.enter, fixed.exit, engaged);
@@ -94,4 +99,5 @@ pub fn put_state(
     put_segment(image, SEGMENT, fixed.segment);
     put_rate(image, RATE, rate);
     put_lpf(image, LPF, lpf);
+    put_profile(image, PROFILE, profile);
 }

@@ -15,6 +15,7 @@ use super::layout::SETUP_FC;
 use super::layout::SETUP_FS;
 use super::layout::SETUP_GAINS;
 use super::layout::SETUP_LEG;
+use super::layout::SETUP_PROFILE;
 use super::layout::SETUP_SET;
 use super::layout::TIME;
 use super::layout::TORQUE;
@@ -24,6 +25,7 @@ use super::layout::YAW_RATE;
 use super::parts::adrc_gains_at;
 use super::parts::gains_at;
 use super::parts::leg_at;
+use super::parts::profile_at;
 use super::parts::quat_at;
 use super::parts::set_at;
 use joint_tick::Answer;
@@ -40,7 +42,7 @@ ghost use lib.ListN.{length};
 ghost use Rattle.image.specs.Layout.{SETUP-BYTES, INPUT-BYTES, ANSWER-BYTES};
 ghost use Rattle.image.specs.Inputs.{setupAt, inputAt, answerOf};
 
-// Every bit pattern is taken: what is bad is mended later, by the constructors.
+// Every bit pattern is taken: what is bad is mended later, by the constructors. (A word that is no profile's is refused before.)
 pub fn setup_at(input: &[u8]) -> SetUp
     requires { ⌜ length (now input) ≡ SETUP-BYTES ⌝ }
     ensures { λ r. ⌜ r ≡ setupAt (now (input .entry)) ⌝ }
@@ -59,6 +61,7 @@ pub fn setup_at(input: &[u8]) -> SetUp
         yaw: adrc_gains_at(input, SETUP_ADRC + ADRC_WORDS + ADRC_WORDS),
         fc: float_at(input, SETUP_FC),
         fs: float_at(input, SETUP_FS),
+        profile: profile_at(input, SETUP_PROFILE),
     }
 }
 

@@ -37,7 +37,9 @@ pub const RATE: usize = 41;
 
 pub const LPF: usize = 68;
 
-pub const IMAGE_WORDS: usize = 95;
+pub const PROFILE: usize = 95; // its word: 0 or 1
+
+pub const IMAGE_WORDS: usize = 96;
 
 pub const IMAGE_BYTES: usize = 4 * IMAGE_WORDS;
 
@@ -60,7 +62,9 @@ pub const SETUP_FC: usize = 48;
 
 pub const SETUP_FS: usize = 49;
 
-pub const SETUP_WORDS: usize = 50;
+pub const SETUP_PROFILE: usize = 50;
+
+pub const SETUP_WORDS: usize = 51;
 
 pub const SETUP_BYTES: usize = 4 * SETUP_WORDS;
 

@@ -5,6 +5,9 @@ use super::layout::QUINTIC_WORDS;
 use super::layout::T_END;
 use super::layout::VEC_WORDS;
 use joint_tick::Leg;
+use joint_tick::Profile;
+use joint_tick::profile_of;
+use joint_tick::profile_word;
 use relay_adrc::AdrcAxis;
 use relay_adrc::AdrcGains;
 use relay_adrc::AdrcRate;
@@ -20,12 +23,16 @@ use words::float_at;
 use words::put_float;
 use words::put_three;
 use words::put_vec;
+use words::put_word;
 use words::vec_at;
+use words::word_at;
 ghost use mathlib.Core.Path.{_≡_};
+ghost use mathlib.Core.List.{_∷_, []};
 ghost use Prim.Native.Nat.{_+_, _*_, _≤_};
 ghost use lib.ListN.{length};
 ghost use Rattle.words.specs.Words.{wordsOf, Put};
-ghost use Rattle.image.specs.Parts.{quatAt, gainsAt, setAt, governorAt, quinticAt, segmentAt, adrcGainsAt, axisAt, rateAt, biquadAt, lpfAt, legAt, floatsOfGains, floatsOfSet, floatsOfGovernor, floatsOfQuintic, floatsOfSegment, floatsOfAdrcGains, floatsOfAxis, floatsOfRate, floatsOfBiquad, floatsOfLpf};
+ghost use Rattle.joint_tick.specs.Profile.{profileWord};
+ghost use Rattle.image.specs.Parts.{quatAt, gainsAt, setAt, governorAt, quinticAt, segmentAt, adrcGainsAt, axisAt, rateAt, biquadAt, lpfAt, legAt, profileAt, floatsOfGains, floatsOfSet, floatsOfGovernor, floatsOfQuintic, floatsOfSegment, floatsOfAdrcGains, floatsOfAxis, floatsOfRate, floatsOfBiquad, floatsOfLpf};
 
 pub fn quat_at(bytes: &[u8], k: usize) -> Quat
     requires { ⌜ 4 * k + 16 ≤ length (now bytes) ⌝ }
@@ -180,6 +187,13 @@ pub fn leg_at(bytes: &[u8], k: usize) -> Leg
     }
 }
 
+pub(crate) fn profile_at(bytes: &[u8], k: usize) -> Profile
+    requires { ⌜ 4 * k + 4 ≤ length (now bytes) ⌝ }
+    ensures { λ r. ⌜ r ≡ profileAt (now (bytes .entry)) k ⌝ }
+{
+    profile_of(word_at(bytes, k))
+}
+
 pub fn put_gains(bytes: &mut [u8], k: usize, g: GeoGains)
     requires { ⌜ 4 * k + 36 ≤ length (now bytes) ⌝ }
     ensures { λ _. ⌜ Put (now (bytes .entry)) k (wordsOf (floatsOfGains g)) (now (bytes .exit)) ⌝ }
@@ -265,4 +279,11 @@ pub fn put_lpf(bytes: &mut [u8], k: usize, l: GyroLpf)
     put_biquad(bytes, k, l.roll);
     put_biquad(bytes, k + BIQUAD_WORDS, l.pitch);
     put_biquad(bytes, k + BIQUAD_WORDS + BIQUAD_WORDS, l.yaw);
+}
+
+pub(crate) fn put_profile(bytes: &mut [u8], k: usize, profile: Profile)
+    requires { ⌜ 4 * k + 4 ≤ length (now bytes) ⌝ }
+    ensures { λ _. ⌜ Put (now (bytes .entry)) k (profileWord profile ∷ []) (now (bytes .exit)) ⌝ }
+{
+    put_word(bytes, k, profile_word(profile));
 }

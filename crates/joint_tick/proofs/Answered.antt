@@ -3,41 +3,47 @@ use mathlib.Core.Path.{sym, subst}
 use mathlib.Core.Logic.{inl, inr}
 use mathlib.Core.Bool.{Bool, true, false, not, cond}
 use lib.Dec.{T}
-use lib.Ieee.{Float, isNan}
+use lib.Ieee.{Float, isNan, ofBits}
+use Rattle.relay_math.specs.F32.{isFinite}
 use Rattle.relay_math.specs.declared.Vec3.{Vec3}
 use Rattle.relay_math.specs.declared.BodyRate.{BodyRate}
 use Rattle.laws.proofs.Tests.{held}
 use Rattle.relay_math.proofs.Order.{finite-number}
 use Rattle.relay_adrc.specs.declared.rate.AdrcRate.{AdrcRate}
-use Rattle.relay_adrc.specs.Rate.{rateTick}
 use Rattle.relay_adrc.proofs.Tick.{tick-finite}
 use Rattle.relay_geo.specs.declared.controller.GeoGains.{GeoGains}
 use Rattle.relay_geo.specs.declared.set.RecoverableSet.{RecoverableSet}
 use Rattle.relay_geo.specs.Vectors.{sanitise3, Finite3}
-use Rattle.relay_geo.specs.Attitude.{quatToRotmat}
+use Rattle.relay_geo.specs.Attitude.{quatToRotmat, thrustAxisNed}
 use Rattle.relay_geo.specs.Set.{minusInfinity}
 use Rattle.relay_geo.proofs.Finite.{sanitise3-finite}
 use Rattle.relay_geo.proofs.MarginRange.{Ranges, margin-finite-or-minus-infinity}
 use Rattle.relay_traj.specs.Governor.{Running}
 use Rattle.relay_traj.proofs.Clock.{never-nan}
+use Rattle.joint_tick.specs.declared.profile.Profile.{Profile}
+use Rattle.joint_tick.specs.declared.profile.Profile.the-variants.{Whole, LostRotor}
 use Rattle.joint_tick.specs.declared.state.State.{State}
 use Rattle.joint_tick.specs.declared.state.TickInput.{TickInput}
 use Rattle.joint_tick.specs.declared.state.Answer.{Answer}
 use Rattle.joint_tick.specs.declared.stages.Reference.{Reference}
-use Rattle.joint_tick.specs.Tick.{prepare, desired, ahead, rateError, rateSq, psiOf, guide, guidance, pick, finish, ticked}
-use Rattle.joint_tick.proofs.Once.{one-margin}
-use Rattle.joint_tick.proofs.Shielding.{tick-command, tick-torque}
+use Rattle.joint_tick.specs.Tick.{cleaned, desired, ahead, rateError, rateSq, psiOf, psiToAxis, tiltRateSq, guideWhole, guideLostRotor, guide, guidance, follow, ticked}
+use Rattle.joint_tick.proofs.Once.{one-margin, one-margin-to-axis}
+use Rattle.joint_tick.proofs.Shielding.{filtered, wantedAt, planner-finite, tick-margin, tick-command, tick-torque}
 use Rattle.joint_tick.proofs.Clock.{tick-time, time-never-back}
 
 -- ---- the margin is finite or minus infinity, with R_d and without
 
-pub guide-margin-ranges : (gains : GeoGains) (set : RecoverableSet) (w : BodyRate) (wanted : Reference) (i : TickInput) → Ranges (guide gains set w wanted i .margin)
-unfolding guide
-guide-margin-ranges gains set w wanted i =
+pub guide-margin-ranges : (p : Profile) (gains : GeoGains) (set : RecoverableSet) (w : BodyRate) (wanted : Reference) (i : TickInput) → Ranges (guide p gains set w wanted i .margin)
+unfolding guide guideWhole guideLostRotor
+guide-margin-ranges Whole gains set w wanted i =
     let r = quatToRotmat (i .quat) in
     let rd = desired wanted i in
     let wSq = rateSq (rateError w r (ahead wanted i) rd) in
     subst Ranges (one-margin set r rd wSq) (margin-finite-or-minus-infinity set (psiOf r rd) wSq)
+guide-margin-ranges LostRotor gains set w wanted i =
+    let r = quatToRotmat (i .quat) in
+    let axis = thrustAxisNed (cleaned wanted .acc) in
+    subst Ranges (one-margin-to-axis set r axis (tiltRateSq w)) (margin-finite-or-minus-infinity set (psiToAxis r axis) (tiltRateSq w))
 
 minus-infinity-number : T (not (isNan minusInfinity))
 unfolding isNan
@@ -49,9 +55,10 @@ ranges-number m (inr e) = subst (λ (x : Float). T (not (isNan x))) (sym e) minu
 
 -- ---- torque and command are finite
 
-rate-finite : (r : AdrcRate) (m w : BodyRate) (dt : Float) → Finite3 (rateTick r m w dt .torque .0)
-unfolding rateTick
-rate-finite r m w dt = record { x = tick-finite (r .roll) _ _ dt .u; y = tick-finite (r .pitch) _ _ dt .u; z = tick-finite (r .yaw) _ _ dt .u }
+rate-finite : (p : Profile) (r : AdrcRate) (m w : BodyRate) (dt : Float) → Finite3 (follow p r m w dt .torque .0)
+unfolding follow isFinite ofBits
+rate-finite Whole r m w dt = record { x = tick-finite (r .roll) _ _ dt .u; y = tick-finite (r .pitch) _ _ dt .u; z = tick-finite (r .yaw) _ _ dt .u }
+rate-finite LostRotor r m w dt = record { x = tick-finite (r .roll) _ _ dt .u; y = tick-finite (r .pitch) _ _ dt .u; z = tt }
 
 -- three finite numbers each, a time and a margin that are numbers
 pub record Numbers (a : Answer) : Type 0 where
@@ -62,18 +69,18 @@ pub record Numbers (a : Answer) : Type 0 where
 
 module _ (source : Float → Reference) (s : State) (i : TickInput) where
   pub command-finite : Finite3 (ticked source s i .answer .command .0)
-  command-finite = rw tick-command (either (ticked source s i .answer .fallback) (guidance source s i .fallback .0) (i .agile .0))
+  command-finite = rw tick-command (either (ticked source s i .answer .fallback) (guidance source s i .fallback .0) _ (planner-finite (s .fixed .profile) (i .agile)))
     where
-      either : (b : Bool) (v w : Vec3) → Finite3 (cond {A = BodyRate} b record { 0 = sanitise3 v } record { 0 = sanitise3 w } .0)
-      either true v w = sanitise3-finite v
-      either false v w = sanitise3-finite w
+      either : (b : Bool) (v : Vec3) (w : BodyRate) → Finite3 (w .0) → Finite3 (cond {A = BodyRate} b record { 0 = sanitise3 v } w .0)
+      either true v w f = sanitise3-finite v
+      either false v w f = f
 
   pub torque-finite : Finite3 (ticked source s i .answer .torque .0)
-  torque-finite = rw tick-torque (rate-finite _ _ _ _)
+  torque-finite = rw tick-torque (rate-finite _ _ _ _ _)
 
   pub margin-ranges : Ranges (ticked source s i .answer .margin)
-  unfolding ticked finish pick
-  margin-ranges = guide-margin-ranges (s .fixed .gains) (s .fixed .set) (prepare (s .moving) i .rate) (source (prepare (s .moving) i .time)) i
+  unfolding guidance
+  margin-ranges = rw (tick-margin source s i) (guide-margin-ranges (s .fixed .profile) (s .fixed .gains) (s .fixed .set) (filtered source s i) (wantedAt source s i) i)
 
   pub answer-finite : Running (s .moving .governor .s) → Numbers (ticked source s i .answer)
   answer-finite r =

@@ -7,14 +7,14 @@ use Rattle.laws.proofs.Tests.{no}
 use Rattle.relay_adrc.specs.declared.gains.AdrcGains.{AdrcGains}
 use Rattle.relay_adrc.specs.declared.axis.AdrcAxis.{AdrcAxis}
 use Rattle.relay_adrc.specs.Axis.{mendDt, lag, deliveredFraction, axisSetDeliveredFraction}
-use Rattle.relay_adrc.specs.Rate.{rateTick}
 use Rattle.relay_adrc.proofs.Tick.{fraction-scales-the-command-before}
 use Rattle.relay_traj.specs.declared.segment.Segment3.{Segment3}
 use Rattle.relay_traj.specs.Segment.{duration}
+use Rattle.joint_tick.specs.declared.profile.Profile.the-variants.{Whole}
 use Rattle.joint_tick.specs.declared.state.State.{State}
 use Rattle.joint_tick.specs.declared.state.TickInput.{TickInput}
 use Rattle.joint_tick.specs.declared.stages.Reference.{Reference}
-use Rattle.joint_tick.specs.Tick.{prepare, sampleTime, pick, finish, ticked, stateAfter}
+use Rattle.joint_tick.specs.Tick.{prepare, sampleTime, follow, pick, finish, ticked, stateAfter}
 
 -- ---- "The delivered fraction set after one tick is used in the next": a tick's fraction scales the torque that the tick before it answered.
 
@@ -25,15 +25,16 @@ Delivered before after g u fraction dt = after .«u_act» ≡ finiteOr (lag (bef
 pub record ScalesTheLast (source next : Float → Reference) (s : State) (i k : TickInput) : Type 0 where
   pub roll : Delivered (ticked source s i .rate .roll) (ticked next (stateAfter source s i) k .rate .roll) (s .moving .rate .roll .g) (ticked source s i .answer .torque .0 .0) (k .fraction .0) (k .dt)
   pub pitch : Delivered (ticked source s i .rate .pitch) (ticked next (stateAfter source s i) k .rate .pitch) (s .moving .rate .pitch .g) (ticked source s i .answer .torque .0 .1) (k .fraction .1) (k .dt)
-  pub yaw : Delivered (ticked source s i .rate .yaw) (ticked next (stateAfter source s i) k .rate .yaw) (s .moving .rate .yaw .g) (ticked source s i .answer .torque .0 .2) (k .fraction .2) (k .dt)
+  -- with a rotor lost the third axis stands still
+  pub yaw : s .fixed .profile ≡ Whole → Delivered (ticked source s i .rate .yaw) (ticked next (stateAfter source s i) k .rate .yaw) (s .moving .rate .yaw .g) (ticked source s i .answer .torque .0 .2) (k .fraction .2) (k .dt)
 
 pub fraction-scales-the-last-torque : (source next : Float → Reference) (s : State) (i k : TickInput) → ScalesTheLast source next s i k
-unfolding ticked prepare finish pick rateTick
+unfolding ticked prepare finish pick follow
 fraction-scales-the-last-torque source next s i k =
     record {
       roll = fraction-scales-the-command-before (axisSetDeliveredFraction (s .moving .rate .roll) (i .fraction .0)) _ _ _ _ _ _ _;
       pitch = fraction-scales-the-command-before (axisSetDeliveredFraction (s .moving .rate .pitch) (i .fraction .1)) _ _ _ _ _ _ _;
-      yaw = fraction-scales-the-command-before (axisSetDeliveredFraction (s .moving .rate .yaw) (i .fraction .2)) _ _ _ _ _ _ _;
+      yaw = λ e. rw e (fraction-scales-the-command-before (axisSetDeliveredFraction (s .moving .rate .yaw) (i .fraction .2)) _ _ _ _ _ _ _);
     }
 
 -- ---- "at its duration (the first axis's t_end) if the time is +infinity", else at the time

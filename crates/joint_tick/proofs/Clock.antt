@@ -8,22 +8,27 @@ use Rattle.relay_math.specs.declared.BodyRate.{BodyRate}
 use Rattle.relay_adrc.specs.declared.axis.AdrcAxis.{AdrcAxis}
 use Rattle.relay_adrc.specs.declared.rate.AdrcRate.{AdrcRate}
 use Rattle.relay_adrc.specs.Axis.{axisTick}
-use Rattle.relay_adrc.specs.Rate.{rateTick, rateSetDeliveredFraction}
 use Rattle.relay_traj.specs.Governor.{advance, Running}
 use Rattle.relay_traj.proofs.Clock.{clock-never-back, no-dt-keeps-number}
+use Rattle.joint_tick.specs.declared.profile.Profile.{Profile}
+use Rattle.joint_tick.specs.declared.profile.Profile.the-variants.{Whole, LostRotor}
 use Rattle.joint_tick.specs.declared.state.State.{State}
 use Rattle.joint_tick.specs.declared.state.TickInput.{TickInput}
 use Rattle.joint_tick.specs.declared.stages.Reference.{Reference}
-use Rattle.joint_tick.specs.Tick.{prepare, pick, finish, ticked, stateAfter}
+use Rattle.joint_tick.specs.Tick.{fractions, prepare, tickThird, follow, pick, finish, ticked, stateAfter}
 
 axis-by-1ms : (a : AdrcAxis) (measured wanted dt : Float) → isFinite dt ≡ false → axisTick a measured wanted dt ≡ axisTick a measured wanted 1e-3
 unfolding axisTick isFinite lt ofBits
 axis-by-1ms a measured wanted dt e = rw e
 
-rate-by-1ms : (r : AdrcRate) (measured wanted : BodyRate) (dt : Float) → isFinite dt ≡ false → rateTick r measured wanted dt ≡ rateTick r measured wanted 1e-3
-unfolding rateTick
-rate-by-1ms r m w dt e =
-    rw (axis-by-1ms (r .roll) (m .0 .0) (w .0 .0) dt e, axis-by-1ms (r .pitch) (m .0 .1) (w .0 .1) dt e, axis-by-1ms (r .yaw) (m .0 .2) (w .0 .2) dt e)
+third-by-1ms : (p : Profile) (a : AdrcAxis) (measured wanted dt : Float) → isFinite dt ≡ false → tickThird p a measured wanted dt ≡ tickThird p a measured wanted 1e-3
+third-by-1ms Whole a measured wanted dt e = axis-by-1ms a measured wanted dt e
+third-by-1ms LostRotor a measured wanted dt e = refl
+
+rate-by-1ms : (p : Profile) (r : AdrcRate) (measured wanted : BodyRate) (dt : Float) → isFinite dt ≡ false → follow p r measured wanted dt ≡ follow p r measured wanted 1e-3
+unfolding follow
+rate-by-1ms p r m w dt e =
+    rw (axis-by-1ms (r .roll) (m .0 .0) (w .0 .0) dt e, axis-by-1ms (r .pitch) (m .0 .1) (w .0 .1) dt e, third-by-1ms p (r .yaw) (m .0 .2) (w .0 .2) dt e)
 
 no-time : (dt : Float) → isFinite dt ≡ false → finiteAbove 0·0 dt ≡ false
 no-time dt e = rw e
@@ -43,6 +48,6 @@ module _ (source : Float → Reference) (s : State) (i : TickInput) where
   -- "a NaN dt moves ADRC by 1 ms and the governor by nothing"; so does an infinite one.
   pub one-dt-two-rules : isFinite (i .dt) ≡ false → Running (s .moving .governor .s)
       → T (eq (s .moving .governor .s) (stateAfter source s i .moving .governor .s))
-      × (ticked source s i .rate ≡ rateTick (rateSetDeliveredFraction (s .moving .rate) (i .fraction)) (prepare (s .moving) i .rate) (ticked source s i .answer .command) 1e-3 .rate)
+      × (ticked source s i .rate ≡ follow (s .fixed .profile) (fractions (s .fixed .profile) (s .moving .rate) (i .fraction)) (prepare (s .fixed .profile) (s .moving) i .rate) (ticked source s i .answer .command) 1e-3 .rate)
   unfolding ticked prepare finish pick advance
-  one-dt-two-rules e r = (no-dt-keeps-number (s .moving .governor) (i .«track_err») (i .dt) (no-time (i .dt) e) r, rw (rate-by-1ms _ _ _ (i .dt) e))
+  one-dt-two-rules e r = (no-dt-keeps-number (s .moving .governor) (i .«track_err») (i .dt) (no-time (i .dt) e) r, rw (rate-by-1ms _ _ _ _ (i .dt) e))

@@ -7,8 +7,8 @@ use lib.Ieee.Bits.{is-true}
 use Rattle.relay_math.specs.F32.{0·0, 1e-3, isFinite}
 use Rattle.laws.proofs.Tests.{no, held}
 use Rattle.relay_math.proofs.Order.{le-is-not-above}
+use Rattle.relay_adrc.specs.declared.axis.AdrcAxis.{AdrcAxis}
 use Rattle.relay_adrc.specs.Axis.{axisTick}
-use Rattle.relay_adrc.specs.Rate.{rateTick}
 use Rattle.relay_geo.specs.declared.set.RecoverableSet.{RecoverableSet}
 use Rattle.relay_geo.specs.Shield.{newShield}
 use Rattle.relay_geo.proofs.SetUp.{enter-finite-positive, fresh-in-order}
@@ -17,6 +17,8 @@ use Rattle.relay_traj.specs.Quintic.{Lasts}
 use Rattle.relay_traj.specs.Segment.{segment}
 use Rattle.relay_traj.proofs.Clock.{starts-at-zero}
 use Rattle.relay_traj.proofs.Leg.{segment-lasts}
+use Rattle.joint_tick.specs.declared.profile.Profile.{Profile}
+use Rattle.joint_tick.specs.declared.profile.Profile.the-variants.{Whole, LostRotor}
 use Rattle.joint_tick.specs.declared.state.Leg.{Leg}
 use Rattle.joint_tick.specs.declared.state.SetUp.{SetUp}
 use Rattle.joint_tick.specs.declared.state.Moving.{Moving}
@@ -24,7 +26,7 @@ use Rattle.joint_tick.specs.declared.state.State.{State}
 use Rattle.joint_tick.specs.declared.state.TickInput.{TickInput}
 use Rattle.joint_tick.specs.declared.stages.Reference.{Reference}
 use Rattle.joint_tick.specs.SetUp.{segmentOf, setUp}
-use Rattle.joint_tick.specs.Tick.{prepare, pick, finish, ticked, stateAfter}
+use Rattle.joint_tick.specs.Tick.{fractionThird, prepare, tickThird, follow, pick, finish, ticked, stateAfter}
 use Rattle.joint_tick.specs.Good.{thresholdsOk, timeOk, lasts, segmentOk, good}
 use Rattle.joint_tick.proofs.Clock.{time-never-back}
 
@@ -35,9 +37,14 @@ pub record Kept (s t : Moving) : Type 0 where
   pub pitch : t .rate .pitch .g ≡ s .rate .pitch .g
   pub yaw : t .rate .yaw .g ≡ s .rate .yaw .g
 
+third-keeps : (p : Profile) (a : AdrcAxis) (fraction measured wanted dt : Float) → tickThird p (fractionThird p a fraction) measured wanted dt .axis .g ≡ a .g
+unfolding axisTick
+third-keeps Whole a fraction measured wanted dt = refl
+third-keeps LostRotor a fraction measured wanted dt = refl
+
 pub tick-keeps : (source : Float → Reference) (s : State) (i : TickInput) → Kept (s .moving) (stateAfter source s i .moving)
-unfolding ticked prepare finish pick rateTick axisTick
-tick-keeps source s i = record { roll = refl; pitch = refl; yaw = refl }
+unfolding ticked prepare finish pick follow axisTick
+tick-keeps source s i = record { roll = refl; pitch = refl; yaw = third-keeps (s .fixed .profile) (s .moving .rate .yaw) _ _ _ _ }
 
 -- ---- row 4 in document 01's words
 

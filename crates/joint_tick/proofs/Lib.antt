@@ -2,6 +2,7 @@ pub mod Once
 pub mod Shielding
 pub mod NoAttitude
 pub mod Turning
+pub mod LostRotor
 pub mod Clock
 pub mod Answered
 pub mod Kept

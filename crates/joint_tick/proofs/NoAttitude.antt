@@ -1,4 +1,4 @@
--- A tick with no desired attitude: in free fall, and at a heading that is no number, infinite or beyond the limit. Assumes nothing.
+-- A tick with no desired attitude, by the old rules: in free fall, and at a heading that is no number, infinite or beyond the limit. Assumes nothing.
 use mathlib.Core.Path.{_≡_, refl, _∙_, ap}
 use mathlib.Core.Bool.{Bool, true, false, not, cond}
 use lib.Dec.{T}
@@ -7,25 +7,27 @@ use Rattle.relay_math.specs.F32.{0·0, isFinite}
 use Rattle.relay_math.specs.Exact.{inRange}
 use Rattle.relay_math.specs.declared.Vec3.{Vec3}
 use Rattle.relay_math.specs.declared.BodyRate.{BodyRate}
+use Rattle.relay_geo.specs.declared.vectors.Direction.the-variants as direction
 use Rattle.relay_geo.specs.declared.attitude.Attitude.the-variants.{Refused}
 use Rattle.relay_geo.specs.declared.attitude.Feedforward.{Feedforward}
 use Rattle.relay_geo.specs.declared.attitude.Feedforward.the-variants as rate
 use Rattle.relay_geo.specs.declared.controller.GeoGains.{GeoGains}
 use Rattle.relay_geo.specs.declared.set.RecoverableSet.{RecoverableSet}
 use Rattle.relay_geo.specs.Vectors.{norm, sanitise3}
-use Rattle.relay_geo.specs.Attitude.{thrustForce, thrustAttitude, tooWeak, flatnessOmegaFf}
+use Rattle.relay_geo.specs.Attitude.{thrustForce, thrustAxisNed, thrustAttitude, tooWeak, flatnessOmegaFf}
 use Rattle.relay_geo.specs.Inner.{feedforwardFrom, thrustOf, feedforwardOn}
 use Rattle.relay_geo.specs.Set.{minusInfinity}
 use Rattle.latch.specs.Latch.{latch}
 use Rattle.relay_geo.proofs.Accepts.{feedforward-shares}
 use Rattle.relay_geo.proofs.NoAttitude.{bad-heading-none}
+use Rattle.joint_tick.specs.declared.profile.Profile.the-variants.{Whole, LostRotor}
 use Rattle.joint_tick.specs.declared.state.State.{State}
 use Rattle.joint_tick.specs.declared.state.TickInput.{TickInput}
 use Rattle.joint_tick.specs.declared.stages.Reference.{Reference}
 use Rattle.joint_tick.specs.declared.stages.Guided.{Guided}
-use Rattle.joint_tick.specs.Tick.{cleaned, desired, prepare, guide, guidance, pick, finish, ticked}
+use Rattle.joint_tick.specs.Tick.{cleaned, desired, plannerOf, guideWhole, guideLostRotor, guide, guidance, ticked}
 use Rattle.joint_tick.proofs.Once.{one-attitude}
-use Rattle.joint_tick.proofs.Shielding.{tick-latch, tick-fallback}
+use Rattle.joint_tick.proofs.Shielding.{filtered, wantedAt, by-profile, tick-latch, tick-margin, tick-psi, tick-fallback}
 
 abbrev zeros : BodyRate
 zeros = record { 0 = (0·0, 0·0, 0·0) }
@@ -42,8 +44,8 @@ no-feedforward a j yaw yawRate e = rw (feedforward-shares a j yaw yawRate, e) (e
 -- "If there is no R_d the margin is minus infinity and the psi word NaN." The fallback is then three +0.0.
 pub no-attitude : (gains : GeoGains) (set : RecoverableSet) (w : BodyRate) (wanted : Reference) (i : TickInput)
     → desired wanted i ≡ Refused
-    → guide gains set w wanted i ≡ record { fallback = zeros; psi = nan; margin = minusInfinity; planner = record { 0 = sanitise3 (i .agile .0) } }
-unfolding guide
+    → guideWhole gains set w wanted i ≡ record { fallback = zeros; psi = nan; margin = minusInfinity; planner = plannerOf Whole (i .agile) }
+unfolding guideWhole
 no-attitude gains set w wanted i e =
     let c = cleaned wanted in
     rw (one-attitude gains (i .quat) (wanted .acc) (i .yaw), no-feedforward (c .acc) (c .jerk) (i .yaw) (i .«yaw_rate») e, e)
@@ -66,24 +68,35 @@ pub record Damped (source : Float → Reference) (s : State) (i : TickInput) : T
   pub command : ticked source s i .answer .command ≡ zeros
 
 module _ (source : Float → Reference) (s : State) (i : TickInput) where
-  pub no-attitude-tick : desired (source (prepare (s .moving) i .time)) i ≡ Refused → Damped source s i
-  unfolding ticked finish pick guidance
-  no-attitude-tick e =
-      let g = no-attitude (s .fixed .gains) (s .fixed .set) (prepare (s .moving) i .rate) (source (prepare (s .moving) i .time)) i e in
-      let m = ap (λ (x : Guided). x .margin) g in
-      let f : ticked source s i .answer .fallback ≡ true = tick-latch source s i ∙ rw m (unknown-engages (s .fixed .enter) (s .fixed .exit) (s .moving .engaged)) in
+  -- by whichever profile
+  damped : (planner : BodyRate) → guidance source s i ≡ record { fallback = zeros; psi = nan; margin = minusInfinity; planner = planner } → Damped source s i
+  damped planner g =
+      let m = tick-margin source s i ∙ ap (λ (x : Guided). x .margin) g in
+      let f : ticked source s i .answer .fallback ≡ true =
+      tick-latch source s i ∙ rw (ap (λ (x : Guided). x .margin) g) (unknown-engages (s .fixed .enter) (s .fixed .exit) (s .moving .engaged)) in
       record {
         margin = m;
-        psi = ap (λ (x : Guided). x .psi) g;
+        psi = tick-psi source s i ∙ ap (λ (x : Guided). x .psi) g;
         flag = f;
         command = tick-fallback source s i f ∙ rw (ap (λ (x : Guided). x .fallback) g, clean-zeros);
       }
 
+  pub no-attitude-tick : s .fixed .profile ≡ Whole → desired (wantedAt source s i) i ≡ Refused → Damped source s i
+  unfolding guide
+  no-attitude-tick p e =
+      damped (plannerOf Whole (i .agile))
+      (by-profile source s i p ∙ no-attitude (s .fixed .gains) (s .fixed .set) (filtered source s i) (wantedAt source s i) i e)
+
   -- "A non-finite yaw makes the heading vector zero", and so does one beyond the limit: whatever the segment asks for.
-  pub bad-heading-tick : T (not (inRange (i .yaw))) → Damped source s i
-  bad-heading-tick far = no-attitude-tick (bad-heading-none (i .yaw) far (cleaned (source (prepare (s .moving) i .time)) .acc))
+  pub bad-heading-tick : s .fixed .profile ≡ Whole → T (not (inRange (i .yaw))) → Damped source s i
+  bad-heading-tick p far = no-attitude-tick p (bad-heading-none (i .yaw) far (cleaned (wantedAt source s i) .acc))
 
   -- "Headings that aren't numbers."
-  pub nan-heading-tick : i .yaw ≡ nan → Damped source s i
+  pub nan-heading-tick : s .fixed .profile ≡ Whole → i .yaw ≡ nan → Damped source s i
   unfolding inRange
-  nan-heading-tick e = bad-heading-tick (rw e tt)
+  nan-heading-tick p e = bad-heading-tick p (rw e tt)
+
+  -- With a rotor lost only a thrust axis that is refused does it.
+  pub no-axis-tick : s .fixed .profile ≡ LostRotor → thrustAxisNed (cleaned (wantedAt source s i) .acc) ≡ direction.Refused → Damped source s i
+  unfolding guide guideLostRotor
+  no-axis-tick p e = damped (plannerOf LostRotor (i .agile)) (by-profile source s i p ∙ rw e)

@@ -1,32 +1,36 @@
--- `guide` builds R and R_d once, and takes the length of g - a once; ADRC's tick is taken in two halves: that is the Rust's own calls, bit for bit. Assumes nothing.
+-- `guide_whole` builds R and R_d once, and takes the length of g - a once; ADRC's tick is taken in two halves: that is the Rust's own calls, bit for bit. Assumes nothing.
 use mathlib.Core.Path.{_≡_, refl}
 use lib.Ieee.{Float}
-use Rattle.relay_math.specs.F32.{isFinite}
+use Rattle.relay_math.specs.F32.{0·0, isFinite}
 use Rattle.relay_math.specs.declared.Vec3.{Vec3}
 use Rattle.relay_math.specs.declared.BodyRate.{BodyRate}
 use Rattle.relay_geo.specs.declared.vectors.Mat3.{Mat3}
 use Rattle.relay_geo.specs.declared.vectors.Quat.{Quat}
+use Rattle.relay_geo.specs.declared.vectors.Direction.{Direction}
+use Rattle.relay_geo.specs.declared.vectors.Direction.the-variants as direction
 use Rattle.relay_geo.specs.declared.attitude.Attitude.{Attitude}
 use Rattle.relay_geo.specs.declared.attitude.Attitude.the-variants.{Matrix, Refused}
 use Rattle.relay_geo.specs.declared.controller.GeoGains.{GeoGains}
 use Rattle.relay_geo.specs.declared.set.RecoverableSet.{RecoverableSet}
 use Rattle.relay_geo.specs.Vectors.{sanitise3}
-use Rattle.relay_geo.specs.Attitude.{quatToRotmat, thrustAttitude}
+use Rattle.relay_geo.specs.Attitude.{quatToRotmat, thrustAxisNed, thrustAttitude}
 use Rattle.relay_geo.specs.Inner.{thrustOf, attitudeOn, feedforwardOn}
 use Rattle.relay_geo.specs.Controller.{rateToward, desiredRate}
 use Rattle.relay_geo.specs.Set.{margin}
 use Rattle.relay_geo.proofs.Accepts.{shared-attitude, shared-feedforward}
 use Rattle.relay_geo.proofs.Finite.{sanitise3-finite, sanitise3-keeps}
+use Rattle.joint_tick.specs.declared.profile.Profile.{Profile}
+use Rattle.joint_tick.specs.declared.profile.Profile.the-variants.{Whole, LostRotor}
 use Rattle.joint_tick.specs.declared.state.Fixed.{Fixed}
 use Rattle.joint_tick.specs.declared.state.TickInput.{TickInput}
 use Rattle.joint_tick.specs.declared.stages.Reference.{Reference}
+use Rattle.relay_adrc.specs.declared.axis.AdrcAxis.{AdrcAxis}
 use Rattle.relay_adrc.specs.declared.rate.AdrcRate.{AdrcRate}
-use Rattle.relay_adrc.specs.Rate.{rateTick}
 use Rattle.relay_adrc.proofs.Tick.{tick-in-halves}
 use Rattle.joint_tick.specs.declared.stages.Prepared.{Prepared}
 use Rattle.joint_tick.specs.declared.stages.Guided.{Guided}
-use Rattle.joint_tick.specs.Tick.{cleaned, plus, rateError, rateSq, psiOf, marginOf, guide, picked, pick}
-use Rattle.joint_tick.specs.Inner.{observe, followOn, pickOn}
+use Rattle.joint_tick.specs.Tick.{cleaned, plus, rateError, rateSq, psiOf, marginOf, guideWhole, rateTowardAxis, psiToAxis, tiltRateSq, marginToAxis, guideLostRotor, picked, tickThird, follow, pick}
+use Rattle.joint_tick.specs.Inner.{observeThird, observe, actThird, followOn, pickOn}
 
 -- `desired_rate` cleans its acceleration, which is clean already: its R_d is the tick's
 pub one-attitude : (g : GeoGains) (q : Quat) (a : Vec3) (yaw : Float) → desiredRate g q (sanitise3 a) yaw ≡ rateToward g (quatToRotmat q) (thrustAttitude (sanitise3 a) yaw)
@@ -49,18 +53,41 @@ pub guided-once : (gains : GeoGains) (set : RecoverableSet) (w : BodyRate) (want
       psi = psiOf r rd;
       margin = margin set (psiOf r rd) (rateSq (rateError w r ff rd));
       planner = record { 0 = sanitise3 (i .agile .0) };
-    } (guide gains set w wanted i))
-unfolding guide
+    } (guideWhole gains set w wanted i))
+unfolding guideWhole
 guided-once gains set w wanted i =
     let acc = cleaned wanted .acc in
     rw (shared-attitude acc (i .yaw), shared-feedforward acc (cleaned wanted .jerk) (i .yaw) (i .«yaw_rate»), one-attitude gains (i .quat) (wanted .acc) (i .yaw), one-margin set (quatToRotmat (i .quat)) (thrustAttitude acc (i .yaw)))
 
+-- with a rotor lost: the same of a thrust axis that is refused
+pub one-margin-to-axis : (set : RecoverableSet) (r : Mat3) (axis : Direction) (wSq : Float) → margin set (psiToAxis r axis) wSq ≡ marginToAxis set r axis wSq
+unfolding margin isFinite
+one-margin-to-axis set r (direction.Axis b3) wSq = refl
+one-margin-to-axis set r direction.Refused wSq = refl
+
+pub guided-lost-once : (gains : GeoGains) (set : RecoverableSet) (w : BodyRate) (wanted : Reference) (i : TickInput)
+    → (let axis = thrustAxisNed (sanitise3 (wanted .acc)) in
+    let r = quatToRotmat (i .quat) in
+    let v = sanitise3 (i .agile .0) in
+    _≡_ {A = Guided} record {
+      fallback = rateTowardAxis gains r axis;
+      psi = psiToAxis r axis;
+      margin = margin set (psiToAxis r axis) (tiltRateSq w);
+      planner = record { 0 = (v .0, v .1, 0·0) };
+    } (guideLostRotor gains set w wanted i))
+unfolding guideLostRotor
+guided-lost-once gains set w wanted i = rw (one-margin-to-axis set (quatToRotmat (i .quat)) (thrustAxisNed (sanitise3 (wanted .acc))))
+
 -- ---- ADRC's observers go before the guidance, its control after it
 
-pub follow-in-halves : (r : AdrcRate) (m w : BodyRate) (dt : Float) → followOn r (observe r m dt) w ≡ rateTick r m w dt
-unfolding followOn observe rateTick
-follow-in-halves r m w dt = rw (tick-in-halves (r .roll) (m .0 .0) (w .0 .0) dt, tick-in-halves (r .pitch) (m .0 .1) (w .0 .1) dt, tick-in-halves (r .yaw) (m .0 .2) (w .0 .2) dt)
+third-in-halves : (p : Profile) (a : AdrcAxis) (m w dt : Float) → actThird p a (observeThird p a m dt) w ≡ tickThird p a m w dt
+third-in-halves Whole a m w dt = tick-in-halves a m w dt
+third-in-halves LostRotor a m w dt = refl
 
-pub pick-in-halves : (f : Fixed) (p : Prepared) (g : Guided) (dt : Float) → pickOn f p (observe (p .moving .rate) (p .rate) dt) g ≡ pick f p g dt
+pub follow-in-halves : (p : Profile) (r : AdrcRate) (m w : BodyRate) (dt : Float) → followOn p r (observe p r m dt) w ≡ follow p r m w dt
+unfolding followOn observe follow
+follow-in-halves p r m w dt = rw (tick-in-halves (r .roll) (m .0 .0) (w .0 .0) dt, tick-in-halves (r .pitch) (m .0 .1) (w .0 .1) dt, third-in-halves p (r .yaw) (m .0 .2) (w .0 .2) dt)
+
+pub pick-in-halves : (f : Fixed) (p : Prepared) (g : Guided) (dt : Float) → pickOn f p (observe (f .profile) (p .moving .rate) (p .rate) dt) g ≡ pick f p g dt
 unfolding pickOn pick
-pick-in-halves f p g dt = rw (follow-in-halves (p .moving .rate) (p .rate) (picked f p g .command) dt)
+pick-in-halves f p g dt = rw (follow-in-halves (f .profile) (p .moving .rate) (p .rate) (picked f p g .command) dt)

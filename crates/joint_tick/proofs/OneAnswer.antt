@@ -1,9 +1,19 @@
 -- Of each public function here: no second answer fits its promise. Assumes nothing.
 use mathlib.Core.Path.{refl}
 use Rattle.laws.proofs.Determined.{OneAnswer, no-second}
+use Rattle.joint_tick.proofs.profile
 use Rattle.joint_tick.proofs.setup
 use Rattle.joint_tick.proofs.stages
 use Rattle.joint_tick.proofs.taken
+
+pub profile-word-once : OneAnswer profile.profile_word.ended profile.profile_word.Reads.Post
+profile-word-once κs a x y v w p q = (no-second p q, refl)
+
+pub is-profile-once : OneAnswer profile.is_profile.ended profile.is_profile.Reads.Post
+is-profile-once κs a x y v w p q = (no-second p q, refl)
+
+pub profile-of-once : OneAnswer profile.profile_of.ended profile.profile_of.Reads.Post
+profile-of-once κs a x y v w p q = (no-second p q, refl)
 
 pub segment-of-once : OneAnswer setup.segment_of.ended setup.segment_of.Reads.Post
 segment-of-once κs a x y v w p q = (no-second p q, refl)

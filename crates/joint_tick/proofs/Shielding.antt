@@ -1,19 +1,43 @@
 -- The flag, the latch and the command of a tick, from any source of references: Assumes nothing.
-use mathlib.Core.Path.{_≡_, refl, _∙_}
+use mathlib.Core.Path.{_≡_, refl, sym, subst, _∙_, ap}
 use mathlib.Core.Bool.{Bool, true, false, cond}
-use lib.Ieee.{Float}
-use Rattle.relay_adrc.specs.Rate.{rateTick, rateSetDeliveredFraction}
-use Rattle.relay_geo.specs.Vectors.{sanitise3}
+use lib.Ieee.{Float, ofBits}
+use Rattle.relay_math.specs.F32.{isFinite}
+use Rattle.relay_math.specs.declared.Vec3.{Vec3}
+use Rattle.relay_math.specs.declared.BodyRate.{BodyRate}
+use Rattle.relay_geo.specs.Vectors.{sanitise3, Finite3}
 use Rattle.latch.specs.Latch.{latch}
 use Rattle.relay_geo.proofs.Finite.{sanitise3-finite, sanitise3-keeps}
 use Rattle.relay_geo.specs.Shield.{step}
 use Rattle.relay_geo.proofs.Steps.{step-latches, planner-passed-on, fallback-passed-on}
+use Rattle.joint_tick.specs.declared.profile.Profile.{Profile}
+use Rattle.joint_tick.specs.declared.profile.Profile.the-variants.{Whole, LostRotor}
 use Rattle.joint_tick.specs.declared.state.State.{State}
 use Rattle.joint_tick.specs.declared.state.TickInput.{TickInput}
 use Rattle.joint_tick.specs.declared.stages.Reference.{Reference}
-use Rattle.joint_tick.specs.Tick.{shieldOf, prepare, guide, pick, finish, guidance, ticked}
+use Rattle.joint_tick.specs.Tick.{shieldOf, plannerOf, fractions, prepare, guideWhole, guideLostRotor, guide, follow, pick, finish, guidance, ticked}
+
+-- the planner's command is clean already, in either profile
+pub planner-finite : (p : Profile) (agile : BodyRate) → Finite3 (plannerOf p agile .0)
+unfolding isFinite ofBits
+planner-finite Whole agile = sanitise3-finite (agile .0)
+planner-finite LostRotor agile = let f = sanitise3-finite (agile .0) in record { x = f .x; y = f .y; z = tt }
+
+planner-clean : (p : Profile) (agile : BodyRate) → _≡_ {A = BodyRate} record { 0 = sanitise3 (plannerOf p agile .0) } (plannerOf p agile)
+planner-clean p agile = ap (λ (v : Vec3). record { 0 = v }) (sanitise3-keeps (plannerOf p agile .0) (planner-finite p agile))
 
 module _ (source : Float → Reference) (s : State) (i : TickInput) where
+  -- what the profile says, for what is proved of one of the two
+  abbrev pub filtered : BodyRate
+  filtered = prepare (s .fixed .profile) (s .moving) i .rate
+
+  abbrev pub wantedAt : Reference
+  wantedAt = source (prepare (s .fixed .profile) (s .moving) i .time)
+
+  pub by-profile : {p : Profile} → s .fixed .profile ≡ p → guidance source s i ≡ guide p (s .fixed .gains) (s .fixed .set) filtered wantedAt i
+  unfolding guidance
+  by-profile e = ap (λ (p : Profile). guide p (s .fixed .gains) (s .fixed .set) filtered wantedAt i) e
+
   -- The flag is the latch of the margin that the documents work out, and of nothing else of the tick.
   pub tick-latch : ticked source s i .answer .fallback ≡ latch (s .fixed .enter) (s .fixed .exit) (s .moving .engaged) (guidance source s i .margin)
   unfolding ticked prepare finish pick guidance
@@ -29,36 +53,44 @@ module _ (source : Float → Reference) (s : State) (i : TickInput) where
   unfolding ticked finish pick guidance
   tick-margin = refl
 
+  pub planner-is : guidance source s i .planner ≡ plannerOf (s .fixed .profile) (i .agile)
+  unfolding guidance guide guideWhole guideLostRotor
+  planner-is = go (s .fixed .profile) filtered wantedAt
+    where
+      go : (p : Profile) (w : BodyRate) (wanted : Reference) → guide p (s .fixed .gains) (s .fixed .set) w wanted i .planner ≡ plannerOf p (i .agile)
+      go Whole w wanted = refl
+      go LostRotor w wanted = refl
+
+  pub tick-psi : ticked source s i .answer .psi ≡ guidance source s i .psi
+  unfolding ticked finish pick guidance
+  tick-psi = refl
+
   -- The planner's command goes on as it is cleaned, the fallback with its non-finite numbers made +0.0 (its sum can overflow).
   pub tick-planner : ticked source s i .answer .fallback ≡ false → ticked source s i .answer .command ≡ guidance source s i .planner
-  unfolding ticked prepare guidance guide finish pick
+  unfolding ticked prepare guidance finish pick
   tick-planner e =
       let g = guidance source s i in
       planner-passed-on (shieldOf s) (g .margin) (g .planner) (g .fallback) e
-      ∙ rw (sanitise3-keeps (sanitise3 (i .agile .0)) (sanitise3-finite (i .agile .0)))
+      ∙ subst (λ (w : BodyRate). record { 0 = sanitise3 (w .0) } ≡ w) (sym planner-is) (planner-clean (s .fixed .profile) (i .agile))
 
   pub tick-fallback : ticked source s i .answer .fallback ≡ true → ticked source s i .answer .command ≡ record { 0 = sanitise3 (guidance source s i .fallback .0) }
   unfolding ticked prepare finish pick guidance
   tick-fallback e = let g = guidance source s i in fallback-passed-on (shieldOf s) (g .margin) (g .planner) (g .fallback) e
 
-  pub planner-is : guidance source s i .planner ≡ record { 0 = sanitise3 (i .agile .0) }
-  unfolding guidance guide
-  planner-is = refl
-
   -- "What is passed on is that command with non-finite numbers made zero, else the fallback treated alike, and the flag names which."
   pub tick-command :
       ticked source s i .answer .command ≡
-      cond (ticked source s i .answer .fallback) record { 0 = sanitise3 (guidance source s i .fallback .0) } record { 0 = sanitise3 (i .agile .0) }
+      cond (ticked source s i .answer .fallback) record { 0 = sanitise3 (guidance source s i .fallback .0) } (plannerOf (s .fixed .profile) (i .agile))
   tick-command = go (ticked source s i .answer .fallback) refl
     where
       go : (b : Bool) → ticked source s i .answer .fallback ≡ b
-          → ticked source s i .answer .command ≡ cond b record { 0 = sanitise3 (guidance source s i .fallback .0) } record { 0 = sanitise3 (i .agile .0) }
+          → ticked source s i .answer .command ≡ cond b record { 0 = sanitise3 (guidance source s i .fallback .0) } (plannerOf (s .fixed .profile) (i .agile))
       go true e = tick-fallback e
       go false e = tick-planner e ∙ planner-is
 
   -- "ADRC ticks on the filtered gyro, the pick and dt."
   pub tick-torque :
       ticked source s i .answer .torque ≡
-      rateTick (rateSetDeliveredFraction (s .moving .rate) (i .fraction)) (prepare (s .moving) i .rate) (ticked source s i .answer .command) (i .dt) .torque
+      follow (s .fixed .profile) (fractions (s .fixed .profile) (s .moving .rate) (i .fraction)) filtered (ticked source s i .answer .command) (i .dt) .torque
   unfolding ticked prepare finish pick
   tick-torque = refl

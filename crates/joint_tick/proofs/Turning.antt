@@ -1,4 +1,4 @@
--- Request Four: where nothing is commanded, the margin is document 01's, bit for bit. Assumes nothing.
+-- Request Four, by the old rules: where nothing is commanded, the margin is document 01's, bit for bit. Assumes nothing.
 use mathlib.Core.Path.{_≡_, refl, _∙_, ap}
 use mathlib.Core.Bool.{Bool, true, false, not, cond}
 use Prim.Native.Nat.{ℕ, zero, suc, _*_, _^_}
@@ -23,10 +23,13 @@ use Rattle.relay_geo.specs.declared.attitude.Attitude.the-variants.{Matrix}
 use Rattle.relay_geo.specs.declared.attitude.Feedforward.the-variants as rate
 use Rattle.relay_geo.specs.Vectors.{dot, transpose3, matmul3, Finite3}
 use Rattle.relay_geo.specs.Attitude.{quatToRotmat}
+use Rattle.joint_tick.specs.declared.profile.Profile.the-variants.{Whole}
 use Rattle.joint_tick.specs.declared.state.State.{State}
 use Rattle.joint_tick.specs.declared.state.TickInput.{TickInput}
 use Rattle.joint_tick.specs.declared.stages.Reference.{Reference}
-use Rattle.joint_tick.specs.Tick.{prepare, desired, ahead, commanded, rateSq, marginOf, guide, pick, finish, ticked}
+use Rattle.joint_tick.specs.declared.stages.Guided.{Guided}
+use Rattle.joint_tick.specs.Tick.{prepare, desired, ahead, commanded, rateSq, marginOf, guideWhole, guide, ticked}
+use Rattle.joint_tick.proofs.Shielding.{filtered, wantedAt, by-profile, tick-margin}
 
 -- ---- a zero of either sign, taken off an f32, leaves its square: only a -0.0 may become +0.0
 
@@ -95,24 +98,29 @@ output-fits : (f : Biquad) (x : Float) → T (fits binary32 (biquadFilter f x .y
 unfolding biquadFilter
 output-fits f x = search (cond-fits, sub-fits, ofBits-fits)
 
-module _ (source : Float → Reference) (s : State) (i : TickInput) where
+module _ (source : Float → Reference) (s : State) (i : TickInput) (p : s .fixed .profile ≡ Whole) where
   abbrev pub wanted : Reference
-  wanted = source (prepare (s .moving) i .time)
+  wanted = wantedAt source s i
 
   -- document 01's margin: of the squared length of the filtered rate
   abbrev pub before : Float
-  before = marginOf (s .fixed .set) (quatToRotmat (i .quat)) (desired wanted i) (rateSq (prepare (s .moving) i .rate))
+  before = marginOf (s .fixed .set) (quatToRotmat (i .quat)) (desired wanted i) (rateSq (filtered source s i))
+
+  margin-is : ticked source s i .answer .margin ≡ guideWhole (s .fixed .gains) (s .fixed .set) (filtered source s i) wanted i .margin
+  unfolding guide
+  margin-is = tick-margin source s i ∙ ap (λ (g : Guided). g .margin) (by-profile source s i p)
 
   -- "where the feedforward refuses, the old rule holds"
   pub refused-as-before : ahead wanted i ≡ rate.Refused → ticked source s i .answer .margin ≡ before
-  unfolding ticked finish pick guide
-  refused-as-before e = rw e
+  unfolding guideWhole
+  refused-as-before e = margin-is ∙ rw e
 
   -- and where it is three zeros, unless they meet what is not finite
   pub zeros-as-before : (rd : Mat3) (f : BodyRate) → desired wanted i ≡ Matrix rd → ahead wanted i ≡ rate.Rate f → Zeros3 (f .0) → Entries (matmul3 (transpose3 (quatToRotmat (i .quat))) rd)
       → ticked source s i .answer .margin ≡ before
-  unfolding ticked finish pick guide commanded rateSq dot prepare gyroFilter
+  unfolding guideWhole commanded rateSq dot prepare gyroFilter
   zeros-as-before rd f d a z n =
       let m = matmul3 (transpose3 (quatToRotmat (i .quat))) rd in
       let l = s .moving .lpf in
-      rw (d, a, less-zero _ (output-fits (l .roll) (i .gyro .0 .0)) (dot-fits (m .0) (f .0)) (dot-zero (m .0) (f .0) (n .0) z), less-zero _ (output-fits (l .pitch) (i .gyro .0 .1)) (dot-fits (m .1) (f .0)) (dot-zero (m .1) (f .0) (n .1) z), less-zero _ (output-fits (l .yaw) (i .gyro .0 .2)) (dot-fits (m .2) (f .0)) (dot-zero (m .2) (f .0) (n .2) z))
+      margin-is
+      ∙ rw (d, a, less-zero _ (output-fits (l .roll) (i .gyro .0 .0)) (dot-fits (m .0) (f .0)) (dot-zero (m .0) (f .0) (n .0) z), less-zero _ (output-fits (l .pitch) (i .gyro .0 .1)) (dot-fits (m .1) (f .0)) (dot-zero (m .1) (f .0) (n .1) z), less-zero _ (output-fits (l .yaw) (i .gyro .0 .2)) (dot-fits (m .2) (f .0)) (dot-zero (m .2) (f .0) (n .2) z))

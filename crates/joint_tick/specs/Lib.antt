@@ -1,3 +1,4 @@
+pub mod Profile
 pub mod SetUp
 pub mod Tick
 pub mod Inner

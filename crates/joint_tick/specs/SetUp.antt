@@ -16,7 +16,7 @@ unfoldable pub setUp : SetUp → State
 setUp i =
     let shield = newShield (i .set) (i .enter) (i .exit) in
     record {
-      fixed = record { gains = i .gains; set = shield .set; enter = shield .enter; exit = shield .exit; segment = segmentOf (i .leg) };
+      fixed = record { gains = i .gains; set = shield .set; enter = shield .enter; exit = shield .exit; segment = segmentOf (i .leg); profile = i .profile };
       moving =
           record {
             engaged = shield .engaged;

@@ -22,6 +22,7 @@ pub fn set_up(input: SetUp) -> State
     ensures { λ r. ⌜ r ≡ setUp input ⌝ }
 {
     let gains = input.gains;
+    let profile = input.profile;
     let shield = SimplexShield::new(input.set, input.enter, input.exit);
     let set = shield.set;
     State {
@@ -31,6 +32,7 @@ pub fn set_up(input: SetUp) -> State
             enter: shield.enter,
             exit: shield.exit,
             segment: segment_of(input.leg),
+            profile,
         },
         moving: Moving {
             engaged: shield.engaged,

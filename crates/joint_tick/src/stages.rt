@@ -1,14 +1,18 @@
 // The joint tick in stages, in document 01's order: prepare, take a reference, finish, which guides, picks and follows. (ADRC's tick is taken in its two
 // halves, the observers' before the guidance.) A route's tick has another reference in place of `reference_at` and nothing else; what is guided to
-// depends on R, R_d and the heading in `guide` alone.
+// depends on R, R_d and the heading in `guide` alone. With a rotor lost (request Six) `guide` is another, and the third axis of ADRC stands still.
+use crate::profile::Profile;
 use crate::state::Answer;
 use crate::state::Fixed;
 use crate::state::Moving;
 use crate::state::TickInput;
+use relay_adrc::AdrcAxis;
 use relay_adrc::AdrcRate;
+use relay_adrc::AxisTick;
 use relay_adrc::Observed;
 use relay_adrc::RateTick;
 use relay_geo::Attitude;
+use relay_geo::Direction;
 use relay_geo::Feedforward;
 use relay_geo::GeoAtt;
 use relay_geo::GeoGains;
@@ -20,14 +24,15 @@ use relay_geo::dot;
 use relay_geo::feedforward_on;
 use relay_geo::quat_to_rotmat;
 use relay_geo::sanitise3;
+use relay_geo::thrust_axis_ned;
 use relay_geo::thrust_of;
 use relay_math::BodyRate;
 use relay_math::Torque;
 use relay_math::Vec3;
 use relay_traj::Segment3;
 ghost use mathlib.Core.Path.{_≡_};
-ghost use Rattle.joint_tick.specs.Tick.{prepare, sampleTime, referenceAt, cleaned, plus, commanded, rateError, rateSq, psiOf, guide, finish};
-ghost use Rattle.joint_tick.specs.Inner.{observe, followOn, pickOn};
+ghost use Rattle.joint_tick.specs.Tick.{fractionThird, fractions, prepare, sampleTime, referenceAt, cleaned, plus, commanded, rateError, rateSq, psiOf, guideWhole, rateTowardAxis, psiToAxis, tiltRateSq, guideLostRotor, guide, finish};
+ghost use Rattle.joint_tick.specs.Inner.{observeThird, observe, actThird, followOn, pickOn};
 
 // What moves, with its fractions, filters and clock moved on, the filtered rate and the governor's time.
 #[repr(C)]
@@ -71,12 +76,31 @@ pub struct Ticked {
 
 // ---- prepare
 
+fn fraction_third(profile: Profile, axis: AdrcAxis, fraction: f32) -> AdrcAxis
+    ensures { λ r. ⌜ r ≡ fractionThird profile axis fraction ⌝ }
+{
+    match profile {
+        Profile::Whole => axis.set_delivered_fraction(fraction),
+        Profile::LostRotor => axis,
+    }
+}
+
+fn set_fractions(profile: Profile, rate: AdrcRate, fraction: Vec3) -> AdrcRate
+    ensures { λ r. ⌜ r ≡ fractions profile rate fraction ⌝ }
+{
+    AdrcRate {
+        roll: rate.roll.set_delivered_fraction(fraction.0),
+        pitch: rate.pitch.set_delivered_fraction(fraction.1),
+        yaw: fraction_third(profile, rate.yaw, fraction.2),
+    }
+}
+
 // The fractions belong to the torque of the tick before: they are set first, and this tick's torque waits for the next ones. dt goes to the governor as
 // it is given, and later to ADRC: each has its own rule for a bad one.
-pub fn prepare(moving: Moving, input: TickInput) -> Prepared
-    ensures { λ r. ⌜ r ≡ prepare moving input ⌝ }
+pub fn prepare(profile: Profile, moving: Moving, input: TickInput) -> Prepared
+    ensures { λ r. ⌜ r ≡ prepare profile moving input ⌝ }
 {
-    let rate = moving.rate.set_delivered_fraction(input.fraction);
+    let rate = set_fractions(profile, moving.rate, input.fraction);
     let filtered = moving.lpf.filter(input.gyro);
     let advanced = moving.governor.advance(input.track_err, input.dt);
     let governor = advanced.governor;
@@ -191,14 +215,14 @@ fn psi_of(r: Mat3, r_d: Attitude) -> f32
 
 // R, R_d and the feedforward are built once, and the length of g - a is taken once: the fallback, psi and the margin share them, bit for bit as the
 // Rust's own calls have them. With no R_d psi is a NaN, of which the margin is minus infinity.
-fn guide(
+fn guide_whole(
     gains: GeoGains,
     set: RecoverableSet,
     rate: BodyRate,
     wanted: Reference,
     input: TickInput,
 ) -> Guided
-    ensures { λ r. ⌜ r ≡ guide gains set rate wanted input ⌝ }
+    ensures { λ r. ⌜ r ≡ guideWhole gains set rate wanted input ⌝ }
 {
     let w = clean(wanted);
     let thrust = thrust_of(w.acc);
@@ -218,28 +242,123 @@ fn guide(
     }
 }
 
+// ---- guide with a rotor lost
+
+// The rate that turns the thrust axis, and none about it: yaw is let go.
+fn rate_toward_axis(gains: GeoGains, r: Mat3, axis: Direction) -> BodyRate
+    ensures { λ w. ⌜ w ≡ rateTowardAxis gains r axis ⌝ }
+{
+    match axis {
+        Direction::Axis(b3) => {
+            let e = GeoAtt::attitude_error_reduced(r, b3);
+            let k = gains.k_r;
+            BodyRate(Vec3(-k.0 * e.0, -k.1 * e.1, 0.0))
+        }
+        Direction::Refused => BodyRate(Vec3(0.0, 0.0, 0.0)),
+    }
+}
+
+// 0 where the thrust axis lies as it should, 2 where it is upside down.
+fn psi_to_axis(r: Mat3, axis: Direction) -> f32
+    ensures { λ x. ⌜ x ≡ psiToAxis r axis ⌝ }
+{
+    match axis {
+        Direction::Axis(b3) => 1.0 - dot(Vec3(r.0.2, r.1.2, r.2.2), b3),
+        Direction::Refused => 0.0 / 0.0,
+    }
+}
+
+fn tilt_rate_sq(w: BodyRate) -> f32
+    ensures { λ r. ⌜ r ≡ tiltRateSq w ⌝ }
+{
+    w.0.0 * w.0.0 + w.0.1 * w.0.1
+}
+
+// Of the input no heading is read, and no R_d is built. With no thrust axis psi is a NaN, of which the margin is minus infinity.
+fn guide_lost_rotor(
+    gains: GeoGains,
+    set: RecoverableSet,
+    rate: BodyRate,
+    wanted: Reference,
+    input: TickInput,
+) -> Guided
+    ensures { λ r. ⌜ r ≡ guideLostRotor gains set rate wanted input ⌝ }
+{
+    let axis = thrust_axis_ned(sanitise3(wanted.acc));
+    let r = quat_to_rotmat(input.quat);
+    let fallback = rate_toward_axis(gains, r, axis);
+    let psi = psi_to_axis(r, axis);
+    let margin = set.margin(psi, tilt_rate_sq(rate));
+    let planner = sanitise3(input.agile.0);
+    Guided {
+        fallback,
+        psi,
+        margin,
+        planner: BodyRate(Vec3(planner.0, planner.1, 0.0)),
+    }
+}
+
+fn guide(
+    profile: Profile,
+    gains: GeoGains,
+    set: RecoverableSet,
+    rate: BodyRate,
+    wanted: Reference,
+    input: TickInput,
+) -> Guided
+    ensures { λ r. ⌜ r ≡ guide profile gains set rate wanted input ⌝ }
+{
+    match profile {
+        Profile::Whole => guide_whole(gains, set, rate, wanted, input),
+        Profile::LostRotor => guide_lost_rotor(gains, set, rate, wanted, input),
+    }
+}
+
 // ---- finish
 
+// With a rotor lost the third observer is not asked: what it has stands.
+fn observe_third(profile: Profile, axis: AdrcAxis, measured: f32, dt: f32) -> Observed
+    ensures { λ r. ⌜ r ≡ observeThird profile axis measured dt ⌝ }
+{
+    match profile {
+        Profile::Whole => axis.observe(measured, dt),
+        Profile::LostRotor => Observed {
+            z1: axis.z1,
+            z2: axis.z2,
+            u_act: axis.u_act,
+        },
+    }
+}
+
 // What the three observers see. They need nothing of the guidance, so they go before it.
-fn observe(rate: AdrcRate, measured: BodyRate, dt: f32) -> Observed3
-    ensures { λ r. ⌜ r ≡ observe rate measured dt ⌝ }
+fn observe(profile: Profile, rate: AdrcRate, measured: BodyRate, dt: f32) -> Observed3
+    ensures { λ r. ⌜ r ≡ observe profile rate measured dt ⌝ }
 {
     let m = measured.0;
     Observed3 {
         roll: rate.roll.observe(m.0, dt),
         pitch: rate.pitch.observe(m.1, dt),
-        yaw: rate.yaw.observe(m.2, dt),
+        yaw: observe_third(profile, rate.yaw, m.2, dt),
+    }
+}
+
+fn act_third(profile: Profile, axis: AdrcAxis, observed: Observed, wanted: f32) -> AxisTick
+    ensures { λ r. ⌜ r ≡ actThird profile axis observed wanted ⌝ }
+{
+    match profile {
+        Profile::Whole => axis.act(observed, wanted),
+        Profile::LostRotor => AxisTick { axis, u: 0.0 },
     }
 }
 
 // Axis by axis: a body rate was observed, a body rate is wanted, and a torque comes out.
-fn follow(rate: AdrcRate, observed: Observed3, wanted: BodyRate) -> RateTick
-    ensures { λ r. ⌜ r ≡ followOn rate observed wanted ⌝ }
+fn follow(profile: Profile, rate: AdrcRate, observed: Observed3, wanted: BodyRate) -> RateTick
+    ensures { λ r. ⌜ r ≡ followOn profile rate observed wanted ⌝ }
 {
     let w = wanted.0;
     let roll = rate.roll.act(observed.roll, w.0);
     let pitch = rate.pitch.act(observed.pitch, w.1);
-    let yaw = rate.yaw.act(observed.yaw, w.2);
+    let yaw = act_third(profile, rate.yaw, observed.yaw, w.2);
     let ax = roll.axis;
     let ay = pitch.axis;
     let az = yaw.axis;
@@ -266,7 +385,8 @@ fn pick(fixed: Fixed, prepared: Prepared, observed: Observed3, guided: Guided) -
     };
     let picked = shield.step(guided.margin, guided.planner, guided.fallback);
     let command = picked.command;
-    let followed = follow(prepared.moving.rate, observed, command);
+    let profile = fixed.profile;
+    let followed = follow(profile, prepared.moving.rate, observed, command);
     let rate = followed.rate;
     let torque = followed.torque;
     Ticked {
@@ -287,7 +407,15 @@ fn pick(fixed: Fixed, prepared: Prepared, observed: Observed3, guided: Guided) -
 pub fn finish(fixed: Fixed, prepared: Prepared, wanted: Reference, input: TickInput) -> Ticked
     ensures { λ r. ⌜ r ≡ finish fixed prepared wanted input ⌝ }
 {
-    let observed = observe(prepared.moving.rate, prepared.rate, input.dt);
-    let guided = guide(fixed.gains, fixed.set, prepared.rate, wanted, input);
+    let profile = fixed.profile;
+    let observed = observe(profile, prepared.moving.rate, prepared.rate, input.dt);
+    let guided = guide(
+        profile,
+        fixed.gains,
+        fixed.set,
+        prepared.rate,
+        wanted,
+        input,
+    );
     pick(fixed, prepared, observed, guided)
 }

@@ -1,4 +1,5 @@
 // What the image, the two inputs and the answer hold, in the order of document 01's words.
+use crate::profile::Profile;
 use relay_adrc::AdrcGains;
 use relay_adrc::AdrcRate;
 use relay_adrc::GyroLpf;
@@ -19,6 +20,7 @@ pub struct Fixed {
     pub enter: f32,
     pub exit: f32,
     pub segment: Segment3,
+    pub profile: Profile,
 }
 
 // What every tick moves on.
@@ -65,6 +67,7 @@ pub struct SetUp {
     pub yaw: AdrcGains,
     pub fc: f32,
     pub fs: f32,
+    pub profile: Profile,
 }
 
 // What a tick is given. `agile` is the planner's command, `fraction` how much of the last torque was delivered, axis by axis.

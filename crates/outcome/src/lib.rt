@@ -1,4 +1,4 @@
-// How a call ends. Document 01 numbers the first five, requests One and Two of document 02 the next five. The numbers above 12 are our own: no document
+// How a call ends. Document 01 numbers the first five, requests One, Two and Six of document 02 the next six. The numbers above 12 are our own: no document
 // gives one to "there is no such record", nor to a wrong buffer for one.
 ghost use mathlib.Core.Path.{_≡_};
 ghost use Rattle.outcome.specs.Outcomes.{number, isDone};
@@ -14,6 +14,7 @@ pub enum Outcome {
     LegsApart,
     BrokenLog,
     NoRoom,
+    BadProfile,
     NoRecord,
     RecordLength,
 }
@@ -32,6 +33,7 @@ pub fn number(outcome: Outcome) -> u32
         Outcome::LegsApart => 7,
         Outcome::BrokenLog => 8,
         Outcome::NoRoom => 9,
+        Outcome::BadProfile => 10,
         Outcome::NoRecord => 13,
         Outcome::RecordLength => 14,
     }

@@ -31,7 +31,8 @@ pub fn route_tick(image: &mut [u8], input: &[u8], route: &[u8], answer: &mut [u8
     }
     let given = input_at(input);
     let fixed = fixed_at(image);
-    let prepared = calls::begin(image, given);
+    let profile = fixed.profile;
+    let prepared = calls::begin(image, profile, given);
     let wanted = reference_on(route, leg_count(route), prepared.time);
     let done = joint_tick::finish(fixed, prepared, wanted, given);
     calls::leave(image, answer, fixed, prepared, done);

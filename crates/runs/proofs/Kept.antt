@@ -5,40 +5,46 @@ use mathlib.Core.List.{List, [], _∷_, _++_, map}
 use Prim.Native.Nat.{ℕ, zero, suc, _+_, _<_}
 use native.Mathlib.Nat.{add-zero}
 use native.Mathlib.Omega.{arith}
-use lib.Dec.{T, eqb}
+use lib.Dec.{T, eqb, lit<}
 use lib.ListN.{length, getD, take, drop}
 use lib.Seq.{getD-take, getD-drop}
 use lib.Ieee.{Float, binary32, le, isNan, ofBits, toBits}
 use lib.Ieee.Bits.{ofBits-fits}
 use Rattle.laws.proofs.Tests.{no}
-use Rattle.words.specs.Words.{word, float, vec, canon, canons}
+use Rattle.words.specs.Words.{word, float, vec, canon, wordsOf, canons}
 use Rattle.words.proofs.Back.{word-back, bits-lt}
 use Rattle.relay_math.proofs.Order.{le-trans, le-refl-of}
 use Rattle.relay_traj.specs.Governor.{advance}
 use Rattle.relay_traj.proofs.Clock.{never-nan}
+use Rattle.relay_adrc.specs.declared.gains.AdrcGains.{AdrcGains}
+use Rattle.relay_adrc.specs.declared.axis.AdrcAxis.{AdrcAxis}
 use Rattle.relay_adrc.specs.Axis.{axisTick}
-use Rattle.relay_adrc.specs.Rate.{rateTick}
 use Rattle.relay_adrc.specs.Biquad.{biquadFilter, gyroFilter}
+use Rattle.joint_tick.specs.declared.profile.Profile.{Profile}
+use Rattle.joint_tick.specs.declared.profile.Profile.the-variants.{Whole, LostRotor}
 use Rattle.joint_tick.specs.declared.state.State.{State}
 use Rattle.joint_tick.specs.declared.state.TickInput.{TickInput}
 use Rattle.joint_tick.specs.declared.stages.Reference.{Reference}
+use Rattle.joint_tick.specs.Profile.{profileWord, isProfile}
 use Rattle.joint_tick.specs.SetUp.{setUp}
-use Rattle.joint_tick.specs.Tick.{prepare, pick, finish, ticked, stateAfter}
-use Rattle.image.specs.Layout.{GOVERNOR}
-use Rattle.image.specs.Parts.{gainsAt, setAt, governorAt, quinticAt, segmentAt, adrcGainsAt, axisAt, rateAt, biquadAt, lpfAt}
+use Rattle.joint_tick.specs.Tick.{prepare, follow, pick, finish, ticked, stateAfter}
+use Rattle.joint_tick.proofs.Kept.{tick-keeps as gains-kept}
+use Rattle.joint_tick.proofs.LostRotor.{third-stands}
+use Rattle.image.specs.Layout.{GOVERNOR, RATE, AXIS-WORDS, PROFILE, SETUP-PROFILE}
+use Rattle.image.specs.Parts.{gainsAt, setAt, governorAt, quinticAt, segmentAt, adrcGainsAt, axisAt, rateAt, biquadAt, lpfAt, profileAt, floatsOfAdrcGains, floatsOfAxis}
 use Rattle.image.specs.Image.{fixedAt, movingAt, stateAt, wordsOfState, imageOf}
 use Rattle.image.specs.Inputs.{setupAt, inputAt}
-use Rattle.image.proofs.Decoded.{decode-encode}
+use Rattle.image.proofs.Decoded.{profile-written, decode-encode}
 use Rattle.outcome.specs.Outcomes.{number, isDone, Called}
 use Rattle.outcome.proofs.Tables.{done-none, either}
 use Rattle.calls.specs.Entry.{tickTable, tickRefusal, tickFrom}
 use Rattle.calls.specs.Ticks.{Accepted}
-use Rattle.calls.proofs.Going.{set-up-fits, count-of-image}
+use Rattle.calls.proofs.Going.{set-up-fits, count-of-image, profile-of-word, profile-of-image}
 use Rattle.calls.proofs.Steps.{image-runs, tick-clock}
 use Rattle.route.specs.Form.{formTable}
 use Rattle.route.specs.Entry.{routeRefusal}
 use Rattle.runs.specs.Runs.{Course, Segment, Route, Tick, Call, Ticks, tickOf, leftBy, sourceOn, start, imageAfter}
-use Rattle.runs.specs.Kept.{Kept, SameWords, Front, BandAndSegment, RollGains, PitchGains, YawGains, RollFilter, PitchFilter, YawFilter}
+use Rattle.runs.specs.Kept.{Kept, SameWords, Front, BandAndSegment, RollGains, PitchGains, YawGains, RollFilter, PitchFilter, YawFilter, ProfileWord}
 use Rattle.runs.proofs.Shown.{refusalOn, flying-is}
 use Rattle.runs.proofs.Going.{call-steps, start-accepted}
 
@@ -79,17 +85,23 @@ same-words b s k n held i h =
 -- over values: what a tick writes there is what the state held ..
 state-keeps : (source : Float → Reference) (s : State) (i : TickInput) {k n : ℕ} → Kept k n
     → take n (drop k (wordsOfState (stateAfter source s i))) ≡ take n (drop k (wordsOfState s))
-unfolding prepare advance ticked finish pick rateTick axisTick gyroFilter biquadFilter
+unfolding prepare advance ticked finish pick follow axisTick gyroFilter biquadFilter
 state-keeps source s i Front = refl
 state-keeps source s i BandAndSegment = refl
 state-keeps source s i RollGains = refl
 state-keeps source s i PitchGains = refl
-state-keeps source s i YawGains = refl
+state-keeps source s i YawGains = ap (λ (g : AdrcGains). wordsOf (floatsOfAdrcGains g)) (gains-kept source s i .yaw)
 state-keeps source s i RollFilter = refl
 state-keeps source s i PitchFilter = refl
 state-keeps source s i YawFilter = refl
+state-keeps source s i ProfileWord = refl
 
 -- .. and that is what was read
+canon-profile : (p : Profile) → profileWord p ≡ canon (profileWord p)
+unfolding ofBits toBits
+canon-profile Whole = refl
+canon-profile LostRotor = refl
+
 read-again : (image : List ℕ) → Accepted image → {k n : ℕ} → Kept k n → take n (drop k (wordsOfState (stateAt image))) ≡ canons image k n
 unfolding fixedAt movingAt gainsAt vec setAt governorAt segmentAt quinticAt rateAt axisAt adrcGainsAt lpfAt biquadAt float ofBits toBits
 read-again image a Front = rw (count-of-image image a)
@@ -100,12 +112,25 @@ read-again image a YawGains = refl
 read-again image a RollFilter = refl
 read-again image a PitchFilter = refl
 read-again image a YawFilter = refl
+read-again image a ProfileWord = ap (λ (w : ℕ). w ∷ []) (canon-profile (fixedAt image .profile) ∙ ap canon (sym (profile-of-image image a)))
 
 -- from any source of references
 tick-keeps : (source : Float → Reference) (image input : List ℕ) → Accepted image → {k n : ℕ} → Kept k n
     → SameWords image (imageOf (stateAfter source (stateAt image) (inputAt input))) k n
 tick-keeps source image input a {k} {n} w =
     same-words image (stateAfter source (stateAt image) (inputAt input)) k n (state-keeps source (stateAt image) (inputAt input) w ∙ read-again image a w)
+
+-- an image whose profile's word is 1
+pub lost : (image : List ℕ) → word image PROFILE ≡ 1 → fixedAt image .profile ≡ LostRotor
+unfolding fixedAt profileAt
+lost image e = rw e
+
+third-keeps : (source : Float → Reference) (image input : List ℕ) → word image PROFILE ≡ 1
+    → SameWords image (imageOf (stateAfter source (stateAt image) (inputAt input))) (RATE + AXIS-WORDS + AXIS-WORDS) AXIS-WORDS
+unfolding movingAt rateAt axisAt adrcGainsAt float
+third-keeps source image input p =
+    same-words image (stateAfter source (stateAt image) (inputAt input)) (RATE + AXIS-WORDS + AXIS-WORDS) AXIS-WORDS
+    (ap (λ (a : AdrcAxis). wordsOf (floatsOfAxis a)) (third-stands source (stateAt image) (inputAt input) (lost image p) .0))
 
 -- a tick that is not refused was handed an image that ticks take
 taken-on : (c : Course) (image : List ℕ) (inputLen answerLen : ℕ) → isDone (refusalOn c image inputLen answerLen) ≡ true → Accepted image
@@ -117,16 +142,27 @@ taken-on (Route route) image inputLen answerLen e =
     let t = done-none (tickTable image inputLen answerLen ++ formTable route) refl e in
     rw (t 0, t 3)
 
--- "words 0 to 14 and 17 to 40 are kept", and ADRC's gains and the filters' coefficients: after an accepted tick of either kind each is the word before,
--- a NaN made 7fc00000
-pub words-kept : (image : List ℕ) (t : Tick) → number (tickOf image t .outcome) ≡ 0 → {k n : ℕ} → Kept k n → SameWords image (tickOf image t .later .image) k n
-unfolding tickFrom
-words-kept image t done {k} {n} w =
-    let o = refusalOn (t .course) image (length (t .input)) (length (t .answer)) in
-    subst (λ (c : Called). number (c .outcome) ≡ 0 → SameWords image (c .later .image) k n) (sym (flying-is (t .course) image (t .input) (t .answer)))
-    (either (λ (c : Called). number (c .outcome) ≡ 0 → SameWords image (c .later .image) k n) o
-    (λ e z. tick-keeps (sourceOn (t .course) image) image (t .input) (taken-on (t .course) image _ _ e) w)
-    (λ e z. no (sym e ∙ ap (λ (x : ℕ). eqb x 0) z))) done
+-- what an accepted tick of either kind leaves, so far as k's n words go
+module _ (image : List ℕ) (t : Tick) (done : number (tickOf image t .outcome) ≡ 0) where
+  abbrev left-by : List ℕ
+  left-by = imageOf (stateAfter (sourceOn (t .course) image) (stateAt image) (inputAt (t .input)))
+
+  accepted-keeps : (k n : ℕ) → (Accepted image → SameWords image left-by k n) → SameWords image (tickOf image t .later .image) k n
+  unfolding tickFrom
+  accepted-keeps k n kept =
+      let o = refusalOn (t .course) image (length (t .input)) (length (t .answer)) in
+      subst (λ (c : Called). number (c .outcome) ≡ 0 → SameWords image (c .later .image) k n) (sym (flying-is (t .course) image (t .input) (t .answer)))
+      (either (λ (c : Called). number (c .outcome) ≡ 0 → SameWords image (c .later .image) k n) o
+      (λ e z. kept (taken-on (t .course) image _ _ e))
+      (λ e z. no (sym e ∙ ap (λ (x : ℕ). eqb x 0) z))) done
+
+  -- "words 0 to 14 and 17 to 40 are kept", and ADRC's gains, the filters' coefficients and the profile: each is the word before, a NaN made 7fc00000
+  pub words-kept : {k n : ℕ} → Kept k n → SameWords image (tickOf image t .later .image) k n
+  words-kept {k} {n} w = accepted-keeps k n (λ a. tick-keeps (sourceOn (t .course) image) image (t .input) a w)
+
+  -- with a rotor lost all nine words of ADRC's third axis, 59 to 67, are kept too
+  pub third-axis-kept : word image PROFILE ≡ 1 → SameWords image (tickOf image t .later .image) (RATE + AXIS-WORDS + AXIS-WORDS) AXIS-WORDS
+  third-axis-kept p = accepted-keeps (RATE + AXIS-WORDS + AXIS-WORDS) AXIS-WORDS (λ a. third-keeps (sourceOn (t .course) image) image (t .input) p)
 
 -- ---- over runs: what set-up wrote has no other NaN, so that these words do not change by a bit
 
@@ -154,3 +190,10 @@ words-kept-over-any-run setup calls {k} {n} w i h =
     let same = ap imageOf (decode-encode s (set-up-fits setup)) in
     let canonical = same-words (imageOf s) (stateAt (imageOf s)) k n (read-again (imageOf s) (start-accepted setup) w) i h in
     run-keeps (imageOf s) calls (start-accepted setup) w i h (sym canonical ∙ ap (λ (b : List ℕ). word b (k + i)) same)
+
+-- "The profile never changes over any run": it is the 51st word that set-up was given.
+pub profile-over-any-run : (setup : List ℕ) (calls : List Call) → isProfile (word setup SETUP-PROFILE) ≡ true
+    → word (imageAfter (start setup) calls) PROFILE ≡ word setup SETUP-PROFILE
+unfolding start setUp setupAt profileAt
+profile-over-any-run setup calls p =
+    words-kept-over-any-run setup calls ProfileWord 0 (lit< tt) ∙ profile-written (setUp (setupAt setup)) ∙ sym (profile-of-word (word setup SETUP-PROFILE) p)

@@ -4,3 +4,4 @@ pub mod DemandThree
 pub mod Middle
 pub mod Kept
 pub mod Shams
+pub mod LostRotor

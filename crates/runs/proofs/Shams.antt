@@ -9,20 +9,23 @@ use lib.Ieee.{nan, ofBits}
 use lib.ListN.{length, replicate}
 use Rattle.words.specs.Words.{word, float, flag}
 use Rattle.latch.specs.Latch.{Flies}
+use Rattle.joint_tick.specs.declared.profile.Profile.the-variants.{Whole}
 use Rattle.joint_tick.proofs.NoAttitude.{nan-heading-tick}
 use Rattle.outcome.specs.Outcomes.{Filled, Called}
-use Rattle.image.specs.Layout.{FLAG, INPUT-BYTES}
-use Rattle.image.specs.Image.{stateAt}
+use Rattle.image.specs.Layout.{SETUP-PROFILE, FLAG, INPUT-BYTES}
+use Rattle.image.specs.Parts.{profileAt}
+use Rattle.image.specs.Image.{fixedAt, stateAt}
 use Rattle.image.specs.Inputs.{inputAt}
 use Rattle.calls.specs.Entry.{onSegment}
 use Rattle.calls.specs.Shams.{Program, Keeps, AnswersOnly, EchoesAfter, blankAnswer, blankImage, ran, answered, levelSetUp, levelInput, lostInput}
-use Rattle.calls.proofs.Shams.{planner-flies}
+use Rattle.calls.proofs.Shams.{level-profile, planner-flies}
 use Rattle.runs.specs.Runs.{Call, Ticks, flying, leftBy, guided, start, imageAfter, marginsAlong}
 use Rattle.runs.specs.DemandThree.{enterOf, exitOf, flagOf}
 use Rattle.runs.specs.Shams.{plain, KeepsDemandThree}
 use Rattle.runs.proofs.Shown.{tick-done, flag-shown}
 use Rattle.runs.proofs.Going.{set-up-starts, start-accepted, ran as taken}
 use Rattle.runs.proofs.DemandThree.{demand-three}
+use Rattle.runs.proofs.Kept.{profile-over-any-run}
 
 -- ---- the promised flags: the planner flies at the first tick, and after any calls the fallback does at a heading that is no number
 
@@ -34,11 +37,20 @@ no-heading : inputAt lostInput .yaw ≡ nan
 unfolding inputAt float word ofBits
 no-heading = refl
 
+-- by the old rules, which no call changes
+level-word : word levelSetUp SETUP-PROFILE ≡ 0
+unfolding word
+level-word = refl
+
+old-rules : (calls : List Call) → fixedAt (imageAfter (start levelSetUp) calls) .profile ≡ Whole
+unfolding fixedAt profileAt
+old-rules calls = rw (profile-over-any-run levelSetUp calls level-profile ∙ level-word)
+
 fallback-then : (calls : List Call) → flagOf (imageAfter (start levelSetUp) calls) (plain lostInput) ≡ 1
 fallback-then calls =
     let image = imageAfter (start levelSetUp) calls in
     flag-shown image (plain lostInput) (taken levelSetUp calls .accepted) (refl, refl, tt)
-    ∙ ap flag (nan-heading-tick (onSegment image) (stateAt image) (inputAt lostInput) no-heading .flag)
+    ∙ ap flag (nan-heading-tick (onSegment image) (stateAt image) (inputAt lostInput) (old-rules calls) no-heading .flag)
 
 -- ---- what the promises say is more
 
@@ -98,7 +110,7 @@ module _ (p : Program) (k : KeepsDemandThree p) where
 
   pub not-echoing : (n : ℕ) → ¬ (EchoesAfter p n)
   not-echoing n r =
-      let from : p .setUp blankImage levelSetUp .later ≡ start levelSetUp = ap (λ (l : Filled). l .later) (k .setUp blankImage levelSetUp ∙ set-up-starts blankImage levelSetUp refl refl) in
-      let again = subst (λ (b : List ℕ). answered p (ran p b (replicate (suc n) levelInput)) lostInput ≡ answered p b levelInput) from (r .again levelSetUp levelInput lostInput refl refl refl) in
+      let from : p .setUp blankImage levelSetUp .later ≡ start levelSetUp = ap (λ (l : Filled). l .later) (k .setUp blankImage levelSetUp ∙ set-up-starts blankImage levelSetUp refl refl level-profile) in
+      let again = subst (λ (b : List ℕ). answered p (ran p b (replicate (suc n) levelInput)) lostInput ≡ answered p b levelInput) from (r .again levelSetUp levelInput lostInput refl level-profile refl refl) in
       then-no-zero (replicate (suc n) (Ticks (plain levelInput)))
       (ap (λ (b : List ℕ). word (answered p b lostInput) FLAG) (sym (along (suc n) (start levelSetUp))) ∙ ap (λ (b : List ℕ). word b FLAG) again ∙ first-zero)

@@ -1,27 +1,29 @@
 -- One tick of either kind on bytes: that it is accepted, and what its answer shows. Assumes nothing.
 use mathlib.Core.Path.{_≡_, refl, sym, ap, _∙_}
 use mathlib.Core.Logic.{_⊎_, inl, inr, _↔_}
-use mathlib.Core.Bool.{Bool, true, false, not}
-use mathlib.Core.List.{List}
+use mathlib.Core.Bool.{Bool, true, false, not, cond}
+use mathlib.Core.List.{List, [], _∷_}
 use Prim.Native.Nat.{ℕ, _<_}
 use native.Mathlib.Omega.{arith}
-use lib.Dec.{T}
+use lib.Dec.{T, eqb}
 use lib.Ieee.{Float, nan, inf, fin, isNan, ofBits, toBits}
 use lib.ListN.{length}
 use Rattle.words.specs.Words.{word, vec, float, floatOf, bits, flag, floatsOfVec, wordsOf}
 use Rattle.words.proofs.Back.{canon-itself}
-use Rattle.relay_math.specs.F32.{isFinite}
+use Rattle.relay_math.specs.F32.{0·0, isFinite, finiteOr}
 use Rattle.laws.proofs.Tests.{no}
 use Rattle.relay_math.specs.declared.Vec3.{Vec3}
 use Rattle.relay_geo.specs.Vectors.{sanitise3}
+use Rattle.joint_tick.specs.declared.profile.Profile.the-variants.{Whole, LostRotor}
 use Rattle.joint_tick.specs.declared.state.TickInput.{TickInput}
 use Rattle.joint_tick.specs.declared.state.State.{State}
 use Rattle.joint_tick.specs.declared.stages.Reference.{Reference}
 use Rattle.joint_tick.specs.declared.stages.Ticked.{Ticked}
-use Rattle.joint_tick.specs.Tick.{guidance, ticked, stateAfter}
+use Rattle.joint_tick.specs.Tick.{plannerOf, guidance, ticked, stateAfter}
 use Rattle.joint_tick.proofs.Shielding.{tick-margin, tick-planner, tick-fallback, planner-is}
-use Rattle.image.specs.Layout.{FLAG, MARGIN, INPUT-BYTES, ANSWER-BYTES}
-use Rattle.image.specs.Image.{stateAt, imageOf}
+use Rattle.image.specs.Layout.{PROFILE, FLAG, MARGIN, INPUT-BYTES, ANSWER-BYTES}
+use Rattle.image.specs.Parts.{profileAt}
+use Rattle.image.specs.Image.{fixedAt, stateAt, imageOf}
 use Rattle.image.specs.Inputs.{inputAt, answerOf}
 use Rattle.image.specs.Fits.{F32}
 use Rattle.image.proofs.Answered.{flag-answered, margin-answered, margin-word, command-words}
@@ -50,6 +52,12 @@ finite-word-itself w h e = rw e (canon-itself w h (finite-number (floatOf w) e))
 pub other-word-zero : (w : ℕ) → isFinite (floatOf w) ≡ false → cleanWord w ≡ 0
 unfolding ofBits toBits
 other-word-zero w e = rw e
+
+-- the planner's words by the profile's word (b: it is 1)
+planner-by : (b : Bool) (v : Vec3) → wordsOf (floatsOfVec (plannerOf (cond b LostRotor Whole) record { 0 = v } .0)) ≡ bits (finiteOr (v .0) 0·0) ∷ bits (finiteOr (v .1) 0·0) ∷ cond b 0 (bits (finiteOr (v .2) 0·0)) ∷ []
+unfolding ofBits toBits
+planner-by true v = refl
+planner-by false v = refl
 
 -- ---- a flag's word
 
@@ -105,9 +113,11 @@ module _ (image : List ℕ) (t : Tick) where
   words-of : (v : Vec3) → done .answer .command ≡ record { 0 = v } → commandWords answers ≡ wordsOf (floatsOfVec v)
   words-of v e = let w = command-words (done .answer) (command-fits source s (t .input)) in rw (w .0, w .1, w .2, e)
 
-  planner-words : done .answer .fallback ≡ false → commandWords answers ≡ plannerWords (t .input)
-  unfolding inputAt vec float
-  planner-words e = words-of (sanitise3 (i .agile .0)) (tick-planner source s i e ∙ planner-is source s i)
+  planner-words : done .answer .fallback ≡ false → commandWords answers ≡ plannerWords (word image PROFILE) (t .input)
+  unfolding inputAt vec float fixedAt profileAt
+  planner-words e =
+      words-of (plannerOf (fixedAt image .profile) (i .agile) .0) (tick-planner source s i e ∙ planner-is source s i)
+      ∙ planner-by (eqb (word image PROFILE) 1) (i .agile .0)
 
   fallback-words : done .answer .fallback ≡ true → commandWords answers ≡ fallbackWords (guided image t)
   unfolding guided

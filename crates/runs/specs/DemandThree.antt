@@ -1,15 +1,16 @@
 -- The user's third demand, on bytes: what is said of one tick. Definitions only.
 use mathlib.Core.Path.{_≡_}
 use mathlib.Core.Logic.{_⊎_, _↔_}
-use mathlib.Core.Bool.{true, false}
+use mathlib.Core.Bool.{true, false, cond}
 use mathlib.Core.List.{List, [], _∷_}
 use Prim.Native.Nat.{ℕ, _+_}
+use lib.Dec.{eqb}
 use lib.Ieee.{Float, lt}
 use Rattle.words.specs.Words.{word, float, floatOf, bits, floatsOfVec, wordsOf}
 use Rattle.relay_math.specs.F32.{0·0, isFinite, finiteOr}
 use Rattle.relay_geo.specs.Vectors.{sanitise3}
 use Rattle.joint_tick.specs.declared.stages.Guided.{Guided}
-use Rattle.image.specs.Layout.{ENTER, EXIT, AGILE, COMMAND, FLAG, MARGIN}
+use Rattle.image.specs.Layout.{ENTER, EXIT, PROFILE, AGILE, COMMAND, FLAG, MARGIN}
 use Rattle.outcome.specs.Outcomes.{number}
 use Rattle.runs.specs.Runs.{Tick, tickOf, guided, start}
 
@@ -24,10 +25,12 @@ exitOf setup = float (start setup) EXIT
 abbrev pub cleanWord : ℕ → ℕ
 cleanWord w = bits (finiteOr (floatOf w) 0·0)
 
--- the planner's three words of a tick input so treated, the fallback's, and those that the answer passes on
-abbrev pub plannerWords : List ℕ → List ℕ
-plannerWords input = cleanWord (word input AGILE) ∷ cleanWord (word input (AGILE + 1)) ∷ cleanWord (word input (AGILE + 2)) ∷ []
+-- the planner's three words of a tick input so treated, by the profile's word: with a rotor lost "a planner's third component is made zero, and demand 3
+-- reads it so"
+abbrev pub plannerWords : ℕ → List ℕ → List ℕ
+plannerWords profile input = cleanWord (word input AGILE) ∷ cleanWord (word input (AGILE + 1)) ∷ cond (eqb profile 1) 0 (cleanWord (word input (AGILE + 2))) ∷ []
 
+-- the fallback's, and those that the answer passes on
 abbrev pub fallbackWords : Guided → List ℕ
 fallbackWords g = wordsOf (floatsOfVec (sanitise3 (g .fallback .0)))
 
@@ -44,7 +47,7 @@ pub record Shows (Flying : Type 0) (image : List ℕ) (t : Tick) : Type 0 where
   pub accepted : number (tickOf image t .outcome) ≡ 0
   pub flag : (flagOf image t ≡ 0) ⊎ (flagOf image t ≡ 1)
   pub flies : (flagOf image t ≡ 0) ↔ Flying
-  pub planner : flagOf image t ≡ 0 → commandWords (tickOf image t .later .answer) ≡ plannerWords (t .input)
+  pub planner : flagOf image t ≡ 0 → commandWords (tickOf image t .later .answer) ≡ plannerWords (word image PROFILE) (t .input)
   pub fallback : flagOf image t ≡ 1 → commandWords (tickOf image t .later .answer) ≡ fallbackWords (guided image t)
   pub margin : word (tickOf image t .later .answer) MARGIN ≡ bits (guided image t .margin)
   pub margin-read : float (tickOf image t .later .answer) MARGIN ≡ guided image t .margin

@@ -3,7 +3,7 @@ use mathlib.Core.Path.{_≡_}
 use mathlib.Core.List.{List}
 use Prim.Native.Nat.{ℕ, _+_, _<_}
 use Rattle.words.specs.Words.{word, canon}
-use Rattle.image.specs.Layout.{COUNT, GOVERNOR, RATE, LPF, AXIS-WORDS, BIQUAD-WORDS, ADRC-WORDS}
+use Rattle.image.specs.Layout.{COUNT, GOVERNOR, RATE, LPF, PROFILE, AXIS-WORDS, BIQUAD-WORDS, ADRC-WORDS}
 
 -- Where they stand: a number of words from a first one on.
 pub data Kept : ℕ → ℕ → Type 0 where
@@ -19,6 +19,8 @@ pub data Kept : ℕ → ℕ → Type 0 where
   RollFilter : Kept LPF 5
   PitchFilter : Kept (LPF + BIQUAD-WORDS) 5
   YawFilter : Kept (LPF + BIQUAD-WORDS + BIQUAD-WORDS) 5
+  -- 95: the profile
+  ProfileWord : Kept PROFILE 1
 
 -- n words from number k on are those before, a NaN made 7fc00000
 abbrev pub SameWords : List ℕ → List ℕ → ℕ → ℕ → Type 0

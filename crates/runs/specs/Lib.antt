@@ -2,3 +2,4 @@ pub mod Runs
 pub mod DemandThree
 pub mod Kept
 pub mod Shams
+pub mod LostRotor

@@ -1,8 +1,9 @@
-//! Sets up an image, ticks it along a slow pass, keeps a log of it and prints who flies; then the log read back, and two calls that are refused.
+//! Sets up an image, ticks it along a slow pass, keeps a log of it and prints who flies; then the log read back, two calls that are refused, and a tick
+//! with a rotor lost.
 //!
 //!   make core && cargo run --offline --manifest-path examples/rust/Cargo.toml
 
-use fosavalo::{calls, GyroFilter, Image, Log, LogView, Refusal, Segment, SetUp, TickInput};
+use fosavalo::{calls, GyroFilter, Image, Log, LogView, Profile, Refusal, Segment, SetUp, TickInput};
 
 /// Roll rates that take the margin above exit, into the band, below enter, into the band again and out at the top.
 const RATES: [f32; 8] = [1.8, 1.0, 1.75, 1.8, 1.9, 1.8, 1.75, 1.0];
@@ -42,5 +43,11 @@ fn main() -> Result<(), Refusal> {
     let mut bytes = image.clone().into_bytes();
     let number = calls::tick(&mut bytes, &TickInput::default().to_bytes(), &mut [0; 39]);
     println!("answer of 39 bytes: {}, image {}", number, if &bytes == image.as_bytes() { "unchanged" } else { "CHANGED" });
+
+    // with a rotor lost, spinning and with no heading: the planner flies, and nothing is asked about the third axis
+    let mut image = Image::set_up(&SetUp { profile: Profile::LostRotor, ..set_up })?;
+    let spinning = TickInput { gyro: [0.0, 0.0, 20.0].into(), yaw: f32::NAN, planner: [0.5, -0.25, 2.0].into(), ..TickInput::default() };
+    let answer = image.tick(&spinning)?;
+    println!("a rotor lost: {} flies {:?}, torque {:?}", answer.pilot, answer.command.0, answer.torque.0);
     Ok(())
 }

@@ -5,7 +5,7 @@ use super::stack;
 use compare::generate::Rng;
 use compare::joint::bytes::{put, ANSWER, IMAGE, SETUP, TICK};
 use compare::joint::guide::{Guide, MIXED};
-use compare::joint::model::Flight;
+use compare::joint::model::{Flight, Profile};
 use compare::joint::pilot::Pilot;
 use compare::joint::route::Source;
 use compare::log::{model, RECORD, TRAILER};
@@ -27,9 +27,14 @@ pub struct Run {
     inputs: Vec<Input>,
 }
 
-/// A slow pass.
+/// A slow pass with all rotors.
 pub fn pass() -> Run {
-    run(|_, _| {})
+    run(Profile::Whole, |_, _| {})
+}
+
+/// The same with a rotor lost.
+pub fn lost_rotor() -> Run {
+    run(Profile::LostRotor, |_, _| {})
 }
 
 /// The same with any heading up to the limit and any attitude at each tick.
@@ -38,11 +43,11 @@ pub fn headings() -> Run {
         put(input, 8, rng.range(-LIMIT, LIMIT).to_bits());
         rng.direction::<4>().iter().enumerate().for_each(|(k, x)| put(input, 3 + k, x.to_bits()));
     };
-    run(heading)
+    run(Profile::Whole, heading)
 }
 
-fn run(alter: impl Fn(&mut Rng, &mut Input)) -> Run {
-    let (mut pilot, mut rng) = (Pilot::on_a_pass(1), Rng::new("bench", 1));
+fn run(profile: Profile, alter: impl Fn(&mut Rng, &mut Input)) -> Run {
+    let (mut pilot, mut rng) = (Pilot::on_a_pass(profile, 1), Rng::new("bench", 1));
     let set_up = pilot.set_up();
     let mut flight = Flight::set_up(&set_up);
     let mut start = [0; IMAGE];
@@ -116,23 +121,42 @@ fn made(image: &mut Image, input: &Input, answer: &mut Answer) {
     flight.write(image);
 }
 
-/// The C call of an earlier archive.
+/// The C call of an earlier archive, on an image of its own length: before request Six that was a word less.
 #[cfg(before)]
-struct Before(Image);
+struct Before {
+    image: Image,
+    len: usize,
+}
+
+#[cfg(before)]
+impl Before {
+    fn new(run: &Run) -> Self {
+        let mut before = Before { image: run.start, len: IMAGE };
+        if before.call(&run.inputs[0], &mut [0; ANSWER]) == 1 {
+            before.len = IMAGE - 4;
+        }
+        before
+    }
+
+    fn call(&mut self, input: &Input, answer: &mut Answer) -> u32 {
+        extern "C" {
+            fn fosavalo_tick_before(i: *mut u8, n: usize, input: *const u8, m: usize, answer: *mut u8, k: usize) -> u32;
+        }
+        let image = &mut self.image[..self.len];
+        // SAFETY: each pointer goes with its own buffer's length, and all three live until the call is over.
+        unsafe { fosavalo_tick_before(image.as_mut_ptr(), image.len(), input.as_ptr(), TICK, answer.as_mut_ptr(), ANSWER) }
+    }
+}
 
 #[cfg(before)]
 impl Side for Before {
     fn begin(&mut self, start: &Image) {
-        self.0 = *start;
+        self.image = *start;
+        put(&mut self.image, 0, (self.len / 4) as u32);
     }
 
     fn tick(&mut self, input: &Input, answer: &mut Answer) {
-        extern "C" {
-            fn fosavalo_tick_before(i: *mut u8, n: usize, input: *const u8, m: usize, answer: *mut u8, k: usize) -> u32;
-        }
-        let image = &mut self.0;
-        // SAFETY: each pointer goes with its own buffer's length, and all three live until the call is over.
-        black_box(unsafe { fosavalo_tick_before(image.as_mut_ptr(), IMAGE, input.as_ptr(), TICK, answer.as_mut_ptr(), ANSWER) });
+        black_box(self.call(input, answer));
     }
 }
 
@@ -149,7 +173,7 @@ pub struct Times {
 pub fn times(run: &Run) -> Times {
     let mut sides: Vec<Box<dyn Side>> = vec![Box::new(Ours(run.start)), Box::new(Made(run.start)), Box::new(Kept(None))];
     #[cfg(before)]
-    sides.push(Box::new(Before(run.start)));
+    sides.push(Box::new(Before::new(run)));
     let mut least = vec![f64::INFINITY; sides.len()];
     for _ in 0..TRIES {
         for (side, least) in sides.iter_mut().zip(&mut least) {
@@ -241,7 +265,7 @@ mod tests {
 
     #[test]
     fn no_call_takes_more_stack_than_its_bar() {
-        for run in [pass(), headings()] {
+        for run in [pass(), headings(), lost_rotor()] {
             let depths = stacks(&run).expect("measured on this machine");
             assert!(depths[..RUST].iter().all(|&depth| depth <= stack::BAR), "{depths:?}");
         }

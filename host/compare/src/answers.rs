@@ -5,11 +5,11 @@
 //! it is made.
 
 use crate::generate::{self, Kind, Part, Rng};
-use crate::joint::bytes::{canonical, put, word, ANSWER, IMAGE, LEG, SETUP, TICK};
+use crate::joint;
+use crate::joint::bytes::{canonical, put, word, ANSWER, IMAGE, LEG, PROFILE, SETUP, SETUP_PROFILE, TICK};
 use crate::joint::fault::Fault;
 use crate::joint::lent::Lending;
 use crate::joint::model::{self, Flight};
-use crate::joint::{self, refusal};
 use crate::log::{self, RECORD};
 use crate::routine::Routine;
 use crate::table;
@@ -198,7 +198,7 @@ const ADRC: [Part; 4] = [Part::Above(60.0), Part::Above(20.0), Part::Number(80.0
 const LEG_PARTS: [Part; 7] =
     [Part::Vector(5.0), Part::Vector(1.0), Part::Vector(2.0), Part::Vector(5.0), Part::Vector(1.0), Part::Vector(2.0), Part::Above(10.0)];
 
-/// Set-up's words as in flight: gains; set, enter and exit; the governor's; the leg; ADRC; fc and fs.
+/// Set-up's words before the profile, as in flight: gains; set, enter and exit; the governor's; the leg; ADRC; fc and fs.
 fn set_up_parts() -> Vec<Part> {
     let gains = [Part::Gains(2.0), Part::Gains(1.0), Part::Gains(0.1)];
     let shield = [Part::Above(2.0), Part::Above(0.1), Part::Above(2.0), Part::Above(0.3), Part::Above(1.0)];
@@ -256,19 +256,17 @@ fn setups() -> Section {
     let rows = (0..SETUPS).map(|n| {
         let mut rng = Rng::new("stored set-ups", n);
         let kind = KINDS[(n % 4) as usize];
-        let input = bits(filled::<{ SETUP / 4 }>(kind, &set_up_parts(), &mut rng));
-        let (a, b) = (lent(&mut rng, IMAGE, &[]), lent(&mut rng, SETUP, &input));
+        let numbers = bits(filled::<SETUP_PROFILE>(kind, &set_up_parts(), &mut rng));
+        let (a, mut b) = (lent(&mut rng, IMAGE, &[]), lent(&mut rng, SETUP, &numbers));
+        let any = rng.bits() as u32;
+        put(&mut b.bytes, SETUP_PROFILE, rng.of(&[0, 0, 0, 0, 0, 1, 1, 1, 1, 1, 2, any]).unwrap_or(0));
         Call { a, b, c: Lent::NONE, d: Lent::NONE, at: 0 }.row(|image, input, _, _, _| set_up(image, input))
     });
     Section::calls("set-up", 500, rows.collect())
 }
 
 fn set_up(image: &mut [u8], input: &[u8]) -> u32 {
-    let number = refusal::of_setup(image.len(), input.len());
-    if number == 0 {
-        Flight::set_up(input).write(image);
-    }
-    number
+    model::call(Fault::None, joint::Call::SetUp, &mut Lending { image, input, route: &[], answer: &mut [] })
 }
 
 fn ticks() -> Section {
@@ -281,11 +279,11 @@ fn route_ticks() -> Section {
 
 /// Ticks from a set-up, the image handed on. Every other run is level, at rest, with no filter and turning as commanded, and its rate beside that
 /// goes about those at which the margin is enter and exit; the others are of all kinds. At times the call is refused, or an image with
-/// one word replaced is lent; then the run goes on with the one before.
+/// one word replaced is lent; then the run goes on with the one before. Eight runs by the old rules and eight with a rotor lost take turns.
 fn run(name: &str, number: u64, ticks: u64, on_routes: bool) -> Vec<Row> {
     let mut rng = Rng::new(name, number);
     let (level, kind) = (number % 2 == 0, KINDS[(number / 2 % 4) as usize]);
-    let mut s = filled::<{ SETUP / 4 }>(if level { Kind::Flight } else { kind }, &set_up_parts(), &mut rng);
+    let mut s = filled::<SETUP_PROFILE>(if level { Kind::Flight } else { kind }, &set_up_parts(), &mut rng);
     let edges = [1.5, 1.0];
     if level {
         s[17..35].fill(0.0);
@@ -293,7 +291,9 @@ fn run(name: &str, number: u64, ticks: u64, on_routes: bool) -> Vec<Row> {
         s[9..14].copy_from_slice(&[1.0, 1.0, 1e3, 4.0 - edges[0] * edges[0], 4.0 - edges[1] * edges[1]]);
     }
     let mut image = buffer(&mut rng, IMAGE + MORE, &[]);
-    set_up(&mut image[..IMAGE], &buffer(&mut rng, SETUP, &bits(s)));
+    let mut input = buffer(&mut rng, SETUP, &bits(s));
+    put(&mut input, SETUP_PROFILE, (number / 8 % 2) as u32);
+    set_up(&mut image[..IMAGE], &input);
     (0..ticks)
         .map(|t| {
             let kind = if level { Kind::Flight } else { KINDS[(t % 4) as usize] };
@@ -335,10 +335,10 @@ fn run(name: &str, number: u64, ticks: u64, on_routes: bool) -> Vec<Row> {
 /// One word replaced, mostly one of those that row 4 looks at.
 fn damage(rng: &mut Rng, image: &mut [u8]) {
     let any = rng.below(IMAGE / 4);
-    let at = rng.of(&[0, 13, 14, 15, 16, 26, 33, 40, any, any]).unwrap_or(0);
+    let at = rng.of(&[0, 13, 14, 15, 16, 26, 33, 40, PROFILE, any, any]).unwrap_or(0);
     let near = rng.near_one(&[0.0, 1e-3, 0.5, 3.0, f32::INFINITY]).to_bits();
     let bits = rng.word().to_bits();
-    let new = rng.of(&[0, 1, 2, 94, 96, near, near, near, bits]).unwrap_or(0);
+    let new = rng.of(&[0, 1, 2, 95, 97, near, near, near, bits]).unwrap_or(0);
     put(image, at, new);
 }
 

@@ -1,6 +1,7 @@
 //! The stored list that the program `replay` runs again, and that the program sees what is wrong with a list.
 
 use compare::answers::{self, Section};
+use compare::joint::bytes::{IMAGE, PROFILE};
 use compare::joint::fault::Fault;
 use compare::joint::route::Route;
 use std::fs::{self, File};
@@ -54,7 +55,7 @@ fn the_list_has_every_routine_every_number_and_both_controllers() {
         println!("{name}: {all:?} come {counts:?} times");
         assert!(counts.iter().all(|n| *n >= least) && counts.iter().sum::<usize>() == rows.len(), "{name}: {counts:?}");
     };
-    numbers("set-up", &[0, 1, 2], 6);
+    numbers("set-up", &[0, 1, 2, 10], 6);
     numbers("tick", &[0, 1, 2, 3, 4], 21);
     numbers("route tick", &[0, 1, 2, 3, 4, 5, 6, 7], 10);
     numbers("log append", &[0, 2, 3, 8, 9], 6);
@@ -66,10 +67,22 @@ fn the_list_has_every_routine_every_number_and_both_controllers() {
     let seen = [seen(6, 0), seen(6, 1), seen(9, 0xff80_0000), seen(7, 0x7f80_0000), seen(9, 1.75f32.to_bits()), seen(9, 3.0f32.to_bits())];
     println!("planner, fallback, no R_d, infinite time, margin at enter, at exit: {seen:?}");
     assert!(seen.into_iter().all(|n| n >= 5), "{seen:?}");
+    // by the profile, whose word stands in the image that is left, and the flag
+    for name in ["tick", "route tick"] {
+        let rows = || named(&sections, name).rows.iter().filter(|row| row.answer[0] == 0);
+        let by =
+            |profile: u32, flag: u32| rows().filter(|row| row.answer[1 + PROFILE] == profile && row.answer[ANSWER + 6] == flag).count();
+        let seen = [by(0, 0), by(0, 1), by(1, 0), by(1, 1)];
+        println!("{name}: planner and fallback by the old rules, with a rotor lost: {seen:?}");
+        assert!(seen.into_iter().all(|n| n >= 3), "{name}: {seen:?}");
+    }
 }
 
+/// The words of an image as it is stored, with one more behind it.
+const STORED: usize = IMAGE / 4 + 1;
+
 /// Where an answer of a tick stands in a row's: after the number and the image.
-const ANSWER: usize = 1 + 96;
+const ANSWER: usize = 1 + STORED;
 
 /// Of the accepted route ticks: on the first leg, on a later one, at the very end of one, past all ends.
 #[test]
@@ -78,7 +91,7 @@ fn the_route_ticks_are_on_every_part_of_a_route() {
     let mut seen = [0; 4];
     for row in named(&sections, "route tick").rows.iter().filter(|row| row.answer[0] == 0) {
         // image, input and answer, each after two words of sizes
-        let route = &row.given[2 + 96 + 2 + 18 + 2 + 11..];
+        let route = &row.given[2 + STORED + 2 + 18 + 2 + 11..];
         let bytes: Vec<u8> = route[2..].iter().flat_map(|word| word.to_le_bytes()).take(route[1] as usize).collect();
         let (route, time) = (Route::of(Fault::None, &bytes), f32::from_bits(row.answer[ANSWER + 7]));
         let place = route.place(Fault::None, time);

@@ -1,6 +1,6 @@
 //! docs/DIFFERENCES.md, line by line: the input that shows a difference is run through the archive's own calls and through the Rust as published.
 
-use compare::joint::bytes::{float, put, ANSWER, IMAGE, SETUP, TICK};
+use compare::joint::bytes::{float, put, word, ANSWER, IMAGE, SETUP, SETUP_PROFILE, TICK};
 use faces::geo::{Mat3, Quat, RecoverableSet};
 use faces::{adrc, geo, pos, traj, BodyRate, Vec3};
 use oracle::{adrc as rust_adrc, geo as rust_geo, pos as rust_pos, traj as rust_traj};
@@ -31,7 +31,7 @@ fn sine_and_cosine_are_not_the_published_ones() {
     assert_eq!([faces::sinf(-0.0).to_bits(), published::sinf(-0.0).to_bits()], [0x8000_0000, 0]);
     let beyond = f(0x4600_0001);
     assert_eq!([faces::sinf(beyond).to_bits(), faces::cosf(beyond).to_bits()], [0, 0]);
-    assert_eq!(published::sinf(beyond).to_bits(), 0x3f38_953d);
+    assert_eq!(published::sinf(beyond).to_bits(), 0xbf74_b4fe);
     assert_eq!([faces::sinf(1.0).to_bits(), published::sinf(1.0).to_bits()], [0x3f57_6aa4, 0x3f57_6aa5]);
     let (three_pi, half_of_it) = (f(0x4116_cbe4), f(0x4096_cbe4));
     assert_eq!([faces::sinf(three_pi).to_bits(), published::sinf(three_pi).to_bits()], [0xb2cc_de34, 0xb2cc_de20]);
@@ -118,6 +118,47 @@ fn a_tick_counts_no_commanded_turning_as_error() {
     assert_eq!([float(&answer, 9), set.margin(float(&answer, 8), 4.0)], [1.75, 0.0]);
 }
 
+/// One tick of a fresh image at rest with the set (1, 1, 1.75) in this profile: the answer.
+fn at_rest(profile: u32, words: &[(usize, f32)]) -> [u8; ANSWER] {
+    let (mut image, mut answer, mut set_up, mut input) = ([0; IMAGE], [0; ANSWER], [0; SETUP], [0; TICK]);
+    [(0, 0.6f32), (1, 0.6), (9, 1.0), (10, 1.0), (11, 1.75), (35, 2.0)].iter().for_each(|(at, x)| put(&mut set_up, *at, x.to_bits()));
+    put(&mut set_up, SETUP_PROFILE, profile);
+    words.iter().for_each(|(at, x)| put(&mut input, *at, x.to_bits()));
+    assert_eq!([faces::setup(&mut image, &set_up), faces::tick(&mut image, &input, &mut answer)], [0, 0]);
+    answer
+}
+
+#[test]
+fn with_a_rotor_lost_no_heading_is_read() {
+    let spinning = [(2, 20.0), (3, 1.0), (8, f(0x7fc0_0000)), (10, 0.001)];
+    let [lost, whole] = [1, 0].map(|profile| at_rest(profile, &spinning));
+    assert_eq!((float(&lost, 9), word(&lost, 6)), (1.75, 0));
+    assert_eq!((float(&whole, 9), word(&whole, 6)), (f32::NEG_INFINITY, 1));
+}
+
+/// `moment_reduced` damps; the fallback's rate does not. Upside down both have no error.
+#[test]
+fn with_a_rotor_lost_the_fallback_is_a_rate() {
+    let over = at_rest(1, &[(0, 0.5), (4, 1.0), (10, 0.001)]);
+    assert_eq!([3, 4, 5].map(|at| float(&over, at)), [0.0; 3]);
+    assert_eq!((float(&over, 8), float(&over, 9)), (2.0, -0.25));
+    let gains = rust_geo::GeoGains { k_r: [0.6; 3], k_omega: [0.1; 3], j: [0.02; 3] };
+    let r = [[1.0, 0.0, 0.0], [0.0, -1.0, 0.0], [0.0, 0.0, -1.0]];
+    assert!(rust_geo::GeoAtt::new(gains).moment_reduced(&r, [0.5, 0.0, 0.0], [0.0, 0.0, 1.0])[0] < 0.0);
+}
+
+/// Nothing of before is taken for an image or a set-up of today.
+#[test]
+fn images_of_before_are_refused() {
+    let mut image = [0; IMAGE];
+    assert_eq!(faces::setup(&mut image, &[0; SETUP]), 0);
+    assert_eq!((faces::setup(&mut image, &[0; 200]), faces::setup(&mut [0; 380], &[0; SETUP])), (2, 1));
+    let tick = |image: &mut [u8]| faces::tick(image, &[0; TICK], &mut [0; ANSWER]);
+    assert_eq!(tick(&mut image.clone()), 0);
+    put(&mut image, 0, 95);
+    assert_eq!((tick(&mut image[..380].to_vec()), tick(&mut image)), (1, 4));
+}
+
 #[test]
 fn the_reduced_error_is_zero_upside_down() {
     let over = Mat3(Vec3(1.0, 0.0, 0.0), Vec3(0.0, -1.0, 0.0), Vec3(0.0, 0.0, -1.0));
@@ -197,7 +238,7 @@ fn quaternion(roll: f32, pitch: f32, yaw: f32) -> [f32; 4] {
 
 #[test]
 fn an_angle_that_is_not_served_counts_as_level() {
-    let beyond = f(0x4380_0001);
+    let beyond = f(0x4680_0001);
     for bad in [beyond, -beyond, f(0x7fc0_0000), f32::INFINITY, f32::NEG_INFINITY] {
         for [roll, pitch, yaw] in [[bad, 0.5, 0.5], [0.5, bad, 0.5], [0.5, 0.5, bad], [4.0, -1.0, bad]] {
             let q = quaternion(roll, pitch, yaw);
@@ -209,7 +250,7 @@ fn an_angle_that_is_not_served_counts_as_level() {
     }
     assert_eq!(quaternion(4.0, -1.0, beyond)[0].to_bits(), 0x8000_0000);
     // twice the limit itself is served, and the published kernels serve what is beyond it
-    assert_ne!(quaternion(0.0, 0.0, f(0x4380_0000)), [0.0; 4]);
+    assert_ne!(quaternion(0.0, 0.0, f(0x4680_0000)), [0.0; 4]);
     let (sine, cosine) = (published::sinf(beyond * 0.5), published::cosf(beyond * 0.5));
     assert!((sine * sine + cosine * cosine - 1.0).abs() < 1e-6);
 }

@@ -2,11 +2,11 @@
 //! demand by looking back. FOSAVALO_TICKS asks for more ticks than the gate's five million.
 
 use compare::generate::Rng;
-use compare::joint::bytes::{float, put, word, ANSWER, IMAGE, SETUP, TICK};
-use compare::joint::fault::{Fault, WRONG, WRONG_ERROR};
+use compare::joint::bytes::{float, put, word, ANSWER, IMAGE, PROFILE, SETUP, SETUP_PROFILE, TICK};
+use compare::joint::fault::{Fault, WRONG, WRONG_ERROR, WRONG_PROFILE};
 use compare::joint::guide::PLAIN;
 use compare::joint::lent::Lending;
-use compare::joint::model::{self, Flight};
+use compare::joint::model::{self, Flight, Profile};
 use compare::joint::pilot::Pilot;
 use compare::joint::runs::{self, caught, Seen, Watch};
 use compare::joint::{archive, lengths, refusal, Call};
@@ -26,17 +26,19 @@ fn every_tick_is_the_rust_s_and_the_look_back_s() {
 
 /// A run that never goes where the errors are shows nothing.
 fn covered(seen: &Seen) {
-    let passes = seen.passes();
-    let [planner, fallback] = seen.band;
-    assert!(passes >= seen.accepted() / 4, "{passes} ticks of passes");
-    assert!(planner * 10 >= passes, "the planner flew in the band for {planner} of {passes} ticks of passes");
-    assert!(fallback * 10 >= passes, "the fallback flew in the band for {fallback} of {passes} ticks of passes");
+    for ((profile, passes), [planner, fallback]) in [Profile::Whole, Profile::LostRotor].iter().zip(seen.passes()).zip(seen.band) {
+        assert!(passes >= seen.accepted() / 8, "{profile:?}: {passes} ticks of passes");
+        assert!(planner * 10 >= passes, "{profile:?}: the planner flew in the band for {planner} of {passes} ticks of passes");
+        assert!(fallback * 10 >= passes, "{profile:?}: the fallback flew in the band for {fallback} of {passes} ticks of passes");
+    }
     assert!(seen.changes > 1000 && seen.edge > 1000);
     assert!(seen.no_attitude > 1000 && seen.no_feedforward > 1000 && seen.at_the_end > 1000);
+    assert!(seen.no_axis > 1000 && seen.any_heading > 1000, "{}, {}", seen.no_axis, seen.any_heading);
+    assert!(seen.refused_set_ups.iter().all(|n| *n > 100), "{:?}", seen.refused_set_ups);
     assert!(seen.turning.as_flattened().iter().all(|n| *n > 1000), "{:?}", seen.turning);
     for (at, [accepted, refused]) in seen.damaged.iter().enumerate() {
         // the words that row 4 looks at, and word 0, of which any other value is refused
-        let looked_at = [0, 13, 14, 15, 16, 26, 33, 40].contains(&at);
+        let looked_at = [0, 13, 14, 15, 16, 26, 33, 40, PROFILE].contains(&at);
         assert!(
             accepted + refused > 1000 && (at == 0 || *accepted > 100) && (*refused > 100) == looked_at,
             "word {at}: {accepted}, {refused}"
@@ -46,7 +48,8 @@ fn covered(seen: &Seen) {
 
 #[test]
 fn what_looks_right_but_is_wrong_is_caught() {
-    let missed: Vec<_> = [WRONG, WRONG_ERROR].concat().into_iter().filter(|fault| !caught(*fault, runs::GATE, Watch::All, PLAIN)).collect();
+    let all = [WRONG, WRONG_ERROR, WRONG_PROFILE].concat();
+    let missed: Vec<_> = all.into_iter().filter(|fault| !caught(*fault, runs::GATE, Watch::All, PLAIN)).collect();
     assert!(missed.is_empty(), "not caught within {} ticks: {missed:?}", runs::GATE);
 }
 
@@ -58,6 +61,7 @@ fn looking_back_alone_catches_what_is_about_the_flag_and_the_command() {
         Fault::ReleasedAtExit,
         Fault::EngagedAtEnter,
         Fault::NoCleaning,
+        Fault::PlannerThird,
         Fault::Constant,
         Fault::Untouched,
         Fault::Echo,
@@ -77,7 +81,7 @@ fn every_length_of_every_buffer() {
     let start = Instant::now();
     let setups = lengths::setups(&archive).unwrap_or_else(|text| panic!("{text}"));
     let ticks = lengths::ticks(&archive).unwrap_or_else(|text| panic!("{text}"));
-    assert_eq!((setups, ticks), (401 * 401, 2 * 401 * 401 * 401));
+    assert_eq!((setups, ticks), (2 * 401 * 401, 2 * 401 * 401 * 401));
     println!("{setups} set-ups and {ticks} ticks, {:.1} s", start.elapsed().as_secs_f32());
 }
 
@@ -96,14 +100,16 @@ fn a_wrong_length_taken_or_a_byte_changed_is_caught() {
         byte.into_iter().for_each(|byte| *byte ^= 1);
         model::call(Fault::None, call, lent)
     };
-    assert!(lengths::ticks(&longer).is_err() && lengths::ticks(&writes).is_err() && lengths::setups(&writes).is_err());
+    let profile = |call, lent: &mut Lending<'_>| model::call(Fault::ProfileFirst, call, lent);
+    assert!(lengths::ticks(&longer).is_err() && lengths::ticks(&writes).is_err());
+    assert!(lengths::setups(&writes).is_err() && lengths::setups(&profile).is_err());
 }
 
 /// What a tick would be refused for, asked beforehand: of good images and damaged ones, at lengths that are right and that are not.
 #[test]
 fn a_tick_tells_beforehand_what_it_would_be_refused_for() {
     let mut whole = [0; IMAGE + 20];
-    Flight::set_up(&Pilot::on_a_pass(0).set_up()).write(&mut whole[..IMAGE]);
+    Flight::set_up(&Pilot::on_a_pass(Profile::Whole, 0).set_up()).write(&mut whole[..IMAGE]);
     let (mut rng, mut seen) = (Rng::new("tick_refusal", 1), [0u32; 5]);
     for round in 0..200_000 {
         let mut image = whole;
@@ -111,7 +117,13 @@ fn a_tick_tells_beforehand_what_it_would_be_refused_for() {
             let bits = if rng.flag() { rng.special().to_bits() } else { rng.bits() as u32 >> rng.below(32) };
             put(&mut image, rng.below(IMAGE / 4), bits);
         }
-        let mut near = |right: usize| if rng.below(8) == 0 { rng.below(right + 20) } else { right };
+        let mut near = |right: usize| {
+            if rng.below(8) == 0 {
+                rng.below(right + 20)
+            } else {
+                right
+            }
+        };
         let (i, n, a) = (near(IMAGE), near(TICK), near(ANSWER));
         let expected = refusal::of_tick(&image[..i], n, a);
         assert_eq!(faces::tick_refusal(&image[..i], n, a), expected, "lengths {i}, {n}, {a}, image {image:02x?}");
@@ -144,6 +156,11 @@ fn set_up() -> [u8; SETUP] {
     input
 }
 
+/// The same with a rotor lost.
+fn lost_rotor() -> [u8; SETUP] {
+    with(set_up(), &[(SETUP_PROFILE, 1)])
+}
+
 /// Standing still: identity, on track, a step of 1/16 s, the planner's 1, -0.0, NaN, everything delivered.
 fn still() -> [u8; TICK] {
     let words: [f32; TICK / 4] = [0.0, 0.0, 0.0, 1.0, 0.0, 0.0, 0.0, 0.0, 0.0, 0.0, 0.0625, 1.0, -0.0, f32::NAN, 1.0, 1.0, 1.0];
@@ -173,7 +190,8 @@ fn with<const N: usize>(mut bytes: [u8; N], words: &[(usize, u32)]) -> [u8; N] {
 #[test]
 fn the_image_by_hand() {
     let image = image_of(&set_up());
-    assert_eq!(word(&image, 0), 95);
+    assert_eq!((word(&image, 0), word(&image, 95)), (96, 0));
+    assert_eq!(word(&image_of(&lost_rotor()), 95), 1);
     (1..10).for_each(|at| assert_eq!(float(&image, at), at as f32));
     let floats: Vec<f32> = (10..15).map(|at| float(&image, at)).collect();
     assert_eq!(floats, [1.0, 1.0, 1.75, 0.5, 1.0]);
@@ -290,6 +308,95 @@ fn a_refused_feedforward_is_not_zeros() {
     }
 }
 
+/// Request Six: with a rotor lost a spin is no error, no heading is read, and the third axis stands.
+#[test]
+fn a_rotor_lost_by_hand() {
+    let spinning = |x: f32| with(still(), &[(0, x.to_bits()), (2, 20.0f32.to_bits()), (8, NAN), (9, NAN), (13, 2.0f32.to_bits())]);
+    let mut image = image_of(&lost_rotor());
+    let third: Vec<u32> = (59..68).map(|at| word(&image, at)).collect();
+    let answer = tick(&mut image, &spinning(0.0));
+    assert_eq!([3, 4, 5].map(|at| word(&answer, at)), [1.0f32.to_bits(), 0x8000_0000, 0]);
+    assert_eq!([6, 8, 9].map(|at| word(&answer, at)), [0, 0, 1.75f32.to_bits()]);
+    assert_eq!((float(&answer, 0), word(&answer, 2)), (1.0, 0));
+    // the band as with all rotors; the filter, which passes, has seen the spin
+    assert_eq!(word(&tick(&mut image, &spinning(3.0f32.sqrt())), 6), 0);
+    let answer = tick(&mut image, &spinning(3.9f32.sqrt()));
+    // level: minus k_r times an error of +0.0, of -0.0, and no number at all
+    assert_eq!([3, 4, 5, 6].map(|at| word(&answer, at)), [0x8000_0000, 0, 0, 1]);
+    assert_eq!((word(&answer, 2), float(&image, 93)), (0, 20.0));
+    assert_eq!((59..68).map(|at| word(&image, at)).collect::<Vec<_>>(), third);
+}
+
+/// Tilts by quaternions that are no unit: of R the third column is (0, -2, -1), then (2, 0, -1), and Rᵀb3 (0, 2, -1), then (-2, 0, -1). So psi is 2,
+/// and the fallback minus the gains 1 and 2, not the set's 1, times 4.
+#[test]
+fn toward_the_thrust_axis() {
+    for (tilted, command) in [([1.0, 1.0, 0.0, 0.0], [-4.0f32, 0.0, 0.0]), ([1.0, 0.0, 1.0, 0.0], [-0.0, -8.0, 0.0])] {
+        let mut image = image_of(&lost_rotor());
+        let attitude: Vec<(usize, u32)> = tilted.iter().enumerate().map(|(k, x)| (3 + k, f32::to_bits(*x))).collect();
+        let answer = tick(&mut image, &with(with(still(), &attitude), &[(9, 2.0f32.to_bits())]));
+        assert_eq!([3, 4, 5, 6].map(|at| word(&answer, at)), [command[0].to_bits(), command[1].to_bits(), 0, 1]);
+        assert_eq!((float(&answer, 8), float(&answer, 9)), (2.0, -0.25));
+    }
+}
+
+/// In free fall there is no thrust axis.
+#[test]
+fn with_no_thrust_axis() {
+    let (a, end) = (9.81f32.to_bits(), (2.0 * 9.81f32).to_bits());
+    let falling = with(lost_rotor(), &[(25, a), (28, end), (31, end), (34, a)]);
+    let answer = tick(&mut image_of(&falling), &still());
+    assert_eq!([3, 4, 5, 6, 8, 9].map(|at| word(&answer, at)), [0, 0, 0, 1, NAN, 0xff80_0000]);
+}
+
+/// The third axis of ADRC keeps its nine words but for the pattern of a NaN, its fraction too, whatever fraction is told.
+#[test]
+fn the_third_axis_is_left_as_it_was() {
+    let own: Vec<(usize, u32)> = [0.25f32, -3.0, 7.0, 1e30, 0.75, 30.0, 3.0, 18.0, f32::INFINITY]
+        .map(f32::to_bits)
+        .into_iter()
+        .zip(59..)
+        .map(|(w, at)| (at, w))
+        .collect();
+    let mut image = with(with(image_of(&lost_rotor()), &own), &[(60, 0xffc0_0001)]);
+    let answer = tick(&mut image, &with(still(), &[(2, 1.0f32.to_bits()), (13, 5.0f32.to_bits()), (16, 0.5f32.to_bits())]));
+    let expected: Vec<u32> = own.iter().map(|(at, word)| if *at == 60 { NAN } else { *word }).collect();
+    assert_eq!((59..68).map(|at| word(&image, at)).collect::<Vec<_>>(), expected);
+    assert_eq!(word(&answer, 2), 0);
+}
+
+/// "10 set-up word 51 not 0 or 1, after 2"; and images of before.
+#[test]
+fn profiles_by_hand() {
+    let number = |image: usize, input: &[u8]| {
+        let mut lent = vec![0xee; image];
+        let number = faces::setup(&mut lent, input);
+        assert!(number == 0 || lent.iter().all(|byte| *byte == 0xee));
+        number
+    };
+    for profile in [2, 3, 256, 1 << 24, 1 << 31, f32::to_bits(1.0), NAN, u32::MAX] {
+        let input = with(set_up(), &[(SETUP_PROFILE, profile)]);
+        assert_eq!((number(384, &input), number(380, &input), number(384, &input[..203])), (10, 1, 2), "{profile:08x}");
+        assert_eq!(number(384, &[&input[..], &[0]].concat()), 2);
+    }
+    assert_eq!((number(384, &set_up()), number(384, &lost_rotor()), number(384, &set_up()[..200])), (0, 0, 2));
+    let old = with(image_of(&set_up()), &[(0, 95)]);
+    assert_eq!(faces::tick(&mut old.clone(), &still(), &mut [0; ANSWER]), 4);
+    assert_eq!(faces::tick(&mut old[..380].to_vec(), &still(), &mut [0; ANSWER]), 1);
+}
+
+/// Of the values of word 95 a tick takes two: looked at are the first million, all of at most three bits, and one in 4099.
+#[test]
+fn every_profile_word() {
+    let few = (0..33 * 33 * 33u32)
+        .map(|n| [n % 33, n / 33 % 33, n / 1089].into_iter().fold(0, |word, bit| word | 1u32.checked_shl(bit).unwrap_or(0)));
+    let mut image = image_of(&set_up());
+    for profile in (0..1 << 20).chain(few).chain((0..=u32::MAX).step_by(4099)) {
+        put(&mut image, PROFILE, profile);
+        assert_eq!(faces::tick_refusal(&image, TICK, ANSWER), if profile < 2 { 0 } else { 4 }, "{profile:08x}");
+    }
+}
+
 #[test]
 fn row_4_by_hand() {
     let good = image_of(&set_up());
@@ -300,7 +407,7 @@ fn row_4_by_hand() {
         number
     };
     for (at, refused) in [
-        (0, &[0, 94, 96, 95 << 8, 0x42be_0000][..]),
+        (0, &[0, 95, 97, 96 << 8, 0x42c0_0000][..]),
         (13, &[0, 0x8000_0000, 0x8000_0001, INFINITY, NAN, 0x3f80_0000, 0xffff_ffff]),
         (14, &[0x3f00_0000, 0x3eff_ffff, 0, NAN, 0xff80_0000]),
         (15, &[2, 3, 256, 0x3f80_0000, 0x8000_0000, u32::MAX]),
@@ -308,11 +415,12 @@ fn row_4_by_hand() {
         (26, &[0x3a83_126e, 0, NAN, INFINITY, 0xff80_0000]),
         (33, &[0x3a83_126e, 0, NAN, INFINITY, 0xbf80_0000]),
         (40, &[0x3a83_126e, 0, NAN, INFINITY, 0x8000_0000]),
+        (95, &[2, 3, 256, 0x3f80_0000, 0x8000_0000, NAN, u32::MAX]),
     ] {
         refused.iter().for_each(|word| assert_eq!(number(at, *word), 4, "word {at} = {word:08x}"));
     }
     for (at, taken) in [
-        (0, &[95][..]),
+        (0, &[96][..]),
         (13, &[1, 0x3f7f_ffff]),
         (14, &[0x3f00_0001, INFINITY]),
         (15, &[0, 1]),
@@ -323,6 +431,7 @@ fn row_4_by_hand() {
         (1, &[NAN, 0xffff_ffff]),
         (20, &[0xffff_ffff]),
         (94, &[INFINITY]),
+        (95, &[0, 1]),
     ] {
         taken.iter().for_each(|word| assert_eq!(number(at, *word), 0, "word {at} = {word:08x}"));
     }
@@ -334,7 +443,7 @@ fn row_4_by_hand() {
 #[test]
 fn kept_words_have_one_nan() {
     let mut image = with(image_of(&set_up()), &[(4, 0xffc0_0001), (17, 0x7f80_0001)]);
-    let refused = with(image, &[(0, 94)]);
+    let refused = with(image, &[(0, 95)]);
     let mut same = refused;
     assert_eq!(faces::tick(&mut same, &still(), &mut [0; ANSWER]), 4);
     assert_eq!(same, refused);

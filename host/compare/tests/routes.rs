@@ -1,8 +1,8 @@
 //! Ticks on routes, mixed with plain ones: the archive against document 02's sentence with the Rust's own segments, byte for byte, and the
 //! third demand by looking back.
 
-use compare::joint::bytes::{float, put, raw, word, ANSWER, IMAGE, LEG, SETUP, TICK};
-use compare::joint::fault::{Fault, WRONG_ERROR, WRONG_ON_ROUTES};
+use compare::joint::bytes::{float, put, raw, word, ANSWER, IMAGE, LEG, SETUP, SETUP_PROFILE, TICK};
+use compare::joint::fault::{Fault, WRONG_ERROR, WRONG_ON_ROUTES, WRONG_PROFILE};
 use compare::joint::guide::MIXED;
 use compare::joint::runs::{self, caught, Watch, GATE_ON_ROUTES};
 use compare::joint::{archive, lengths, model};
@@ -32,14 +32,16 @@ fn every_tick_on_a_route_is_the_rust_s_and_the_look_back_s() {
         assert!(counts.iter().all(|count| *count > 1000), "{what}: {counts:?}");
     }
     assert!(seen.turning.as_flattened().iter().all(|count| *count > 100), "{:?}", seen.turning);
-    let [planner, fallback] = seen.band;
-    assert!(planner * 20 >= seen.passes() && fallback * 20 >= seen.passes() && seen.changes > 1000);
+    for (passes, band) in seen.passes().into_iter().zip(seen.band) {
+        assert!(band.iter().all(|n| n * 20 >= passes), "{band:?} of {passes}");
+    }
+    assert!(seen.changes > 1000 && seen.no_axis > 100 && seen.any_heading > 1000);
 }
 
 #[test]
 fn what_looks_right_but_is_wrong_is_caught() {
-    let missed: Vec<_> =
-        [WRONG_ON_ROUTES, WRONG_ERROR].concat().into_iter().filter(|fault| !caught(*fault, GATE_ON_ROUTES, Watch::All, MIXED)).collect();
+    let all = [WRONG_ON_ROUTES, WRONG_ERROR, WRONG_PROFILE].concat();
+    let missed: Vec<_> = all.into_iter().filter(|fault| !caught(*fault, GATE_ON_ROUTES, Watch::All, MIXED)).collect();
     assert!(missed.is_empty(), "not caught within {GATE_ON_ROUTES} ticks: {missed:?}");
 }
 
@@ -102,9 +104,10 @@ fn step(time: f32) -> [u8; TICK] {
 }
 
 /// A fresh image's first tick, on a route where one is given: command, flag, psi and margin; and the time.
-fn first(segment: &[f32; WORDS], route: Option<&[u8]>, time: f32) -> ([u32; 6], f32) {
-    let (mut image, mut answer) = ([0; IMAGE], [0; ANSWER]);
-    assert_eq!(faces::setup(&mut image, &set_up(segment)), 0);
+fn first(profile: u32, segment: &[f32; WORDS], route: Option<&[u8]>, time: f32) -> ([u32; 6], f32) {
+    let (mut image, mut answer, mut input) = ([0; IMAGE], [0; ANSWER], set_up(segment));
+    put(&mut input, SETUP_PROFILE, profile);
+    assert_eq!(faces::setup(&mut image, &input), 0);
     let segment = image[4 * 20..4 * 41].to_vec();
     let number = match route {
         Some(route) => faces::route_tick(&mut image, &step(time), route, &mut answer),
@@ -142,11 +145,15 @@ fn the_leg_flown_by_hand() {
         (&huge, f32::MAX, 1, f32::MAX - 3e38),
     ] {
         let legs = legs(durations);
-        let (said, clock) = first(&other, Some(&bytes(&legs)), time);
-        assert_eq!((said, clock), (first(&legs[leg], None, at).0, time), "{durations:?} at {time}");
+        let (said, clock) = first(0, &other, Some(&bytes(&legs)), time);
+        assert_eq!((said, clock), (first(0, &legs[leg], None, at).0, time), "{durations:?} at {time}");
         if let (1.0, Some(before)) = (durations[0], leg.checked_sub(1)) {
-            assert!(at > 0.0 || said != first(&legs[before], None, durations[before]).0, "{durations:?} at {time}");
+            assert!(at > 0.0 || said != first(0, &legs[before], None, durations[before]).0, "{durations:?} at {time}");
         }
+        // and with a rotor lost, by its own rules
+        let (lost, clock) = first(1, &other, Some(&bytes(&legs)), time);
+        assert_eq!((lost, clock), (first(1, &legs[leg], None, at).0, time), "{durations:?} at {time}");
+        assert_ne!(lost, said);
     }
 }
 

@@ -9,6 +9,7 @@ pub mod pass;
 pub mod picture;
 pub mod planner;
 pub mod random;
+pub mod rotor;
 pub mod scenario;
 pub mod table;
 pub mod ticks;

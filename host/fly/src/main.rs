@@ -1,9 +1,9 @@
-//! `fly`: the slow pass above a stage, and a pass of three legs. `fly SCENARIO`: a flight from a file. Both print a table and write what was flown.
+//! `fly`: the slow pass above a stage, a pass of three legs, a curved one, and one in which a rotor stops. `fly SCENARIO`: a flight from a file. Both print a table and write what was flown.
 
 use fly::flight::Flight;
 use fly::scenario::{self, Scenario};
 use fly::table::{choices, passes, table, Pair};
-use fly::{curve, legs, output, pass};
+use fly::{curve, legs, output, pass, rotor};
 use fosavalo::{LEG_BYTES, TICK_BYTES};
 use std::io::Write;
 use std::path::{Path, PathBuf};
@@ -22,8 +22,8 @@ fn usage() -> String {
 fly --choices
 
 Without a scenario: the slow pass above a stage in a closed loop, five seeds, our shield and the earlier rule side by side;
-then a pass of three legs on a route, and a curved one by the margin of today and by document 01's. With one: the flight
-of that file.
+then a pass of three legs on a route, a curved one by the margin of today and by document 01's, and one in which a rotor
+stops. With one: the flight of that file.
 
   --out FOLDER   where the files go, `{FOLDER}` if it is not given: NAME-shield.csv and NAME-earlier.csv with every tick,
                  NAME-shield.log and NAME-earlier.log, and where gnuplot is there NAME.svg and NAME.png, drawn from
@@ -35,6 +35,7 @@ A scenario is plain text, a field and its numbers on a line, # before a comment 
 examples). Fields, and how many numbers each takes; of the set-up, before the first tick:{set_up}
 of the input, which hold until they are given again:{input}
 and
+  profile NAME   `whole`, as it is if this is not given, or `lost-rotor`; of the set-up
   leg NUMBERS    a leg of a route in place of the segment, {leg} numbers: p0 v0 a0 pf vf af t; before the first tick
   tick N         N ticks; `tick N FIELD NUMBERS ..` leads these fields of the input evenly to these numbers
   row NUMBERS    one tick, all {row} numbers of the input
@@ -85,6 +86,9 @@ fn run() -> Result<(), String> {
         say(&format!("\n{}", legs::table().map_err(|refusal| refusal.to_string())?))?;
         say(&format!("\n{}", curve::table().map_err(|refusal| refusal.to_string())?))?;
         let said = curve::write(&folder).map_err(|error| format!("{}: {error}", folder.display()))?;
+        say(&format!("\n{}\n", said.join("\n")))?;
+        say(&format!("\n{}", rotor::table().map_err(|refusal| refusal.to_string())?))?;
+        let said = rotor::write(&folder).map_err(|error| format!("{}: {error}", folder.display()))?;
         say(&format!("\n{}\n", said.join("\n")))?;
     }
     Ok(())

@@ -4,7 +4,7 @@ use crate::aircraft::Aircraft;
 use crate::flight::{Flight, Rule};
 use crate::planner::{Planner, Reference};
 use crate::random::Random;
-use crate::vector::{norm, sub, V3};
+use crate::vector::{norm, sub, Quat, V3};
 use fosavalo::{Answer, BodyRate, Governor, GyroFilter, Image, Pilot, RecoverableSet, Refusal, Route, Segment, SetUp, TickInput, Torque};
 
 pub const SECONDS: f64 = 20.0;
@@ -82,7 +82,7 @@ pub fn title() -> String {
 }
 
 /// Where the trajectory is at a time: a quintic from rest to rest, as the core has it.
-fn reference(time: f32) -> Reference {
+pub fn reference(time: f32) -> Reference {
     let x = (f64::from(time) / SECONDS).clamp(0.0, 1.0);
     let way = sub(TO, FROM);
     let (p, v, a) = (
@@ -127,37 +127,76 @@ pub fn fly_along(
     mut look: impl FnMut(&Image, &Answer),
 ) -> Result<Flight, Refusal> {
     let (mut flight, mut image) = Flight::begin(&set_up(choice), rule, route)?;
-    let (mut whims, mut noise) = (Random::new(2 * seed), Random::new(2 * seed + 1));
-    let dt = f64::from(DT);
-    let (mut aircraft, mut planner) = (Aircraft::at(reference(0.0).position, heading(0.0).yaw), Planner::new(&mut whims));
-    let mut delivered = [1.0; 3];
-    let mut last =
-        Answer { torque: Torque([0.0; 3]), command: BodyRate([0.0; 3]), pilot: Pilot::Fallback, time: 0.0, psi: 0.0, margin: 0.0 };
+    let mut whims = Random::new(2 * seed);
+    let mut air = Air::at(reference(0.0).position, heading(0.0).yaw, choice.gyro_noise, seed);
+    let mut planner = Planner::new(&mut whims);
     for k in 0..TICKS {
-        let (sensed, reference) = (aircraft.sense(choice.gyro_noise, dt, &mut noise), reference(last.time));
-        let Heading { yaw, turn, own } = heading(k as f64 * dt);
-        let wanted = Planner::wanted(aircraft.position, aircraft.velocity, &reference);
-        let rate = match own {
-            true => Planner::rate_of(sensed.attitude, wanted, yaw, turn),
-            false => planner.rate(sensed.attitude, wanted, yaw, dt, &mut whims),
+        let heading = heading(k as f64 * f64::from(DT));
+        let rate = |attitude: Quat, wanted: V3| match heading.own {
+            true => Planner::rate_of(attitude, wanted, heading.yaw, heading.turn),
+            false => planner.rate(attitude, wanted, heading.yaw, f64::from(DT), &mut whims),
         };
-        let single = |v: V3| v.map(|x| x as f32);
-        last = flight.tick(
-            &mut image,
+        let answer = air.tick(&mut flight, &mut image, &reference(air.last.time), &heading, rate)?;
+        look(&image, &answer);
+    }
+    Ok(flight)
+}
+
+/// An aircraft in the air, with what goes from tick to tick outside the core.
+pub struct Air {
+    pub aircraft: Aircraft,
+    gyro_noise: f64,
+    noise: Random,
+    delivered: [f32; 3],
+    pub last: Answer,
+}
+
+impl Air {
+    pub fn at(position: V3, yaw: f64, gyro_noise: f64, seed: u64) -> Self {
+        Air {
+            aircraft: Aircraft::at(position, yaw),
+            gyro_noise,
+            noise: Random::new(2 * seed + 1),
+            delivered: [1.0; 3],
+            last: Answer {
+                torque: Torque([0.0; 3]),
+                command: BodyRate([0.0; 3]),
+                pilot: Pilot::Fallback,
+                time: 0.0,
+                psi: 0.0,
+                margin: 0.0,
+            },
+        }
+    }
+
+    /// One tick of the flight toward a reference and a heading, and the aircraft flies on. The planner's rate is made of the estimated attitude
+    /// and of the acceleration that holds the path.
+    pub fn tick(
+        &mut self,
+        flight: &mut Flight,
+        image: &mut Image,
+        reference: &Reference,
+        heading: &Heading,
+        rate: impl FnOnce(Quat, V3) -> V3,
+    ) -> Result<Answer, Refusal> {
+        let (dt, single) = (f64::from(DT), |v: V3| v.map(|x| x as f32));
+        let sensed = self.aircraft.sense(self.gyro_noise, dt, &mut self.noise);
+        let wanted = Planner::wanted(self.aircraft.position, self.aircraft.velocity, reference);
+        self.last = flight.tick(
+            image,
             TickInput {
                 gyro: BodyRate(single(sensed.gyro)),
                 attitude: sensed.attitude.map(|x| x as f32),
-                tracking_error: norm(sub(aircraft.position, reference.position)) as f32,
-                yaw: yaw as f32,
-                yaw_rate: turn as f32,
+                tracking_error: norm(sub(self.aircraft.position, reference.position)) as f32,
+                yaw: heading.yaw as f32,
+                yaw_rate: heading.turn as f32,
                 dt: DT,
-                planner: BodyRate(single(rate)),
-                delivered,
+                planner: BodyRate(single(rate(sensed.attitude, wanted))),
+                delivered: self.delivered,
             },
         )?;
-        look(&image, &last);
-        let torque = last.torque.0.map(f64::from);
-        delivered = single(aircraft.fly(torque, aircraft.thrust_for(wanted[2]), dt));
+        let (torque, thrust) = (self.last.torque.0.map(f64::from), self.aircraft.thrust_for(wanted[2]));
+        self.delivered = single(self.aircraft.fly(torque, thrust, dt));
+        Ok(self.last)
     }
-    Ok(flight)
 }

@@ -2,7 +2,7 @@
 
 use crate::aircraft::GRAVITY;
 use crate::random::Random;
-use crate::vector::{add, axes, cross, error, scale, sub, unit, Quat, M3, V3};
+use crate::vector::{add, axes, cross, dot, error, scale, sub, unit, Quat, M3, V3};
 
 /// Position and velocity gains, 1/s² and 1/s, and the most that they may ask for, m/s².
 const HOLD: f64 = 1.2;
@@ -50,6 +50,13 @@ impl Planner {
     pub fn rate_of(attitude: Quat, wanted: V3, yaw: f64, turn: f64) -> V3 {
         let off = error(&axes(attitude), &looking(wanted, yaw));
         [-TURN[0] * off[0], -TURN[1] * off[1], (turn - TURN[2] * off[2]).clamp(-FASTEST, FASTEST)]
+    }
+
+    /// The body rate that brings it level, with no heading to hold.
+    pub fn rate_level(attitude: Quat) -> V3 {
+        let own = axes(attitude);
+        let off = cross([0.0, 0.0, 1.0], own[2]);
+        [-TURN[0] * dot(off, own[0]), -TURN[1] * dot(off, own[1]), 0.0]
     }
 
     /// Moves the aim; how fast it moves.

@@ -9,11 +9,12 @@
 //! row 0 0 0  1 0 0 0  0 0 0 0.001  0 0 0  1 1 1     # one tick, all seventeen numbers
 //! ```
 //!
-//! Lines `leg` with nineteen numbers, before the first tick, make a route that is flown in place of the segment.
+//! Lines `leg` with nineteen numbers, before the first tick, make a route that is flown in place of the segment. A line `profile lost-rotor` there has
+//! the flight set up for a lost rotor.
 //!
 //! A number is a decimal, `nan`, `inf`, `-inf`, or `0x` and the bits. docs/FLYING.md has all of it.
 
-use fosavalo::{Leg, Refusal, Route, SetUp, TickInput, LEG_BYTES, SETUP_BYTES, TICK_BYTES};
+use fosavalo::{Leg, Profile, Refusal, Route, SetUp, TickInput, LEG_BYTES, SETUP_BYTES, TICK_BYTES};
 use std::fmt;
 
 pub const MOST_TICKS: usize = 1_000_000;
@@ -50,6 +51,9 @@ impl std::error::Error for Mistake {}
 
 /// A field: its name, its first word, its count of words.
 type Field = (&'static str, usize, usize);
+
+/// The names of the profiles.
+const PROFILES: [(&str, Profile); 2] = [("whole", Profile::Whole), ("lost-rotor", Profile::LostRotor)];
 
 /// Document 01's words of a set-up.
 const SET_UP: [Field; 23] = [
@@ -116,6 +120,7 @@ impl Scenario {
         }
         let set_up = SetUp::from_bytes(&bytes_of::<SETUP_BYTES>(&reader.set_up));
         let set_up = set_up.map_err(|refusal| Mistake { line: 0, field: "set-up".to_string(), what: refusal.to_string() })?;
+        let set_up = SetUp { profile: reader.profile.map_or(Profile::Whole, |(_, profile)| profile), ..set_up };
         Ok(Scenario { set_up, route: reader.route()?, inputs: reader.inputs })
     }
 }
@@ -124,6 +129,8 @@ struct Reader {
     set_up: Vec<f32>,
     /// The line at which each word of the set-up was given.
     given: Vec<usize>,
+    /// And the profile, with its line.
+    profile: Option<(usize, Profile)>,
     legs: Vec<Leg>,
     /// The line of each leg.
     leg_lines: Vec<usize>,
@@ -143,6 +150,7 @@ impl Reader {
         Reader {
             set_up: floats(&SetUp::falcon_quad().to_bytes()),
             given: vec![0; SETUP_BYTES / 4],
+            profile: None,
             legs: Vec::new(),
             leg_lines: Vec::new(),
             input: floats(&TickInput::default().to_bytes()),
@@ -161,6 +169,7 @@ impl Reader {
         }
         match name {
             "tick" => self.ticks(rest),
+            "profile" => self.profile(line, rest),
             "leg" => self.leg(line, rest),
             "row" => {
                 let field = ("row", 0, TICK_BYTES / 4);
@@ -168,7 +177,7 @@ impl Reader {
                 put(&mut self.input, field, &numbers);
                 self.tick()
             }
-            _ => wrong(name, format!("no such field; there are {}, leg, tick and row", names())),
+            _ => wrong(name, format!("no such field; there are {}, profile, leg, tick and row", names())),
         }
     }
 
@@ -183,6 +192,20 @@ impl Reader {
         let numbers = numbers(field, rest)?;
         put(&mut self.set_up, field, &numbers);
         self.given.iter_mut().skip(first).take(count).for_each(|given| *given = line);
+        Ok(())
+    }
+
+    fn profile(&mut self, line: usize, rest: &[&str]) -> Result<(), Wrong> {
+        if !self.inputs.is_empty() {
+            return wrong("profile", "belongs to the set-up, which stands before the first tick");
+        }
+        if let Some((before, _)) = self.profile {
+            return wrong("profile", format!("given before, in line {before}"));
+        }
+        match PROFILES.iter().find(|(name, _)| rest == [*name]) {
+            Some((_, profile)) => self.profile = Some((line, *profile)),
+            None => return wrong("profile", format!("is {}", PROFILES.map(|(name, _)| name).join(" or "))),
+        }
         Ok(())
     }
 

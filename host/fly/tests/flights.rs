@@ -2,8 +2,8 @@
 
 use fly::flight::{Flight, Rule, RULES};
 use fly::table::{choices, passes, table};
-use fly::{curve, legs, output, pass};
-use fosavalo::{BodyRate, GyroFilter, Image, Pilot, SetUp, TickInput};
+use fly::{curve, legs, output, pass, rotor};
+use fosavalo::{BodyRate, GyroFilter, Image, Pilot, Profile, SetUp, TickInput};
 
 #[test]
 fn the_table() {
@@ -30,6 +30,22 @@ fn the_curve() {
         assert_eq!((curved.flight.strays(), curve::taken(&curved.flight.ticks)), (None, 0));
         assert!(curve::taken(&curved.before) > 0);
     }
+}
+
+/// And of the pass in which a rotor stops: with its own profile the aircraft comes down level and slowly, and no other number is asked of the third
+/// axis than 0.
+#[test]
+fn the_lost_rotor() {
+    let now = rotor::table().expect("no pass is refused");
+    assert_eq!(now, include_str!("rotor.txt"), "\n{now}");
+    for (choice, seed) in [rotor::SHOWN, rotor::ALONE].iter().flat_map(|choice| pass::SEEDS.map(|seed| (choice, seed))) {
+        let [lost, whole] = rotor::PROFILES.map(|profile| rotor::fly(choice, profile, seed).expect("no pass is refused"));
+        assert_eq!((lost.flight.strays(), whole.flight.strays(), lost.landed, whole.landed), (None, None, true, true));
+        assert!(lost.tilt < whole.tilt && 2.0 * lost.last_tilt < whole.last_tilt && 1.5 * lost.descent < whole.descent);
+        assert!(lost.spin > 5.0 && lost.flight.ticks.iter().all(|tick| (tick.answer.command.0[2], tick.answer.torque.0[2]) == (0.0, 0.0)));
+        assert!(whole.flight.ticks.iter().any(|tick| tick.answer.torque.0[2].abs() > 0.5));
+    }
+    assert_eq!(rotor::PROFILES, [Profile::LostRotor, Profile::Whole]);
 }
 
 /// The margin that is worked out beside it is the core's own, bit for bit, where nothing is commanded.

@@ -2,7 +2,7 @@
 
 use fly::flight::{Flight, Rule};
 use fly::scenario::{fields, Scenario, MOST_TICKS};
-use fosavalo::Pilot;
+use fosavalo::{Pilot, Profile};
 
 fn mistake(text: &str) -> String {
     match Scenario::read(text.as_bytes()) {
@@ -33,6 +33,11 @@ fn mistakes_name_their_line_and_field() {
     assert_eq!(mistake("row 1 2 3\n"), "line 1: row: takes 17 numbers, here are 3");
     assert!(mistake("\n\nGyro 0 0 0\n").starts_with("line 3: Gyro: no such field; there are k_r, "));
     assert!(mistake("enter 0.5\n").starts_with("no ticks: "));
+    assert_eq!(mistake("profile\ntick 1"), "line 1: profile: is whole or lost-rotor");
+    assert_eq!(mistake("profile 1\ntick 1"), "line 1: profile: is whole or lost-rotor");
+    assert_eq!(mistake("profile whole lost-rotor\ntick 1"), "line 1: profile: is whole or lost-rotor");
+    assert_eq!(mistake("profile whole\nprofile lost-rotor\ntick 1"), "line 2: profile: given before, in line 1");
+    assert_eq!(mistake("tick 1\nprofile whole"), "line 2: profile: belongs to the set-up, which stands before the first tick");
     assert_eq!(mistake(&format!("tick {MOST_TICKS}\ntick 1")), "line 2: tick: more than 1000000 ticks in all");
     assert_eq!(mistake("tick 99999999999999999999\n"), "line 1: tick: `99999999999999999999` is no whole number above 0");
     assert_eq!(
@@ -65,6 +70,7 @@ fn what_is_read() {
     let text = "enter 0x3f000000\nfc 80\nadrc_pitch 1 2 3 4\nyaw nan\ntick 2\nyaw 1\ntick 4 yaw 2 gyro 4 0 0 # evenly\n\
                 row 1 2 3 4 5 6 7 8 9 10 11 12 13 14 15 16 17";
     let Scenario { set_up, inputs, .. } = Scenario::read(text.as_bytes()).expect("it is a scenario");
+    assert_eq!(set_up.profile, Profile::Whole);
     assert_eq!((set_up.enter, set_up.exit, set_up.filter.fc, set_up.adrc[1].tau, set_up.adrc[2].b0), (0.5, 1.0, 80.0, 4.0, 18.0));
     assert!(inputs[0].yaw.is_nan() && inputs[1].yaw.is_nan());
     let led: Vec<(f32, f32)> = inputs[2..6].iter().map(|input| (input.yaw, input.gyro.0[0])).collect();
@@ -100,14 +106,18 @@ fn the_fields_are_documented() {
 /// Any bytes, and scenarios with a byte changed: a flight or a mistake, never a panic.
 #[test]
 fn any_bytes() {
-    let whole = [&include_bytes!("../scenarios/headings.txt")[..], include_bytes!("../scenarios/route.txt")];
+    let whole = [
+        &include_bytes!("../scenarios/headings.txt")[..],
+        include_bytes!("../scenarios/route.txt"),
+        include_bytes!("../scenarios/rotor.txt"),
+    ];
     let mut x = 1u64;
     let mut random = || {
         x = x.wrapping_mul(6364136223846793005).wrapping_add(1442695040888963407);
         (x >> 33) as usize
     };
     for round in 0..3000 {
-        let mut bytes = whole[round % 2].to_vec();
+        let mut bytes = whole[round % 3].to_vec();
         for _ in 0..1 + round % 5 {
             let at = random() % bytes.len();
             match random() % 3 {
@@ -139,6 +149,11 @@ fn the_examples() {
     use Pilot::{Fallback, Planner};
     assert_eq!(flew, [Planner, Fallback, Planner, Fallback, Planner, Planner]);
     assert_eq!(headings.ticks[450].answer.command.0, [0.0; 3]);
+    // no heading, a spin, and the third number of the planner's: only the tilting takes control
+    let rotor = pilots(include_bytes!("../scenarios/rotor.txt"), Rule::Shield);
+    let flew: Vec<Pilot> = [100, 300, 600, 950, 1100].iter().map(|at| rotor.ticks[*at].answer.pilot).collect();
+    assert_eq!(flew, [Planner, Planner, Planner, Fallback, Planner]);
+    assert_eq!((rotor.ticks[600].answer.command.0, rotor.ticks[600].input.planner.0[2]), ([0.1, 0.0, 0.0], 0.2));
     let clock = pilots(include_bytes!("../scenarios/clock.txt"), Rule::Shield);
     let time = |at: usize| clock.ticks[at].answer.time;
     assert!(time(199) > 0.0 && time(219) == time(199));

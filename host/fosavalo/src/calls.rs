@@ -96,7 +96,7 @@ pub fn cosf(x: f32) -> f32 {
     unsafe { raw::fosavalo_cosf(x) }
 }
 
-/// Writes a fresh image; what stood in it is not read. Gives 0, 1 or 2.
+/// Writes a fresh image; what stood in it is not read. Gives 0, 1, 2 or 10.
 #[inline]
 pub fn setup(image: &mut [u8], input: &[u8]) -> u32 {
     // SAFETY: each pointer goes with its slice's own length, the function is proved to stay within them, and borrowing keeps

@@ -1,8 +1,8 @@
 use crate::words::Take;
-use crate::{calls, Answer, FloatFault, Pilot, Refusal, Route, SetUp, TickInput, ANSWER_BYTES, IMAGE_BYTES, TICK_BYTES};
+use crate::{calls, Answer, FloatFault, Pilot, Profile, Refusal, Route, SetUp, TickInput, ANSWER_BYTES, IMAGE_BYTES, TICK_BYTES};
 use core::fmt;
 
-/// The state that goes from tick to tick: 380 bytes that may be copied, stored and sent.
+/// The state that goes from tick to tick: 384 bytes that may be copied, stored and sent.
 ///
 /// ```
 /// use fosavalo::{BodyRate, Image, Pilot, SetUp, TickInput};
@@ -22,7 +22,7 @@ pub struct Image {
 }
 
 impl Image {
-    /// A fresh image. Today the core refuses no set-up; what it mended, [`SetUp::mended`] tells.
+    /// A fresh image. The core refuses no set-up that a [`SetUp`] can say; what it mended, [`SetUp::mended`] tells.
     pub fn set_up(set_up: &SetUp) -> Result<Self, Refusal> {
         FloatFault::check()?;
         let mut bytes = [0; IMAGE_BYTES];
@@ -30,15 +30,16 @@ impl Image {
         Ok(Image { bytes })
     }
 
-    /// An image from bytes; refused where these are not 380. Whether it is broken is found by [`Image::check`] and by the next tick.
+    /// An image from bytes; refused where these are not 384, as an image from before there were profiles, which had 380. Whether it is
+    /// broken is found by [`Image::check`] and by the next tick.
     ///
     /// ```
     /// use fosavalo::{Image, Refusal, TickInput};
     ///
-    /// let mut blank = Image::from_bytes(&[0; 380])?;
+    /// let mut blank = Image::from_bytes(&[0; 384])?;
     /// assert_eq!(blank.check(), Err(Refusal::BrokenImage));
     /// assert_eq!(blank.tick(&TickInput::default()), Err(Refusal::BrokenImage));
-    /// assert_eq!(Image::from_bytes(&[0; 379]), Err(Refusal::ImageLength));
+    /// assert_eq!(Image::from_bytes(&[0; 380]), Err(Refusal::ImageLength));
     /// # Ok::<(), Refusal>(())
     /// ```
     pub fn from_bytes(bytes: &[u8]) -> Result<Self, Refusal> {
@@ -102,6 +103,20 @@ impl Image {
         f32::from_bits(self.word(16))
     }
 
+    /// What it was set up as; no tick changes it. None where the word is no profile's: then the image is broken.
+    ///
+    /// ```
+    /// use fosavalo::{Image, Profile, SetUp};
+    ///
+    /// let image = Image::set_up(&SetUp { profile: Profile::LostRotor, ..SetUp::falcon_quad() })?;
+    /// assert_eq!(image.profile(), Some(Profile::LostRotor));
+    /// assert_eq!(Image::from_bytes(&[2; 384])?.profile(), None);
+    /// # Ok::<(), fosavalo::Refusal>(())
+    /// ```
+    pub fn profile(&self) -> Option<Profile> {
+        Profile::from_word(self.word(95)).ok()
+    }
+
     fn word(&self, at: usize) -> u32 {
         Take(self.bytes.get(4 * at..).unwrap_or_default()).word()
     }
@@ -114,6 +129,7 @@ impl fmt::Debug for Image {
             .field("exit", &self.exit())
             .field("pilot", &self.pilot())
             .field("time", &self.time())
+            .field("profile", &self.profile())
             .finish_non_exhaustive()
     }
 }

@@ -4,7 +4,7 @@
 //! ```
 //! use fosavalo::{Image, Pilot, SetUp, TickInput};
 //!
-//! // the state that goes from tick to tick: 380 bytes, nothing allocated
+//! // the state that goes from tick to tick: 384 bytes, nothing allocated
 //! let mut image = Image::set_up(&SetUp::falcon_quad())?;
 //!
 //! // level and still: the margin is far above `exit`, so the planner flies
@@ -23,6 +23,7 @@
 //! | You have | You want |
 //! |---|---|
 //! | numbers | [`SetUp`], [`Image::set_up`], [`TickInput`], [`Image::tick`], [`Answer`] |
+//! | an aircraft that has lost a rotor | [`Profile::LostRotor`] |
 //! | a path of several legs | [`Leg`], [`Route`], [`Image::route_tick`] |
 //! | ticks to keep, or a flight to look at | [`Log`], [`LogView`], [`Record`] |
 //! | bytes of your own | [`calls`]: the C calls as they are, on slices |
@@ -60,13 +61,13 @@ pub use log::{Log, LogView, Record, Records};
 pub use mended::Mended;
 pub use refusal::Refusal;
 pub use route::{Leg, Route};
-pub use setup::{AdrcGains, Gains, Governor, GyroFilter, RecoverableSet, Segment, SetUp};
+pub use setup::{AdrcGains, Gains, Governor, GyroFilter, Profile, RecoverableSet, Segment, SetUp};
 pub use tick::{Answer, BodyRate, Pilot, TickInput, Torque};
 
 /// The length of an image.
-pub const IMAGE_BYTES: usize = 380;
+pub const IMAGE_BYTES: usize = 384;
 /// The length of what set-up is given.
-pub const SETUP_BYTES: usize = 200;
+pub const SETUP_BYTES: usize = 204;
 /// The length of what a tick is given.
 pub const TICK_BYTES: usize = 68;
 /// The length of what a tick answers.

@@ -5,7 +5,8 @@ use core::fmt;
 
 const LONGEST: usize = MOST_RECORDS * RECORD_BYTES + LOG_TRAILER_BYTES;
 
-/// A flight kept tick by tick: up to 65,535 records, in the order in which they were appended. Its bytes are what goes to a file.
+/// A flight kept tick by tick: up to 65,535 records, in the order in which they were appended. Its bytes are what goes to a file. It tells neither
+/// the thresholds nor the profile that the flight was set up with.
 ///
 /// ```
 /// use fosavalo::{Image, Log, LogView, Refusal, SetUp, TickInput};

@@ -3,7 +3,7 @@ use crate::{RECORD_BYTES, ROUTE_TRAILER_BYTES, SETUP_BYTES, TICK_BYTES};
 use core::fmt;
 
 /// Why a call was refused: the documents' number, with its meaning in words. Of 1 to 4 it is the lowest that holds; what is wrong with a
-/// route or a log comes after these. A refused call changed no byte. One refusal is the crate's own, before the core is called.
+/// profile, a route or a log comes after these. A refused call changed no byte. One refusal is the crate's own, before the core is called.
 ///
 /// ```
 /// use fosavalo::Refusal;
@@ -14,7 +14,7 @@ use core::fmt;
 ///
 /// // an error like any other
 /// fn fly() -> Result<(), Box<dyn std::error::Error>> {
-///     let mut image = fosavalo::Image::from_bytes(&[0; 380])?;
+///     let mut image = fosavalo::Image::from_bytes(&[0; 384])?;
 ///     image.tick(&fosavalo::TickInput::default())?;
 ///     Ok(())
 /// }
@@ -23,9 +23,9 @@ use core::fmt;
 #[derive(Clone, Copy, Debug, PartialEq, Eq, Hash)]
 #[non_exhaustive]
 pub enum Refusal {
-    /// 1: the image is not 380 bytes long.
+    /// 1: the image is not 384 bytes long.
     ImageLength,
-    /// 2: the input is not 200 bytes long at set-up, 68 at a tick and in a log; or what takes a log's count is not 4.
+    /// 2: the input is not 204 bytes long at set-up, 68 at a tick and in a log; or what takes a log's count is not 4.
     InputLength,
     /// 3: the answer is not 40 bytes long.
     AnswerLength,
@@ -42,6 +42,8 @@ pub enum Refusal {
     BrokenLog,
     /// 9: the buffer has under 108 bytes beyond the log, or the log has 65,535 records.
     NoRoom,
+    /// 10: the profile of a set-up is neither 0 nor 1.
+    WrongProfile,
     /// 13: the log has no record at that place.
     NoRecord,
     /// 14: what takes a record is not 108 bytes long.
@@ -74,6 +76,7 @@ impl Refusal {
             7 => Refusal::LegsApart(None),
             8 => Refusal::BrokenLog,
             9 => Refusal::NoRoom,
+            10 => Refusal::WrongProfile,
             13 => Refusal::NoRecord,
             14 => Refusal::RecordLength,
             other => Refusal::Other(other),
@@ -92,6 +95,7 @@ impl Refusal {
             Refusal::LegsApart(_) => 7,
             Refusal::BrokenLog => 8,
             Refusal::NoRoom => 9,
+            Refusal::WrongProfile => 10,
             Refusal::NoRecord => 13,
             Refusal::RecordLength => 14,
             Refusal::Floats(_) => return None,
@@ -134,6 +138,7 @@ impl fmt::Display for Meaning {
                 write!(f, "the log's length, its count, its bytes back and its last word, {RECORD_BYTES}, do not go together")
             }
             Refusal::NoRoom => write!(f, "the buffer has no room for {RECORD_BYTES} bytes more, or the log has {MOST_RECORDS} records"),
+            Refusal::WrongProfile => f.write_str("the profile is neither 0 nor 1"),
             Refusal::NoRecord => f.write_str("the log has no record at that place"),
             Refusal::RecordLength => write!(f, "the record is not {RECORD_BYTES} bytes long"),
             Refusal::Floats(fault) => fault.fmt(f),

@@ -15,7 +15,7 @@ pub struct Gains {
 /// What the margin is measured against: the smaller of `psi_max - psi` and `2 k_r (2 - psi) / lambda_j - |error|²`, where psi is one
 /// minus the cosine of the angle between the attitude and the wanted one, and the error is the filtered rate less the commanded one, which is
 /// what the trajectory and the yaw rate ask for. Where the wanted thrust is next to nothing there is no commanded rate, and all of the filtered
-/// rate counts.
+/// rate counts. [`Profile::LostRotor`] has an angle and an error of its own.
 #[derive(Clone, Copy, Debug, PartialEq)]
 pub struct RecoverableSet {
     /// The attitude gain that the set was worked out with.
@@ -97,7 +97,57 @@ pub struct GyroFilter {
     pub fs: f32,
 }
 
-/// All that a flight is set up with. Every bit pattern is taken; what is no use is mended.
+/// What there is to fly with.
+///
+/// ```
+/// use fosavalo::{BodyRate, Image, Pilot, Profile, SetUp, TickInput};
+///
+/// // spinning at 20 rad/s, with no heading: the planner flies, and nothing is asked about the third axis
+/// let mut image = Image::set_up(&SetUp { profile: Profile::LostRotor, ..SetUp::falcon_quad() })?;
+/// let spinning = TickInput { gyro: BodyRate([0.0, 0.0, 20.0]), yaw: f32::NAN, planner: BodyRate([0.5, 0.0, 2.0]), ..TickInput::default() };
+/// let answer = image.tick(&spinning)?;
+/// assert_eq!((answer.pilot, answer.margin), (Pilot::Planner, 1.75));
+/// assert_eq!((answer.command.0, answer.torque.0[2]), ([0.5, 0.0, 0.0], 0.0));
+/// # Ok::<(), fosavalo::Refusal>(())
+/// ```
+#[derive(Clone, Copy, Debug, Default, PartialEq, Eq, Hash)]
+pub enum Profile {
+    /// All rotors.
+    #[default]
+    Whole,
+    /// One rotor is lost, and with it the hold on yaw: the aircraft is brought down level. The attitude's error is that of the thrust axis alone,
+    /// psi is one minus the cosine of the angle to the wanted one, and the margin counts the first two filtered rates, all of them. The wanted
+    /// heading and its rate are not read. The command's third number and the third torque are 0, and the third axis's rate control stands still.
+    LostRotor,
+}
+
+impl Profile {
+    /// Its word in a set-up and in an image: 0 or 1.
+    pub const fn word(self) -> u32 {
+        match self {
+            Profile::Whole => 0,
+            Profile::LostRotor => 1,
+        }
+    }
+
+    /// From its word; refused where this is neither 0 nor 1.
+    ///
+    /// ```
+    /// use fosavalo::{Profile, Refusal};
+    ///
+    /// assert_eq!(Profile::from_word(1), Ok(Profile::LostRotor));
+    /// assert_eq!(Profile::from_word(2), Err(Refusal::WrongProfile));
+    /// ```
+    pub const fn from_word(word: u32) -> Result<Self, Refusal> {
+        match word {
+            0 => Ok(Profile::Whole),
+            1 => Ok(Profile::LostRotor),
+            _ => Err(Refusal::WrongProfile),
+        }
+    }
+}
+
+/// All that a flight is set up with. Every bit pattern of a number is taken; what is no use is mended.
 ///
 /// ```
 /// use fosavalo::{Image, SetUp};
@@ -125,10 +175,12 @@ pub struct SetUp {
     pub adrc: [AdrcGains; 3],
     /// The gyro's filter.
     pub filter: GyroFilter,
+    /// What there is to fly with.
+    pub profile: Profile,
 }
 
 impl SetUp {
-    /// relay's own gains for its quadrotor, hovering at the origin: a set of (1, 1, 1.75), enter 0.5, exit 1, no filter.
+    /// relay's own gains for its quadrotor, hovering at the origin: a set of (1, 1, 1.75), enter 0.5, exit 1, no filter, all rotors.
     pub const fn falcon_quad() -> Self {
         let tilt = AdrcGains { omega_o: 40.0, omega_c: 12.0, b0: 60.0, tau: 0.0125 };
         SetUp {
@@ -140,10 +192,11 @@ impl SetUp {
             segment: Segment { p0: [0.0; 3], v0: [0.0; 3], a0: [0.0; 3], pf: [0.0; 3], vf: [0.0; 3], af: [0.0; 3], t: 1.0 },
             adrc: [tilt, tilt, AdrcGains { omega_o: 30.0, omega_c: 3.0, b0: 18.0, tau: 0.025 }],
             filter: GyroFilter { fc: 0.0, fs: 1000.0 },
+            profile: Profile::Whole,
         }
     }
 
-    /// The fifty words.
+    /// The fifty-one words.
     ///
     /// ```
     /// use fosavalo::SetUp;
@@ -161,10 +214,11 @@ impl SetUp {
         self.segment.put(&mut to);
         self.adrc.into_iter().for_each(|a| to.floats([a.omega_o, a.omega_c, a.b0, a.tau]));
         to.floats([self.filter.fc, self.filter.fs]);
+        to.word(self.profile.word());
         bytes
     }
 
-    /// From fifty words; refused where these are not 200 bytes.
+    /// From fifty-one words; refused where these are not 204 bytes, then where the last is no profile's.
     pub fn from_bytes(bytes: &[u8]) -> Result<Self, Refusal> {
         if bytes.len() != SETUP_BYTES {
             return Err(Refusal::InputLength);
@@ -179,6 +233,7 @@ impl SetUp {
             segment: Segment::take(&mut from),
             adrc: core::array::from_fn(|_| AdrcGains { omega_o: from.float(), omega_c: from.float(), b0: from.float(), tau: from.float() }),
             filter: GyroFilter { fc: from.float(), fs: from.float() },
+            profile: Profile::from_word(from.word())?,
         })
     }
 }

@@ -61,7 +61,8 @@ pub struct TickInput {
     pub attitude: [f32; 4],
     /// How far the aircraft is from the trajectory, in metres.
     pub tracking_error: f32,
-    /// The wanted heading, rad. One that is no number, or beyond 8192 in size, leaves no wanted attitude: the fallback flies.
+    /// The wanted heading, rad. One that is no number, or beyond 8192 in size, leaves no wanted attitude: the fallback flies. With a rotor lost
+    /// ([`Profile::LostRotor`](crate::Profile::LostRotor)) neither this nor its rate is read.
     pub yaw: f32,
     /// Its rate, rad/s: commanded turning, which the margin does not count as error.
     pub yaw_rate: f32,
@@ -148,7 +149,7 @@ pub struct Answer {
     pub pilot: Pilot,
     /// The time along the trajectory, s; it may reach +infinity.
     pub time: f32,
-    /// One minus the cosine of the attitude's error; NaN where there is no wanted attitude.
+    /// One minus the cosine of the attitude's error, with a rotor lost of the thrust axis's; NaN where there is none that is wanted.
     pub psi: f32,
     /// What is left before the set is lost; minus infinity where that is not known.
     pub margin: f32,

@@ -1,6 +1,6 @@
 //! Any bytes at all: nothing panics, what is written is read back, and the typed calls are the C calls.
 
-use fosavalo::{calls, Answer, Image, Leg, Log, LogView, Record, Refusal, Route, SetUp, TickInput, EMPTY_LOG};
+use fosavalo::{calls, Answer, Image, Leg, Log, LogView, Profile, Record, Refusal, Route, SetUp, TickInput, EMPTY_LOG};
 use fosavalo::{ANSWER_BYTES, IMAGE_BYTES, LEG_BYTES, MOST_LEGS, ROUTE_TRAILER_BYTES, SETUP_BYTES, TICK_BYTES};
 use fosavalo::{LOG_TRAILER_BYTES, MOST_RECORDS, RECORD_BYTES};
 
@@ -34,6 +34,9 @@ fn words_go_there_and_back() {
         rng.fill(&mut tick);
         rng.fill(&mut answer);
         answer[24..28].copy_from_slice(&((rng.next() & 1) as u32).to_le_bytes());
+        let none = u32::from_le_bytes([set_up[200], set_up[201], set_up[202], set_up[203]]) > 1;
+        assert_eq!(SetUp::from_bytes(&set_up).err(), none.then_some(Refusal::WrongProfile));
+        set_up[200..].copy_from_slice(&((rng.next() & 1) as u32).to_le_bytes());
         assert_eq!(SetUp::from_bytes(&set_up).map(|s| s.to_bytes()), Ok(set_up));
         assert_eq!(TickInput::from_bytes(&tick).map(|t| t.to_bytes()), Ok(tick));
         assert_eq!(Answer::from_bytes(&answer).map(|a| a.to_bytes()), Ok(answer));
@@ -47,6 +50,10 @@ fn the_typed_calls_are_the_c_calls() {
     for _ in 0..2_000 {
         rng.fill(&mut set_up);
         let mut bytes = [0xa5; IMAGE_BYTES];
+        set_up[200..].copy_from_slice(&2u32.to_le_bytes());
+        assert_eq!((calls::setup(&mut bytes, &set_up), bytes), (10, [0xa5; IMAGE_BYTES]));
+        let profile = (rng.next() & 1) as u32;
+        set_up[200..].copy_from_slice(&profile.to_le_bytes());
         assert_eq!(calls::setup(&mut bytes, &set_up), 0);
         let mut image = SetUp::from_bytes(&set_up).and_then(|s| Image::set_up(&s)).expect("no set-up is refused");
         assert_eq!(image.as_bytes(), &bytes);
@@ -58,6 +65,7 @@ fn the_typed_calls_are_the_c_calls() {
             assert_eq!(typed.to_bytes(), answer);
             assert_eq!(image.as_bytes(), &bytes);
             assert_eq!((image.pilot(), image.time().to_bits()), (typed.pilot, typed.time.to_bits()));
+            assert_eq!(image.profile().map(Profile::word), Some(profile));
         }
     }
 }
@@ -104,7 +112,7 @@ fn routes_of_any_legs() {
                 assert_eq!((number, route.as_bytes()), (0, &bytes[..]));
                 let legs: Vec<Leg> = route.legs().collect();
                 assert_eq!((legs.len(), route.len(), Route::new(&legs)), (count, count, Ok(route.clone())));
-                let mut typed = Image::from_bytes(&fresh).expect("it is 380 bytes long");
+                let mut typed = Image::from_bytes(&fresh).expect("it is 384 bytes long");
                 let said = TickInput::from_bytes(&tick).and_then(|t| typed.route_tick(&t, &route)).expect("a route is checked");
                 assert_eq!((said.to_bytes(), typed.as_bytes()), (answer, &image));
                 let _ = format!("{route:?}");
@@ -232,8 +240,8 @@ fn images_of_any_bytes() {
             let at = 4 * (rng.next() % (IMAGE_BYTES as u64 / 4)) as usize;
             rng.fill(&mut bytes[at..at + 4]);
         }
-        let mut image = Image::from_bytes(&bytes).expect("it is 380 bytes long");
-        let _ = format!("{image:?} {} {} {}", image.enter(), image.exit(), image.time());
+        let mut image = Image::from_bytes(&bytes).expect("it is 384 bytes long");
+        let _ = format!("{image:?} {} {} {} {:?}", image.enter(), image.exit(), image.time(), image.profile());
         if let Err(refusal) = image.tick(&TickInput::default()) {
             assert_eq!(refusal, Refusal::BrokenImage);
             assert_eq!(image.as_bytes(), &bytes);

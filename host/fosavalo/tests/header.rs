@@ -155,6 +155,7 @@ fn lengths_numbers_and_words() {
         ("LEGS_APART", Refusal::LegsApart(None)),
         ("BROKEN_LOG", Refusal::BrokenLog),
         ("NO_ROOM", Refusal::NoRoom),
+        ("WRONG_PROFILE", Refusal::WrongProfile),
         ("NO_RECORD", Refusal::NoRecord),
         ("WRONG_RECORD_LENGTH", Refusal::RecordLength),
     ];
@@ -228,6 +229,7 @@ fn words_stand_where_the_definitions_have_them() {
         block("IMAGE", "SEGMENT", &names(&quintic), 1, 3),
         block("IMAGE", "RATE", &names(&axis), 1, 3),
         block("IMAGE", "LPF", &names(&biquad), 1, 3),
+        block("IMAGE", "PROFILE", &["profile"], 1, 1),
     ];
     let set_up = [
         block("SETUP", "SETUP-GAINS", &names(&gains), 3, 1),
@@ -239,6 +241,7 @@ fn words_stand_where_the_definitions_have_them() {
         block("SETUP", "SETUP-ADRC", &names(&adrc), 1, 3),
         block("SETUP", "SETUP-FC", &["fc"], 1, 1),
         block("SETUP", "SETUP-FS", &["fs"], 1, 1),
+        block("SETUP", "SETUP-PROFILE", &["profile"], 1, 1),
     ];
     let input = [
         block("TICK", "GYRO", &["gyro"], 3, 1),

@@ -34,7 +34,8 @@ fn of_any_bits() {
     for _ in 0..100_000 {
         let mut bytes = [0; SETUP_BYTES];
         bytes.chunks_exact_mut(4).for_each(|four| four.copy_from_slice(&float(&mut next).to_le_bytes()));
-        let given = SetUp::from_bytes(&bytes).expect("it is 200 bytes long");
+        bytes[200..].copy_from_slice(&((next() >> 32) as u32 & 1).to_le_bytes());
+        let given = SetUp::from_bytes(&bytes).expect("it is a set-up's");
         let kept = given.kept();
         let mut images = [[0; IMAGE_BYTES]; 2];
         assert_eq!(calls::setup(&mut images[0], &bytes) + calls::setup(&mut images[1], &kept.to_bytes()), 0);

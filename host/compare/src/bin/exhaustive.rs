@@ -1,7 +1,10 @@
-//! Every f32: the root, the size and finiteness against the hardware, sine and cosine against the true value.
+//! Every f32: the root, the size and finiteness against the hardware, sine and cosine against document 01 and the true value. And every profile word of an image.
 
+use compare::joint::bytes::{put, ANSWER, IMAGE, PROFILE, SETUP, TICK};
 use compare::numbers;
 use compare::println;
+use compare::threads;
+use std::sync::atomic::{AtomicU64, Ordering};
 
 fn report(name: &str, found: numbers::Found) -> bool {
     print!("{name}: {} patterns", found.cases);
@@ -33,6 +36,29 @@ fn beside(name: &str, found: numbers::Apart) {
     );
 }
 
+/// Of all values of word 95 of a good image, a tick is told to take 0 and 1, and to refuse the others with 4.
+fn profiles() -> bool {
+    let (taken, wrong) = (AtomicU64::new(0), AtomicU64::new(0));
+    threads::each(1 << 16, |high| {
+        let mut image = [0; IMAGE];
+        faces::setup(&mut image, &[0; SETUP]);
+        let (mut own, mut off) = (0, 0);
+        for low in 0..1 << 16 {
+            let profile = (high as u32) << 16 | low;
+            put(&mut image, PROFILE, profile);
+            let number = faces::tick_refusal(&image, TICK, ANSWER);
+            own += u64::from(number == 0);
+            off += u64::from(number != if profile < 2 { 0 } else { 4 });
+        }
+        taken.fetch_add(own, Ordering::Relaxed);
+        wrong.fetch_add(off, Ordering::Relaxed);
+        false
+    });
+    let (taken, wrong) = (taken.into_inner(), wrong.into_inner());
+    println!("word 95 of an image, every value: {taken} taken, {wrong} wrong");
+    (taken, wrong) == (2, 0)
+}
+
 fn main() {
     let mut good = report("root, size, finiteness against the hardware", numbers::hardware(1));
     good &= report("sine and cosine up to 8192 against the true value, for the record", numbers::angles(1));
@@ -41,6 +67,7 @@ fn main() {
     report("the published kernels up to 128, for the record", numbers::published(7));
     beside("sine", numbers::apart(1, faces::sinf, relay_math_published::sinf));
     beside("cosine", numbers::apart(1, faces::cosf, relay_math_published::cosf));
+    good &= profiles();
     let numbers::Checksum { cases, sum } = numbers::checksum();
     println!("sine and cosine up to 128: checksum {sum:016x} over {cases} sizes of either sign");
     if !good {

@@ -6,9 +6,10 @@ pub fn planner_flies(margins: &[f32], enter: f32, exit: f32) -> bool {
     margins.iter().rev().take_while(|m| m.is_finite() && !(**m < enter)).any(|m| *m > exit)
 }
 
-/// What is passed on: the planner's words as they are, non-finite ones made +0.0.
-pub fn passed_on(agile: [u32; 3]) -> [u32; 3] {
-    agile.map(|word| if word & 0x7f80_0000 == 0x7f80_0000 { 0 } else { word })
+/// What is passed on: the planner's words as they are, non-finite ones made +0.0, and with a rotor lost (profile 1) the third too.
+pub fn passed_on(profile: u32, agile: [u32; 3]) -> [u32; 3] {
+    let [x, y, z] = agile.map(|word| if word & 0x7f80_0000 == 0x7f80_0000 { 0 } else { word });
+    [x, y, if profile == 1 { 0 } else { z }]
 }
 
 #[cfg(test)]
@@ -39,7 +40,13 @@ mod tests {
 
     #[test]
     fn only_what_is_not_finite_is_made_zero() {
-        assert_eq!(passed_on([0x8000_0000, 0x7f7f_ffff, 0x7f80_0000]), [0x8000_0000, 0x7f7f_ffff, 0]);
-        assert_eq!(passed_on([0xff80_0000, 0xffff_ffff, 1]), [0, 0, 1]);
+        assert_eq!(passed_on(0, [0x8000_0000, 0x7f7f_ffff, 0x7f80_0000]), [0x8000_0000, 0x7f7f_ffff, 0]);
+        assert_eq!(passed_on(0, [0xff80_0000, 0xffff_ffff, 1]), [0, 0, 1]);
+    }
+
+    #[test]
+    fn with_a_rotor_lost_the_third_is_zero() {
+        assert_eq!(passed_on(1, [0x8000_0000, 0x7f80_0000, 0x8000_0000]), [0x8000_0000, 0, 0]);
+        assert_eq!(passed_on(1, [1, 2, 0x3f80_0000]), [1, 2, 0]);
     }
 }

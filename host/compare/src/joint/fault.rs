@@ -58,8 +58,33 @@ faults! {
         RefusedAsZeros = "a refused feedforward taken for zeros";
         ZerosAsRefused = "a feedforward of zeros taken for refused";
     }
+    /// Those of the profiles.
+    WRONG_PROFILE {
+        ThirdRate = "the third rate in the squared one";
+        ErrorSquared = "the rate less what is commanded, squared, with a rotor lost";
+        ThirdUnfiltered = "the third gyro not filtered";
+        WholeError = "the whole attitude error with a rotor lost";
+        SetGain = "the fallback with the set's k_r";
+        PlusError = "plus k_r times the reduced error";
+        AheadAdded = "the feedforward added with a rotor lost";
+        MinusThird = "minus k_r times the reduced error's third";
+        PsiOfAttitude = "psi of R_d with a rotor lost";
+        YawRead = "a heading that is no number refused with a rotor lost";
+        PlannerThird = "the planner's third kept";
+        ThirdFraction = "the third fraction set";
+        ThirdTicks = "the third axis ticked, its torque zero";
+        ThirdTorque = "the third torque given, its axis left";
+        ThirdNan = "a NaN of the third axis left as it is";
+        ProfileLost = "a tick that leaves profile 0";
+        ProfileUnread = "the old rules at either profile";
+        AnyProfile = "any profile taken at a tick";
+        AnySetUp = "any profile taken at set-up";
+        ProfileFirst = "10 before 2";
+        OldCount = "word 0 = 95 taken";
+    }
     /// And those of route ticks alone.
     WRONG_ON_ROUTES {
+        WholeOnRoutes = "route ticks by the old rules at either profile";
         EarlierAtEnd = "a time equal to an end flies the earlier leg";
         RawDurations = "raw durations summed";
         WideSum = "ends summed in f64";

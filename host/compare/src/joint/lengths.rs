@@ -1,9 +1,9 @@
 //! Every length from 0 to 400 of each buffer, all together, between guards: the number, and not a byte changed. And of a route from 0 to 700.
 
-use super::bytes::{put, ANSWER, IMAGE, LEG, TICK, TRAILER};
+use super::bytes::{put, ANSWER, IMAGE, LEG, SETUP_PROFILE, TICK, TRAILER};
 use super::fault::Fault;
 use super::lent::{Hands, Lent, Short, LONGEST};
-use super::model::{self, Flight};
+use super::model::{self, Flight, Profile};
 use super::pilot::Pilot;
 use super::route::Source;
 use super::{Call, Face};
@@ -21,7 +21,7 @@ fn beginning(image: &[u8], input: &[u8]) -> Hands {
 
 /// Those of a tick.
 fn of_a_tick() -> Hands {
-    let (mut pilot, mut image) = (Pilot::on_a_pass(0), [0; IMAGE]);
+    let (mut pilot, mut image) = (Pilot::on_a_pass(Profile::LostRotor, 0), [0; IMAGE]);
     let flight = Flight::set_up(&pilot.set_up());
     flight.write(&mut image);
     beginning(&image, &pilot.next(&flight, &Source::Segment))
@@ -55,10 +55,12 @@ fn with_image(face: Face, call: Call, image: usize, before: &Hands) -> Result<u6
     Ok(calls)
 }
 
-/// Set-up at every pair of lengths; how many calls.
+/// Set-up at every pair of lengths, with a profile and with none; how many calls.
 pub fn setups(face: Face) -> Result<u64, String> {
-    let before = beginning(&[], &Pilot::on_a_pass(0).set_up());
-    (0..=LONGEST).map(|image| with_image(face, Call::SetUp, image, &before)).sum()
+    let good = beginning(&[], &Pilot::on_a_pass(Profile::Whole, 0).set_up());
+    let mut none = good.clone();
+    put(none.input.bytes_mut(), SETUP_PROFILE, 2);
+    [good, none].iter().flat_map(|before| (0..=LONGEST).map(|image| with_image(face, Call::SetUp, image, before))).sum()
 }
 
 /// A tick at every three lengths, on a good image and on a broken one; how many calls.

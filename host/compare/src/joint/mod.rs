@@ -1,4 +1,4 @@
-//! The joint tick, which is new, on its segment and on routes: the archive's calls beside the Rust's own calls made in the documents' order.
+//! The joint tick, which is new, in both profiles, on its segment and on routes: the archive's calls beside the Rust's own calls made in the documents' order.
 //!
 //! `model` is what is expected, of Rust objects, `route` of a route; `refusal` the table of numbers; `fault` what each of them can be made
 //! wrong by; `pilot` what comes in, `guide` which calls and which routes; `runs` the comparison, every byte after every call; `demand` looks

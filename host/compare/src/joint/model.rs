@@ -1,12 +1,12 @@
 //! What is expected of set-up and tick: the Rust's own objects, made by its constructors, and its own calls in document 01's
 //! order. Between ticks the objects are kept; a damaged image makes them anew from its words. With a fault a tick is wrong in one place.
 
-use super::bytes::{Put, Take, ANSWER, IMAGE, WORDS};
+use super::bytes::{put, Put, Take, ANSWER, IMAGE, PROFILE, WORDS};
 use super::fault::Fault;
 use super::lent::Lending;
 use super::route::Source;
 use super::{refusal, Call};
-use oracle::adrc::{AdrcGains, AdrcRate, GyroLpf};
+use oracle::adrc::{AdrcAxis, AdrcGains, AdrcRate, GyroLpf};
 use oracle::geo::{self, GeoAtt, GeoGains, Mat3, RecoverableSet, SimplexShield, Vec3};
 use oracle::traj::{RefGovernor, Sample3, Segment3};
 use std::cell::Cell;
@@ -19,12 +19,60 @@ pub struct Flight {
     segment: Segment3,
     rate: AdrcRate,
     lpf: GyroLpf,
+    profile: Profile,
+}
+
+/// Document 02's: "0 the old rules, 1 the lost rotor". Other words are refused before.
+#[derive(Clone, Copy, PartialEq, Eq, Debug)]
+pub enum Profile {
+    Whole,
+    LostRotor,
+}
+
+impl Profile {
+    #[inline]
+    pub fn of(word: u32) -> Self {
+        if word == 1 {
+            Profile::LostRotor
+        } else {
+            Profile::Whole
+        }
+    }
+}
+
+/// What the trajectory and the camera want: acceleration and jerk cleaned, the heading and its rate as they came.
+struct Wanted {
+    acc: Vec3,
+    jerk: Vec3,
+    yaw: f32,
+    yaw_rate: f32,
+}
+
+/// What a tick is guided to, and which way that came about, as in `Way`.
+struct Guided {
+    fallback: Vec3,
+    psi: f32,
+    margin: f32,
+    there: bool,
+    ahead: bool,
+    turning: Option<(Ahead, bool)>,
+}
+
+impl Guided {
+    /// With no R_d; with a rotor lost, with no thrust axis.
+    #[inline]
+    fn nowhere(fault: Fault) -> Self {
+        let psi = if fault == Fault::PsiZero { 0.0 } else { f32::NAN };
+        Guided { fallback: [0.0; 3], psi, margin: f32::NEG_INFINITY, there: false, ahead: false, turning: None }
+    }
 }
 
 /// Which way a tick went, for the counts of a run.
 #[derive(Clone, Copy)]
 pub struct Way {
-    pub attitude: bool,
+    pub profile: Profile,
+    /// R_d; with a rotor lost, the thrust axis.
+    pub there: bool,
     pub feedforward: bool,
     pub at_the_end: bool,
     pub time: f32,
@@ -61,7 +109,8 @@ impl Flight {
         let governor = RefGovernor::new(i.float(), i.float(), i.float());
         let segment = Segment3::new(i.floats(), i.floats(), i.floats(), i.floats(), i.floats(), i.floats(), i.float());
         let rate = AdrcRate::new(i.axes().map(|[omega_o, omega_c, b0, tau]| AdrcGains::with_tau(omega_o, omega_c, b0, tau)));
-        Flight { controller, shield, governor, segment, rate, lpf: GyroLpf::new(i.float(), i.float()) }
+        let lpf = GyroLpf::new(i.float(), i.float());
+        Flight { controller, shield, governor, segment, rate, lpf, profile: Profile::of(i.word()) }
     }
 
     /// From the words of an image that row 4 does not refuse. (At one that it does, the Rust may panic in a tick.)
@@ -78,6 +127,7 @@ impl Flight {
             segment: Segment3::from_words(i.axes()),
             rate: AdrcRate::from_words(i.axes()),
             lpf: GyroLpf::from_words(i.axes()),
+            profile: Profile::of(i.word()),
         }
     }
 
@@ -94,6 +144,7 @@ impl Flight {
         o.axes(self.segment.words());
         o.axes(self.rate.words());
         o.axes(self.lpf.words());
+        o.word(self.profile as u32);
     }
 
     /// One tick, and the answer's words.
@@ -116,48 +167,34 @@ impl Flight {
             Fault::StepOfGovernor if !(dt.is_finite() && dt > 0.0) => 0.0,
             _ => dt,
         };
+        let profile = match (fault, source) {
+            (Fault::ProfileUnread, _) | (Fault::WholeOnRoutes, Source::Route(_)) => Profile::Whole,
+            _ => self.profile,
+        };
 
         match fault {
-            Fault::FractionNow => self.rate.set_delivered_fraction([1.0; 3]),
+            Fault::FractionNow => self.set_fractions(fault, profile, [1.0; 3]),
             Fault::FractionLate => {}
-            _ => self.rate.set_delivered_fraction(fraction),
+            _ => self.set_fractions(fault, profile, fraction),
         }
+        let filters = if fault == Fault::ThirdUnfiltered { Some(self.lpf.words()) } else { None };
         let omega = self.lpf.filter(gyro);
+        if let (Some([_, _, third]), Profile::LostRotor) = (filters, profile) {
+            let [roll, pitch, _] = self.lpf.words();
+            self.lpf = GyroLpf::from_words([roll, pitch, third]);
+        }
         let before = self.governor.time();
         let time = self.governor.advance(track_err, dt);
         let (sample, at) = self.sample(fault, source, time);
-        let (acc, jerk) = (geo::private::sanitise3(sample.acc), geo::private::sanitise3(sample.jerk));
-        let r = geo::quat_to_rotmat(q);
-        let r_d = attitude(acc, yaw);
-
-        let wanted = self.controller.desired_rate(q, acc, yaw);
-        let ahead = geo::flatness_omega_ff(acc, jerk, yaw, yaw_rate).filter(|_| r_d.is_some());
-        let fallback = match ahead {
-            Some(ff) => [wanted[0] + ff[0], wanted[1] + ff[1], wanted[2] + ff[2]],
-            None if fault == Fault::PlusZero => wanted.map(|x| x + 0.0),
-            None => wanted,
+        let wanted = Wanted { acc: geo::private::sanitise3(sample.acc), jerk: geo::private::sanitise3(sample.jerk), yaw, yaw_rate };
+        let rate = if fault == Fault::RawRate { gyro } else { omega };
+        let Guided { fallback, psi, margin, there, ahead, turning } = match profile {
+            Profile::Whole => self.guide(fault, q, rate, &wanted),
+            Profile::LostRotor => self.guide_lost_rotor(fault, q, rate, &wanted),
         };
-        let mut turning = None;
-        let (psi, margin) = match r_d {
-            Some(r_d) => {
-                let [k_r, lambda_j, psi_max, ..] = self.shield.words();
-                let k_r = if fault == Fault::OtherGain { self.controller.words()[0][0] } else { k_r };
-                let rate = if fault == Fault::RawRate { gyro } else { omega };
-                let psi = GeoAtt::psi(&r, &r_d);
-                let product = product(&r, &r_d);
-                let whole = product.iter().flatten().all(|entry| entry.is_finite());
-                turning = psi.is_finite().then_some((Ahead::of(ahead), whole));
-                let error = match (fault, Ahead::of(ahead)) {
-                    (Fault::WholeRate, _) | (Fault::ZerosAsRefused, Ahead::Zeros) => rate,
-                    (Fault::VectorFirst, _) => rate_error(rate, &geo::private::transpose3(r), ahead.map(|ff| times(&r_d, ff))),
-                    (Fault::OtherTransposed, _) => rate_error(rate, &geo::private::transpose3(product), ahead),
-                    (Fault::PlusCommanded, _) => rate_error(rate, &product, ahead.map(|ff| ff.map(|x| -x))),
-                    (Fault::RefusedAsZeros, _) => rate_error(rate, &product, ahead.or(Some([0.0; 3]))),
-                    _ => rate_error(rate, &product, ahead),
-                };
-                (psi, RecoverableSet::new(k_r, lambda_j, psi_max).margin(psi, geo::private::dot(error, error)))
-            }
-            None => (if fault == Fault::PsiZero { 0.0 } else { f32::NAN }, f32::NEG_INFINITY),
+        let planner = match profile {
+            Profile::LostRotor if fault != Fault::PlannerThird => [agile[0], agile[1], 0.0],
+            _ => agile,
         };
         let [.., enter, exit] = self.shield.words();
         let told = match fault {
@@ -166,17 +203,18 @@ impl Flight {
             Fault::EngagedAtEnter if margin == enter => f32::NAN,
             _ => margin,
         };
-        let (command, flag) = match (fault, self.shield.step(told, agile, fallback)) {
-            (Fault::NoCleaning, (_, flag)) => (if flag { fallback } else { agile }, flag),
+        let (command, flag) = match (fault, self.shield.step(told, planner, fallback)) {
+            (Fault::NoCleaning, (_, flag)) => (if flag { fallback } else { planner }, flag),
             (_, picked) => picked,
         };
-        let mut torque = self.rate.tick(omega, command, dt);
+        let mut torque = self.follow(fault, profile, omega, command, dt);
         match fault {
-            Fault::FractionLate => self.rate.set_delivered_fraction(fraction),
+            Fault::FractionLate => self.set_fractions(fault, profile, fraction),
             Fault::FractionNow => {
-                self.rate.set_delivered_fraction(fraction);
+                self.set_fractions(fault, profile, fraction);
                 let mut axes = self.rate.words();
-                for (u, axis) in torque.iter_mut().zip(&mut axes) {
+                let moved = if profile == Profile::LostRotor { 2 } else { 3 };
+                for (u, axis) in torque.iter_mut().zip(&mut axes).take(moved) {
                     *u *= axis[4];
                     axis[2] = *u;
                 }
@@ -194,7 +232,118 @@ impl Flight {
         o.floats(command);
         o.word(u32::from(flag));
         o.floats([if fault == Fault::TimeBefore { before } else { time }, psi, margin]);
-        Way { attitude: r_d.is_some(), feedforward: ahead.is_some(), at_the_end: time == f32::INFINITY, time, turning }
+        Way { profile, there, feedforward: ahead, at_the_end: time == f32::INFINITY, time, turning }
+    }
+
+    /// By the old rules: the fallback, psi and the margin.
+    #[inline]
+    fn guide(&self, fault: Fault, q: [f32; 4], rate: Vec3, &Wanted { acc, jerk, yaw, yaw_rate }: &Wanted) -> Guided {
+        let r = geo::quat_to_rotmat(q);
+        let r_d = attitude(acc, yaw);
+
+        let wanted = self.controller.desired_rate(q, acc, yaw);
+        let ahead = geo::flatness_omega_ff(acc, jerk, yaw, yaw_rate).filter(|_| r_d.is_some());
+        let fallback = match ahead {
+            Some(ff) => [wanted[0] + ff[0], wanted[1] + ff[1], wanted[2] + ff[2]],
+            None if fault == Fault::PlusZero => wanted.map(|x| x + 0.0),
+            None => wanted,
+        };
+        let Some(r_d) = r_d else {
+            return Guided { fallback, ..Guided::nowhere(fault) };
+        };
+        let psi = GeoAtt::psi(&r, &r_d);
+        let product = product(&r, &r_d);
+        let whole = product.iter().flatten().all(|entry| entry.is_finite());
+        let error = match (fault, Ahead::of(ahead)) {
+            (Fault::WholeRate, _) | (Fault::ZerosAsRefused, Ahead::Zeros) => rate,
+            (Fault::VectorFirst, _) => rate_error(rate, &geo::private::transpose3(r), ahead.map(|ff| times(&r_d, ff))),
+            (Fault::OtherTransposed, _) => rate_error(rate, &geo::private::transpose3(product), ahead),
+            (Fault::PlusCommanded, _) => rate_error(rate, &product, ahead.map(|ff| ff.map(|x| -x))),
+            (Fault::RefusedAsZeros, _) => rate_error(rate, &product, ahead.or(Some([0.0; 3]))),
+            _ => rate_error(rate, &product, ahead),
+        };
+        let margin = self.set(fault).margin(psi, geo::private::dot(error, error));
+        let turning = psi.is_finite().then_some((Ahead::of(ahead), whole));
+        Guided { fallback, psi, margin, there: true, ahead: ahead.is_some(), turning }
+    }
+
+    /// Request Six, with a rotor lost: toward the thrust axis alone.
+    #[inline]
+    fn guide_lost_rotor(&self, fault: Fault, q: [f32; 4], rate: Vec3, &Wanted { acc, jerk, yaw, yaw_rate }: &Wanted) -> Guided {
+        let r = geo::quat_to_rotmat(q);
+        let axis = match fault {
+            Fault::YawRead => geo::thrust_axis_ned(acc).filter(|_| attitude(acc, yaw).is_some()),
+            _ => geo::thrust_axis_ned(acc),
+        };
+        let Some(b3) = axis else {
+            return Guided::nowhere(fault);
+        };
+
+        let error = match fault {
+            Fault::WholeError => attitude(acc, yaw).map_or([0.0; 3], |r_d| GeoAtt::attitude_error(&r, &r_d)),
+            _ => GeoAtt::attitude_error_reduced(&r, b3),
+        };
+        let [own, ..] = self.controller.words();
+        let k_r = match fault {
+            Fault::SetGain => [self.set(fault).k_r; 3],
+            Fault::PlusError => own.map(|k| -k),
+            _ => own,
+        };
+        let third = if fault == Fault::MinusThird { -k_r[2] * error[2] } else { 0.0 };
+        let mut fallback = [-k_r[0] * error[0], -k_r[1] * error[1], third];
+        let psi = match fault {
+            Fault::PsiOfAttitude => attitude(acc, yaw).map_or(f32::NAN, |r_d| GeoAtt::psi(&r, &r_d)),
+            _ => 1.0 - geo::private::dot(r.map(|row| row[2]), b3),
+        };
+        let mut squared = rate[0] * rate[0] + rate[1] * rate[1];
+        let ahead = || geo::flatness_omega_ff(acc, jerk, yaw, yaw_rate);
+        match fault {
+            Fault::ThirdRate => squared = geo::private::dot(rate, rate),
+            Fault::AheadAdded => ahead().into_iter().for_each(|ff| (0..2).for_each(|k| fallback[k] += ff[k])),
+            Fault::ErrorSquared => {
+                if let Some(r_d) = attitude(acc, yaw) {
+                    let [x, y, _] = rate_error(rate, &product(&r, &r_d), ahead());
+                    squared = x * x + y * y;
+                }
+            }
+            _ => {}
+        }
+        Guided { fallback, psi, margin: self.set(fault).margin(psi, squared), there: true, ahead: false, turning: None }
+    }
+
+    /// The shield's set.
+    #[inline]
+    fn set(&self, fault: Fault) -> RecoverableSet {
+        let [k_r, lambda_j, psi_max, ..] = self.shield.words();
+        RecoverableSet::new(if fault == Fault::OtherGain { self.controller.words()[0][0] } else { k_r }, lambda_j, psi_max)
+    }
+
+    /// "The third ADRC axis is left as it was, its fraction included, and its torque is zero."
+    #[inline]
+    fn set_fractions(&mut self, fault: Fault, profile: Profile, fraction: Vec3) {
+        if profile == Profile::Whole || fault == Fault::ThirdFraction {
+            return self.rate.set_delivered_fraction(fraction);
+        }
+        let [mut roll, mut pitch, yaw] = self.rate.words().map(AdrcAxis::from_words);
+        roll.set_delivered_fraction(fraction[0]);
+        pitch.set_delivered_fraction(fraction[1]);
+        self.rate = AdrcRate::from_words([roll, pitch, yaw].map(|axis| axis.words()));
+    }
+
+    #[inline]
+    fn follow(&mut self, fault: Fault, profile: Profile, omega: Vec3, command: Vec3, dt: f32) -> Vec3 {
+        if profile == Profile::Whole {
+            return self.rate.tick(omega, command, dt);
+        }
+        let [mut roll, mut pitch, yaw] = self.rate.words().map(AdrcAxis::from_words);
+        let mut torque = [roll.tick(omega[0], command[0], dt), pitch.tick(omega[1], command[1], dt), 0.0];
+        let mut third = yaw;
+        if matches!(fault, Fault::ThirdTicks | Fault::ThirdTorque) {
+            let u = third.tick(omega[2], command[2], dt);
+            (third, torque[2]) = if fault == Fault::ThirdTicks { (third, 0.0) } else { (yaw, u) };
+        }
+        self.rate = AdrcRate::from_words([roll, pitch, third].map(|axis| axis.words()));
+        torque
     }
 
     /// The attitude that a tick with these inputs would want, and the feedforward.
@@ -278,6 +427,8 @@ fn tick(fault: Fault, source: &Source, image: &mut [u8], input: &[u8], answer: &
     flight.write(image);
     match fault {
         Fault::KeptNan => [4..60, 68..164].into_iter().for_each(|kept| image[kept.clone()].copy_from_slice(&old[kept])),
+        Fault::ThirdNan if flight.profile == Profile::LostRotor => image[236..272].copy_from_slice(&old[236..272]),
+        Fault::ProfileLost => put(image, PROFILE, 0),
         Fault::Untouched => image.copy_from_slice(&old),
         Fault::Constant => answer.fill(0),
         Fault::Echo => {

@@ -1,7 +1,7 @@
 //! What comes in: set-ups, ticks and damage. All of it depends on the run's number alone.
 
-use super::bytes::{put, raw, word, SETUP, TICK, WORDS};
-use super::model::{product, times, Flight};
+use super::bytes::{put, raw, word, PROFILE, SETUP, SETUP_PROFILE, TICK, WORDS};
+use super::model::{product, times, Flight, Profile};
 use super::route::Source;
 use crate::generate::{self, Rng};
 use oracle::geo::{self, Mat3};
@@ -58,7 +58,10 @@ enum Style {
     Long,
 }
 
-/// The words of a set-up by their places.
+/// The words of a set-up before its profile.
+type Numbers = [f32; SETUP_PROFILE];
+
+/// These by their places.
 mod place {
     pub const SET: usize = 9;
     pub const ENTER: usize = 12;
@@ -102,9 +105,10 @@ impl Wander {
 
 pub struct Pilot {
     pub kind: Kind,
+    pub profile: Profile,
     rng: Rng,
     style: Style,
-    set_up: [f32; SETUP / 4],
+    set_up: Numbers,
     level: Wander,
     yaw: f32,
     pan: f32,
@@ -117,25 +121,27 @@ pub struct Pilot {
 
 impl Pilot {
     pub fn new(number: u64) -> Self {
-        let kind = kind(number);
-        Pilot::of(kind, number / 8, Rng::new("joint", number))
+        let profile = if Rng::new("profile", number).flag() { Profile::LostRotor } else { Profile::Whole };
+        Pilot::of(kind(number), profile, number / 8, Rng::new("joint", number))
     }
 
     /// A pass whose attitude's error carries the margin.
-    pub fn on_a_pass(number: u64) -> Self {
-        Pilot::of(Kind::Pass, 0, Rng::new("pass", number))
+    pub fn on_a_pass(profile: Profile, number: u64) -> Self {
+        Pilot::of(Kind::Pass, profile, 0, Rng::new("pass", number))
     }
 
-    fn of(kind: Kind, turn: u64, mut rng: Rng) -> Self {
+    fn of(kind: Kind, profile: Profile, turn: u64, mut rng: Rng) -> Self {
         let style = match kind {
             Kind::Pass => [Style::Tilt, Style::Turn, Style::Tilt, Style::Edge][(turn % 4) as usize],
             Kind::Wild => [Style::Bits, Style::Special, Style::Spoilt, Style::Fall, Style::Clock, Style::Long][(turn % 6) as usize],
             Kind::SetUp | Kind::Damaged => Style::Fly,
         };
+        // these are about the product of attitudes, which a lost rotor has none of
+        let profile = if style == Style::Long { Profile::Whole } else { profile };
         let set_up = flight(&mut rng);
         let (level, yaw, pan) = (Wander::new(&mut rng), rng.range(-3.2, 3.2), rng.range(-0.5, 0.5));
         let (dt, word) = (rng.range(0.001, 0.004), rng.below(WORDS));
-        let mut pilot = Pilot { kind, rng, style, set_up, level, yaw, pan, dt, word, edges: [0.0; 2] };
+        let mut pilot = Pilot { kind, profile, rng, style, set_up, level, yaw, pan, dt, word, edges: [0.0; 2] };
         pilot.arrange(turn);
         pilot
     }
@@ -206,7 +212,28 @@ impl Pilot {
     }
 
     pub fn set_up(&self) -> [u8; SETUP] {
-        raw(&self.set_up)
+        self.set_up_with(self.profile as u32)
+    }
+
+    fn set_up_with(&self, profile: u32) -> [u8; SETUP] {
+        let mut bytes = raw(&self.set_up);
+        put(&mut bytes, SETUP_PROFILE, profile);
+        bytes
+    }
+
+    /// The same with a profile that is none.
+    pub fn wrong_set_up(&mut self) -> [u8; SETUP] {
+        let profile = self.rng.of(&NO_PROFILES).unwrap_or(2);
+        self.set_up_with(profile)
+    }
+
+    /// This length, or at times one next to it.
+    pub fn length_near(&mut self, right: usize) -> usize {
+        match self.rng.below(8) {
+            0 => right - 1,
+            1 => right + 1,
+            _ => right,
+        }
     }
 
     /// Any bytes: what stood in a buffer before.
@@ -270,16 +297,21 @@ impl Pilot {
             }
             _ => (0.3 * level.abs(), rng.range(0.0, 1.0)),
         };
-        // a direction that turns slowly, so that the filter lets it through
+        // a direction that turns slowly, so that the filter lets it through; with a rotor lost, beside any spin, which is no error
+        let lost = self.profile == Profile::LostRotor;
         let (sine, cosine) = (0.3 * self.yaw + self.pan).sin_cos();
-        let mut gyro = [speed * cosine, speed * sine * 0.8, speed * sine * 0.6];
+        let mut gyro = match lost {
+            true => [speed * cosine, speed * sine, 20.0 * self.pan],
+            false => [speed * cosine, speed * sine * 0.8, speed * sine * 0.6],
+        };
         let (r_d, ahead) = flight.attitude_ahead(source, [track_err, self.yaw, self.pan, dt]);
         let mut q = match &r_d {
+            Some(r_d) if lost => turned(r_d, [cosine, sine, 0.0], error),
             Some(r_d) => turned(r_d, [0.6 * cosine, 0.6 * sine, 0.8], error),
             None => rng.direction(),
         };
         // that, and what is commanded, which is no error
-        if let (Some(r_d), Some(ahead)) = (&r_d, ahead) {
+        if let (Some(r_d), Some(ahead), false) = (&r_d, ahead, lost) {
             let commanded = times(&product(&geo::quat_to_rotmat(q), r_d), ahead);
             gyro.iter_mut().zip(commanded).for_each(|(rate, own)| *rate += own);
         }
@@ -290,7 +322,7 @@ impl Pilot {
                     1 => rng.near(self.edges[1]),
                     _ => self.edges[0] + level * (self.edges[1] - self.edges[0]),
                 };
-                (gyro, q) = ([x, 0.0, 0.0], [1.0, 0.0, 0.0, 0.0]);
+                (gyro, q) = ([x, 0.0, if lost { gyro[2] } else { 0.0 }], [1.0, 0.0, 0.0, 0.0]);
             }
             Style::Fall if self.yaw == 0.0 => q = [1.0, 0.0, 0.0, 0.0],
             // about the third axis by twice the heading: the trace's two large terms cancel, the entries beside it add up to twice the square
@@ -307,6 +339,10 @@ impl Pilot {
         words[..3].copy_from_slice(&gyro);
         words[3..7].copy_from_slice(&q);
         words[7..11].copy_from_slice(&[track_err, self.yaw, self.pan, dt]);
+        if lost && rng.flag() {
+            // which is not read
+            words[8..10].iter_mut().for_each(|w| *w = rng.special());
+        }
         words[11..14].copy_from_slice(&agile);
         words[14..].copy_from_slice(&fraction);
         words
@@ -338,23 +374,28 @@ impl Pilot {
         let rng = &mut self.rng;
         let near = |rng: &mut Rng, x: u32| rng.near(f32::from_bits(x)).to_bits();
         match at {
-            0 => rng.of(&[94, 96, 95 << 8, 95 << 24, 95 | 1 << 16, 95.0f32.to_bits(), 0]).unwrap_or(0),
+            0 => rng.of(&[95, 95, 97, 96 << 8, 96 << 24, 96 | 1 << 16, 96.0f32.to_bits(), 0]).unwrap_or(0),
             13 => near(rng, word(image, 14)),
             14 => near(rng, word(image, 13)),
             15 => rng.of(&[0, 1, 2, 3, 256, 1 << 24, 1 << 31, 1.0f32.to_bits(), 255, u32::MAX]).unwrap_or(0),
             16 => rng.of(&[0, 1, 1 << 31, (1 << 31) | 1, 0x7f80_0000, 0xff80_0000, 0x7f7f_ffff, 0x4680_0000]).unwrap_or(0),
             26 | 33 | 40 => near(rng, 1e-3f32.to_bits()),
+            PROFILE if rng.flag() => rng.below(2) as u32,
+            PROFILE => rng.of(&NO_PROFILES).unwrap_or(2),
             _ => near(rng, word(image, at)),
         }
     }
 }
 
+/// Words that are no profile.
+const NO_PROFILES: [u32; 10] = [2, 3, 255, 256, 1 << 16, 1 << 24, 1 << 31, 1 << 31 | 1, f32::to_bits(1.0), u32::MAX];
+
 /// Steps that bring a clock to where it stands still, and on to infinity.
 const LONG: [f32; 12] = [0.001, 0.001, 0.5, 4096.0, 32768.0, 1e30, f32::MAX, f32::MAX, f32::INFINITY, f32::NAN, -0.0, 1e-45];
 
 /// A set-up as in flight, by document 01's fifty words.
-fn flight(rng: &mut Rng) -> [f32; SETUP / 4] {
-    let mut s = [0.0; SETUP / 4];
+fn flight(rng: &mut Rng) -> Numbers {
+    let mut s = [0.0; SETUP_PROFILE];
     let falcon = [0.6, 0.6, 0.15, 0.12, 0.12, 0.35, 0.0217, 0.0217, 0.04];
     s.iter_mut().zip(falcon).for_each(|(w, x)| *w = x * rng.range(0.5, 2.0));
     s[place::SET..place::SET + 3].copy_from_slice(&[rng.range(0.3, 1.2), rng.range(0.02, 0.08), rng.range(0.5, 1.9)]);
@@ -375,7 +416,7 @@ fn flight(rng: &mut Rng) -> [f32; SETUP / 4] {
 }
 
 /// Down with this acceleration at all times: coefficients c5 to c3 are exactly zero.
-fn fall(s: &mut [f32; SETUP / 4], t: f32, a: f32) {
+fn fall(s: &mut Numbers, t: f32, a: f32) {
     s[place::P0..place::T].fill(0.0);
     s[place::T] = t;
     (s[place::A0 + 2], s[place::AF + 2], s[place::VF + 2], s[place::PF + 2]) = (a, a, a * t, 0.5 * a * t * t);

@@ -1,16 +1,21 @@
-//! The documents' tables: which number a call gives. Of 1 to 4 the lowest wins; what is wrong with a route comes after them, in an order of
-//! its own. With a fault, another number.
+//! The documents' tables: which number a call gives. Of 1 to 4 the lowest wins; a set-up's profile comes after them, and what is wrong with a
+//! route too, in an order of its own. With a fault, another number.
 
-use super::bytes::{float, word, ANSWER, IMAGE, LEG, SETUP, TICK, TRAILER, WORDS};
+use super::bytes::{float, word, ANSWER, IMAGE, LEG, PROFILE, SETUP, SETUP_PROFILE, TICK, TRAILER, WORDS};
 use super::fault::Fault;
 use super::lent::Lending;
 use super::Call;
 
-pub fn of_setup(image: usize, input: usize) -> u32 {
+fn of_setup(fault: Fault, image: usize, input: &[u8]) -> u32 {
+    let profile = word(input, SETUP_PROFILE) > 1 && fault != Fault::AnySetUp;
     if image != IMAGE {
         1
-    } else if input != SETUP {
+    } else if profile && fault == Fault::ProfileFirst {
+        10
+    } else if input.len() != SETUP {
         2
+    } else if profile {
+        10
     } else {
         0
     }
@@ -38,12 +43,18 @@ fn of_tick_with(fault: Fault, image: &[u8], input: usize, answer: usize) -> u32 
 /// Of any call.
 #[inline]
 pub fn of(fault: Fault, call: Call, lent: &Lending) -> u32 {
-    let (image, input, answer) = (&*lent.image, lent.input.len(), lent.answer.len());
+    let (image, answer) = (&*lent.image, lent.answer.len());
     let of_image = || match call {
-        Call::SetUp => of_setup(image.len(), input),
-        Call::Tick | Call::RouteTick => of_tick_with(fault, image, input, answer),
+        Call::SetUp => of_setup(fault, image.len(), lent.input),
+        Call::Tick | Call::RouteTick => of_tick_with(fault, image, lent.input.len(), answer),
     };
-    let of_route = || if call == Call::RouteTick { of_route(fault, lent.route) } else { 0 };
+    let of_route = || {
+        if call == Call::RouteTick {
+            of_route(fault, lent.route)
+        } else {
+            0
+        }
+    };
     let first = |number: u32, then: &dyn Fn() -> u32| if number != 0 { number } else { then() };
     match fault {
         Fault::RefusesAll => of_image().max(1),
@@ -91,7 +102,7 @@ pub fn apart(fault: Fault, legs: &[u8]) -> Option<usize> {
     legs.windows(2).take(joins).find_map(|two| (0..places).find(|place| !meet(two, *place)))
 }
 
-/// Row 4, in its own order.
+/// Row 4, in its own order; then the profile.
 fn broken(fault: Fault, image: &[u8]) -> bool {
     let (enter, exit, time) = (float(image, 13), float(image, 14), float(image, 16));
     let no_end = |at| {
@@ -100,7 +111,8 @@ fn broken(fault: Fault, image: &[u8]) -> bool {
     };
     let most = if fault == Fault::EngagedTwo { 2 } else { 1 };
     let ends = if fault == Fault::FirstEndOnly { 1 } else { 3 };
-    word(image, 0) != WORDS as u32
+    let count = word(image, 0);
+    !(count == WORDS as u32 || fault == Fault::OldCount && count == 95)
         || !enter.is_finite()
         || !(enter > 0.0)
         || !(exit > enter)
@@ -108,4 +120,5 @@ fn broken(fault: Fault, image: &[u8]) -> bool {
         || time.is_nan()
         || time < 0.0
         || [26, 33, 40].into_iter().take(ends).any(no_end)
+        || (word(image, PROFILE) > 1 && fault != Fault::AnyProfile)
 }

@@ -1,11 +1,11 @@
 //! Runs of ticks from set-ups: after every call the return and every lent byte, guards too, are what they should be, and the
 //! flag and the command are what looking back over the run's margins says.
 
-use super::bytes::{float, word, ANSWER, IMAGE, TICK, WORDS};
+use super::bytes::{float, word, ANSWER, IMAGE, SETUP, TICK, WORDS};
 use super::fault::Fault;
 use super::guide::Guide;
 use super::lent::{Hands, Lent, Short};
-use super::model::{self, Flight};
+use super::model::{self, Flight, Profile};
 use super::on_routes::OnRoutes;
 use super::pilot::{self, Kind, Pilot, KINDS};
 use super::route::Source;
@@ -51,11 +51,13 @@ counts! {
     /// What happened in the runs.
     pub struct Seen {
         pub runs: u64,
-        /// Accepted ticks of each kind, in the order of `KINDS`.
-        pub ticks: [u64; KINDS.len()],
+        /// Set-ups that were refused, with 1, 2 and 10.
+        pub refused_set_ups: [u64; 3],
+        /// Accepted ticks by the profile, of each kind in the order of `KINDS`.
+        pub ticks: [[u64; KINDS.len()]; 2],
         pub refused: u64,
-        /// Ticks of passes with the margin in the band, both ends in it: the planner flying, the fallback flying.
-        pub band: [u64; 2],
+        /// Ticks of passes by the profile, with the margin in the band, both ends in it: the planner flying, the fallback flying.
+        pub band: [[u64; 2]; 2],
         /// Ticks of passes at which the margin was exactly a threshold.
         pub edge: u64,
         /// Ticks of passes at which another controller took over.
@@ -64,6 +66,9 @@ counts! {
         pub looked_back: u64,
         pub no_attitude: u64,
         pub no_feedforward: u64,
+        /// With a rotor lost: ticks without a thrust axis, and those that the planner flew at a heading that is no number.
+        pub no_axis: u64,
+        pub any_heading: u64,
         /// Ticks with R_d and a finite psi, by the feedforward (refused, zeros, some) and the entries of Rᵀ R_d (finite, not all finite).
         pub turning: [[u64; 2]; 3],
         pub at_the_end: u64,
@@ -76,34 +81,44 @@ counts! {
 impl Seen {
     /// All accepted ticks.
     pub fn accepted(&self) -> u64 {
-        self.ticks.iter().sum()
+        self.ticks.as_flattened().iter().sum()
     }
 
-    /// Accepted ticks of passes.
-    pub fn passes(&self) -> u64 {
-        self.ticks[0]
+    /// Accepted ticks of passes, by the profile.
+    pub fn passes(&self) -> [u64; 2] {
+        self.ticks.map(|[passes, ..]| passes)
     }
 }
 
 impl fmt::Display for Seen {
     fn fmt(&self, f: &mut fmt::Formatter<'_>) -> fmt::Result {
         let share = |n: u64, of: u64| 100.0 * n as f64 / of.max(1) as f64;
-        write!(f, "{} runs, {} accepted ticks (", self.runs, self.accepted())?;
-        KINDS.iter().zip(self.ticks).try_for_each(|(kind, n)| write!(f, "{kind:?} {n}, "))?;
-        writeln!(f, "{} compared with the look-back), {} refused", self.looked_back, self.refused)?;
-        let [planner, fallback] = self.band;
         writeln!(
             f,
-            "passes in the band: planner flying {planner} ({:.1} %), fallback flying {fallback} ({:.1} %); {} ticks at a threshold itself, {} changes of controller",
-            share(planner, self.passes()),
-            share(fallback, self.passes()),
-            self.edge,
-            self.changes
+            "{} runs, {} accepted ticks ({} compared with the look-back), {} refused; set-ups refused with 1, 2, 10: {:?}",
+            self.runs,
+            self.accepted(),
+            self.looked_back,
+            self.refused,
+            self.refused_set_ups
         )?;
+        for ((profile, ticks), (band, passes)) in ["whole", "a rotor lost"].iter().zip(self.ticks).zip(self.band.iter().zip(self.passes()))
+        {
+            write!(f, "{profile}: ")?;
+            KINDS.iter().zip(ticks).try_for_each(|(kind, n)| write!(f, "{kind:?} {n}, "))?;
+            let [planner, fallback] = band.map(|n| share(n, passes));
+            writeln!(f, "passes in the band with the planner flying {planner:.1} %, the fallback {fallback:.1} %")?;
+        }
+        writeln!(f, "{} ticks at a threshold itself, {} changes of controller", self.edge, self.changes)?;
         writeln!(
             f,
             "{} ticks without R_d, {} with R_d and no feedforward, {} at an infinite time",
             self.no_attitude, self.no_feedforward, self.at_the_end
+        )?;
+        writeln!(
+            f,
+            "with a rotor lost: {} without a thrust axis, {} that the planner flew at a heading that is no number",
+            self.no_axis, self.any_heading
         )?;
         let [refused, zeros, some] = self.turning;
         writeln!(f, "by the product of attitudes, finite and not: feedforward refused {refused:?}, zeros {zeros:?}, some {some:?}")?;
@@ -165,6 +180,21 @@ pub fn run(face: Face, number: u64, watch: Watch, calls: &'static [Call], seen: 
     pilot.junk(hands.image.bytes_mut());
     pilot.junk(hands.answer.bytes_mut());
 
+    // a set-up with another profile first, which leaves nothing
+    hands.input = Short::holding(&pilot.wrong_set_up());
+    (hands.input.len, hands.image.len) = (pilot.length_near(SETUP), pilot.length_near(IMAGE));
+    let before = hands.clone();
+    let refused = refusal::of(Fault::None, Call::SetUp, &hands.lend());
+    let returned = face(Call::SetUp, &mut hands.lend());
+    seen.refused_set_ups[refused.min(3) as usize - 1] += 1;
+    if watch == Watch::All && (returned != refused || hands != before) {
+        let (expected, found) = ((refused, before.clone()), (returned, hands));
+        let what = "a set-up of no profile differs";
+        return Some(Parted { run: number, tick: 0, call: Call::SetUp, what, damaged: None, before, expected, found });
+    }
+    hands.image.len = IMAGE;
+    hands.input = Short::holding(&set_up);
+
     let mut flight = Flight::set_up(&set_up);
     let (before, mut expected) = (hands.clone(), hands.clone());
     flight.write(expected.image.bytes_mut());
@@ -206,9 +236,14 @@ pub fn run(face: Face, number: u64, watch: Watch, calls: &'static [Call], seen: 
             let way = flight.tick_on(|| Fault::None, &source, hands.input.bytes(), expected.answer.bytes_mut());
             flight.write(expected.image.bytes_mut());
             tick += 1;
-            seen.ticks[kind] += 1;
-            seen.no_attitude += u64::from(!way.attitude);
-            seen.no_feedforward += u64::from(way.attitude && !way.feedforward);
+            seen.ticks[way.profile as usize][kind] += 1;
+            match way.profile {
+                Profile::Whole => {
+                    seen.no_attitude += u64::from(!way.there);
+                    seen.no_feedforward += u64::from(way.there && !way.feedforward);
+                }
+                Profile::LostRotor => seen.no_axis += u64::from(!way.there),
+            }
             if let Some((ahead, whole)) = way.turning {
                 seen.turning[ahead as usize][usize::from(!whole)] += 1;
             }
@@ -252,13 +287,14 @@ pub fn run(face: Face, number: u64, watch: Watch, calls: &'static [Call], seen: 
             if flag != u32::from(!planner) {
                 return parted("the flag is not what the margins say", &hands);
             }
-            if planner && command != demand::passed_on(agile) {
+            if planner && command != demand::passed_on(pilot.profile as u32, agile) {
                 return parted("the command is not the planner's", &hands);
             }
             seen.looked_back += 1;
+            seen.any_heading += u64::from(planner && pilot.profile == Profile::LostRotor && !float(input, 8).is_finite());
             if let (Kind::Pass, Some(&margin)) = (pilot.kind, margins.last()) {
                 let state = usize::from(!planner);
-                seen.band[state] += u64::from(margin >= enter && margin <= exit);
+                seen.band[pilot.profile as usize][state] += u64::from(margin >= enter && margin <= exit);
                 seen.edge += u64::from(margin == enter || margin == exit);
                 seen.changes += u64::from(flag != last);
                 last = flag;

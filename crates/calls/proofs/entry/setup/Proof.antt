@@ -1,6 +1,6 @@
 -- `calls::entry::setup` meets its contract: what its calls ensure, put together. Assumes nothing.
 use borrow.Author.Needs.{needs}
-use borrow.Author.Tests.{eq-eqb, ne-eqb}
+use borrow.Author.Tests.{eq-eqb, ne-eqb, not-true, not-false}
 use Rattle.calls.specs.Entry.{setUpCall, setUpRefusal}
 use Rattle.calls.proofs.entry.setup.Statement.{statement}
 use Rattle.calls.proofs.entry.setup.Tie as tie
@@ -15,11 +15,22 @@ setup-spec =
       ne-eqb _ _ (c .if2 .taken),
       eq-eqb _ _ (c .before .if1 .left),
     ))
+    (λ c κs. search needs) (λ c κs. search needs)
+    (λ c. let p = c .before in let w = p .before in simp (
+      ← w .word-at .ensures,
+      ← p .is-profile .ensures,
+      not-true (p .is-profile .result) (c .if3 .taken),
+      eq-eqb _ _ (w .before .if2 .left),
+      eq-eqb _ _ (w .before .before .if1 .left),
+    ))
     (λ c κs. search needs) (λ c κs. search needs) (λ c κs. search needs) (λ c. search needs)
-    (λ c. simp (
+    (λ c. let u = c .before .before .before .before in let f = u .before .before in let p = f .before in let w = p .before in simp (
       c .before .before .put-state .ensures,
-      c .before .before .before .before .set-up .ensures,
-      ← c .before .before .before .before .before .setup-at .ensures,
-      eq-eqb _ _ (c .before .before .before .before .before .before .if2 .left),
-      eq-eqb _ _ (c .before .before .before .before .before .before .before .if1 .left),
+      u .set-up .ensures,
+      ← u .before .setup-at .ensures,
+      ← w .word-at .ensures,
+      ← p .is-profile .ensures,
+      not-false (p .is-profile .result) (f .if3 .left),
+      eq-eqb _ _ (w .before .if2 .left),
+      eq-eqb _ _ (w .before .before .if1 .left),
     )))

@@ -7,11 +7,12 @@ pub fixed-at-spec : {M : Type 1} → statement M
 unfolding fixedAt
 fixed-at-spec =
     tie.close
-    (tie.spec (λ c κs. search needs) (λ c κs. search needs) (λ c κs. search needs) (λ c κs. search needs) (λ c κs. search needs)
+    (tie.spec (λ c κs. search needs) (λ c κs. search needs) (λ c κs. search needs) (λ c κs. search needs) (λ c κs. search needs) (λ c κs. search needs)
     (λ c. simp (
-      c .segment-at .ensures,
-      c .before .float-at2 .ensures,
-      c .before .before .float-at .ensures,
-      c .before .before .before .set-at .ensures,
-      c .before .before .before .before .gains-at .ensures,
+      c .profile-at .ensures,
+      c .before .segment-at .ensures,
+      c .before .before .float-at2 .ensures,
+      c .before .before .before .float-at .ensures,
+      c .before .before .before .before .set-at .ensures,
+      c .before .before .before .before .before .gains-at .ensures,
     )))

@@ -14,18 +14,20 @@ setup-at-spec =
     (λ c κs. omega (arith, c .before .before .before .before .before .before .before .before .before .before .before .pre))
     (λ c κs. omega (arith, c .before .before .before .before .before .before .before .before .before .before .before .before .pre))
     (λ c κs. omega (arith, c .before .before .before .before .before .before .before .before .before .before .before .before .before .pre))
+    (λ c κs. omega (arith, c .before .before .before .before .before .before .before .before .before .before .before .before .before .before .pre))
     (λ c. simp (
-      c .float-at7 .ensures,
-      c .before .float-at6 .ensures,
-      c .before .before .adrc-gains-at3 .ensures,
-      c .before .before .before .adrc-gains-at2 .ensures,
-      c .before .before .before .before .adrc-gains-at .ensures,
-      c .before .before .before .before .before .leg-at .ensures,
-      c .before .before .before .before .before .before .float-at5 .ensures,
-      c .before .before .before .before .before .before .before .float-at4 .ensures,
-      c .before .before .before .before .before .before .before .before .float-at3 .ensures,
-      c .before .before .before .before .before .before .before .before .before .float-at2 .ensures,
-      c .before .before .before .before .before .before .before .before .before .before .float-at .ensures,
-      c .before .before .before .before .before .before .before .before .before .before .before .set-at .ensures,
-      c .before .before .before .before .before .before .before .before .before .before .before .before .gains-at .ensures,
+      c .profile-at .ensures,
+      c .before .float-at7 .ensures,
+      c .before .before .float-at6 .ensures,
+      c .before .before .before .adrc-gains-at3 .ensures,
+      c .before .before .before .before .adrc-gains-at2 .ensures,
+      c .before .before .before .before .before .adrc-gains-at .ensures,
+      c .before .before .before .before .before .before .leg-at .ensures,
+      c .before .before .before .before .before .before .before .float-at5 .ensures,
+      c .before .before .before .before .before .before .before .before .float-at4 .ensures,
+      c .before .before .before .before .before .before .before .before .before .float-at3 .ensures,
+      c .before .before .before .before .before .before .before .before .before .before .float-at2 .ensures,
+      c .before .before .before .before .before .before .before .before .before .before .before .float-at .ensures,
+      c .before .before .before .before .before .before .before .before .before .before .before .before .set-at .ensures,
+      c .before .before .before .before .before .before .before .before .before .before .before .before .before .gains-at .ensures,
     )))

@@ -8,4 +8,4 @@ unfolding followOn
 follow-spec =
     tie.close
     (tie.spec (λ c κs. search needs) (λ c κs. search needs) (λ c κs. search needs)
-    (λ c. simp (c .before .before .before .act3 .ensures, c .before .before .before .before .act2 .ensures, c .before .before .before .before .before .act .ensures)))
+    (λ c. simp (c .before .before .before .act-third .ensures, c .before .before .before .before .act2 .ensures, c .before .before .before .before .before .act .ensures)))

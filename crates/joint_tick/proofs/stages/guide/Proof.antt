@@ -1,20 +1,11 @@
 use borrow.Author.Needs.{needs}
-use Rattle.joint_tick.proofs.Once.{guided-once}
+use Rattle.joint_tick.specs.Tick.{guide}
 use Rattle.joint_tick.proofs.stages.guide.Statement.{statement}
 use Rattle.joint_tick.proofs.stages.guide.Tie as tie
 
-returns : tie.Need-returns
-returns c =
-    let m = c .before in
-    let e = m .before .before in
-    let p = e .before in
-    let w = p .before .before in
-    let d = w .before .before in
-    let t = d .before .before in
-    simp (c .sanitise3 .ensures, m .margin .ensures, m .before .rate-sq .ensures, e .rate-error .ensures, p .psi-of .ensures, p .before .plus .ensures, w .rate-toward .ensures, w .before .feedforward-on .ensures, d .attitude-on .ensures, d .before .quat-to-rotmat .ensures, t .thrust-of .ensures, t .before .clean .ensures)
-    (guided-once _ _ _ _ _)
-
 pub guide-spec : {M : Type 1} → statement M
+unfolding guide
 guide-spec =
     tie.close
-    (tie.spec (λ c κs. search needs) (λ c κs. search needs) (λ c κs. search needs) (λ c κs. search needs) (λ c κs. search needs) (λ c κs. search needs) (λ c κs. search needs) (λ c κs. search needs) (λ c κs. search needs) (λ c κs. search needs) (λ c κs. search needs) (λ c κs. search needs) returns)
+    (tie.spec (λ c. search needs) (λ c κs. search needs) (λ c. search needs) (λ c κs. search needs)
+    (λ c. simp (c .guide-whole .ensures, c .before .enum-told .given .1)) (λ c. simp (c .guide-lost-rotor .ensures, c .before .enum-told2 .given .1)))

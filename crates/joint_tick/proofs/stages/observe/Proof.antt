@@ -8,4 +8,4 @@ unfolding observe
 observe-spec =
     tie.close
     (tie.spec (λ c κs. search needs) (λ c κs. search needs) (λ c κs. search needs)
-    (λ c. simp (c .observe3 .ensures, c .before .observe2 .ensures, c .before .before .observe .ensures)))
+    (λ c. simp (c .observe-third .ensures, c .before .observe2 .ensures, c .before .before .observe .ensures)))

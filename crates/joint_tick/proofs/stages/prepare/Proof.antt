@@ -8,4 +8,4 @@ unfolding prepare
 prepare-spec =
     tie.close
     (tie.spec (λ c κs. search needs) (λ c κs. search needs) (λ c κs. search needs)
-    (λ c. let a = c .before .before .before in simp (a .advance .ensures, a .before .filter .ensures, a .before .before .set-delivered-fraction .ensures)))
+    (λ c. let a = c .before .before .before in simp (a .advance .ensures, a .before .filter .ensures, a .before .before .set-fractions .ensures)))

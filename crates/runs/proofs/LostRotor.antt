@@ -1,0 +1,126 @@
+-- Request Six on bytes: ticks of either kind on an image whose profile's word is 1, and what is refused. Assumes nothing.
+use mathlib.Core.Path.{_≡_, refl, sym, ap, _∙_}
+use mathlib.Core.Bool.{Bool, true, false, not, _&&_, cond}
+use mathlib.Core.List.{List}
+use Prim.Native.Nat.{ℕ, _+_}
+use lib.Dec.{eqb}
+use lib.Ieee.{Float, ofBits, toBits}
+use lib.Ieee.Bits.{ofBits-fits}
+use lib.ListN.{length}
+use Rattle.words.specs.Words.{word, float, vec, flag, bits}
+use Rattle.relay_math.specs.F32.{0·0}
+use Rattle.joint_tick.specs.declared.state.State.{State}
+use Rattle.joint_tick.specs.declared.state.TickInput.{TickInput}
+use Rattle.joint_tick.specs.declared.stages.Ticked.{Ticked}
+use Rattle.joint_tick.specs.Profile.{isProfile}
+use Rattle.joint_tick.specs.SetUp.{setUp}
+use Rattle.joint_tick.specs.Tick.{referenceAt, ticked, stateAfter}
+use Rattle.joint_tick.proofs.LostRotor.{headed, heading-unread, third-stands, third-command-zero}
+use Rattle.outcome.specs.declared.Outcome.the-variants.{Done, ImageLength, BrokenImage, BadProfile}
+use Rattle.outcome.specs.Outcomes.{leftUnless, lent, Called}
+use Rattle.image.specs.Layout.{COUNT, PROFILE, IMAGE-WORDS, IMAGE-BYTES, SETUP-PROFILE, SETUP-BYTES, YAW, YAW-RATE, INPUT-BYTES, TORQUE, COMMAND, ANSWER-BYTES}
+use Rattle.image.specs.Parts.{quatAt}
+use Rattle.image.specs.Image.{stateAt, imageOf}
+use Rattle.image.specs.Inputs.{setupAt, inputAt, answerOf}
+use Rattle.image.specs.Fits.{F32}
+use Rattle.image.proofs.Decoded.{decode-encode}
+use Rattle.image.proofs.Answered.{third-torque-word, command-words}
+use Rattle.image.proofs.AnswerFits.{command-fits}
+use Rattle.calls.specs.Entry.{intact, setUpRefusal, tickRefusal, tickFrom}
+use Rattle.calls.specs.Ticks.{Accepted}
+use Rattle.calls.specs.Shams.{levelSetUpBy, headedInput}
+use Rattle.calls.proofs.Going.{set-up-fits}
+use Rattle.calls.proofs.Level.{planner-first-lost}
+use Rattle.runs.specs.Runs.{Course, Tick, flying, tickOf, sourceOn, start, Right}
+use Rattle.runs.specs.DemandThree.{flagOf}
+use Rattle.runs.specs.Shams.{plain}
+use Rattle.runs.specs.LostRotor.{ButHeading}
+use Rattle.runs.proofs.Shown.{refusalOn, flying-is, done, tick-done, flag-shown}
+use Rattle.runs.proofs.Going.{start-accepted}
+use Rattle.runs.proofs.Kept.{lost}
+
+-- ---- "yaw isn't read"
+
+same-but-heading : (a b : List ℕ) → ButHeading a b → inputAt b ≡ headed (inputAt a) (float b YAW) (float b YAW-RATE)
+unfolding inputAt vec quatAt float
+same-but-heading a b d =
+    let w = d .words in
+    rw (w 0 refl, w 1 refl, w 2 refl, w 3 refl, w 4 refl, w 5 refl, w 6 refl, w 7 refl, w 10 refl, w 11 refl, w 12 refl, w 13 refl, w 14 refl, w 15 refl, w 16 refl)
+
+-- two inputs that differ in yaw and yaw rate alone: the same outcome, the same image, the same answer
+pub heading-unread-on-bytes : (c : Course) (image a b answer : List ℕ) → word image PROFILE ≡ 1 → ButHeading a b → flying c image b answer ≡ flying c image a answer
+unfolding tickFrom
+heading-unread-on-bytes c image a b answer p d =
+    let source = sourceOn c image in
+    let s = stateAt image in
+    let i = headed (inputAt a) (float b YAW) (float b YAW-RATE) in
+    let u = heading-unread source s (inputAt a) (lost image p) (float b YAW) (float b YAW-RATE) in
+    flying-is c image b answer
+    ∙ ap (λ (n : ℕ). tickFrom source (refusalOn c image n (length answer)) image b answer) (sym (d .lengths))
+    ∙ ap (λ (x : TickInput). left (stateAfter source s x) (ticked source s x)) (same-but-heading a b d)
+    ∙ ap (λ (next : State). left next (ticked source s i)) (u .1)
+    ∙ ap (λ (t : Ticked). left (stateAfter source s (inputAt a)) t) (u .0)
+    ∙ sym (flying-is c image a answer)
+  where
+    left : State → Ticked → Called
+    left next t = leftUnless (refusalOn c image (length a) (length answer)) (lent (imageOf next) (answerOf (t .answer))) (lent image answer)
+
+-- ---- the third torque and the third command are +0.0, word 00000000
+
+zero-word : {x : Float} → x ≡ 0·0 → bits x ≡ 0
+unfolding ofBits toBits
+zero-word e = rw e
+
+zero-fits : {x : Float} → x ≡ 0·0 → F32 x
+zero-fits e = rw e (ofBits-fits _ _)
+
+pub thirds-zero : (image : List ℕ) (t : Tick) → Accepted image → Right t → word image PROFILE ≡ 1
+    → let answer = tickOf image t .later .answer in (word answer (TORQUE + 2) ≡ 0) × (word answer (COMMAND + 2) ≡ 0)
+thirds-zero image t a r p =
+    let source = sourceOn (t .course) image in
+    let torque = third-stands source (stateAt image) (inputAt (t .input)) (lost image p) .1 in
+    let command = third-command-zero source (stateAt image) (inputAt (t .input)) (lost image p) in
+    let given = done image t .answer in
+    rw (tick-done image t a r)
+    (third-torque-word given (zero-fits torque) ∙ zero-word torque, command-words given (command-fits source (stateAt image) (t .input)) .2 ∙ zero-word command)
+
+-- ---- "a heading that is no number does not take control from the planner": set up so, it flies at the very first tick, whatever the heading's word
+
+abbrev fresh : State
+fresh = setUp (setupAt (levelSetUpBy 1))
+
+pub planner-flies-unheaded : (yaw : ℕ) → flagOf (start (levelSetUpBy 1)) (plain (headedInput yaw)) ≡ 0
+unfolding start
+planner-flies-unheaded yaw =
+    flag-shown (start (levelSetUpBy 1)) (plain (headedInput yaw)) (start-accepted (levelSetUpBy 1)) (refl, refl, tt)
+    ∙ ap (λ (t : State). flag (ticked (referenceAt (t .fixed .segment)) t (inputAt (headedInput yaw)) .answer .fallback)) (decode-encode fresh (set-up-fits (levelSetUpBy 1)))
+    ∙ ap flag (planner-first-lost yaw)
+
+-- ---- what is refused
+
+-- "10 set-up word 51 not 0 or 1, after 2"
+pub ten-exactly : (input : List ℕ) → length input ≡ SETUP-BYTES → setUpRefusal IMAGE-BYTES input ≡ cond (isProfile (word input SETUP-PROFILE)) Done BadProfile
+unfolding setUpRefusal
+ten-exactly input e = rw e (by (isProfile (word input SETUP-PROFILE)))
+  where
+    by : (b : Bool) → cond (not b) BadProfile Done ≡ cond b Done BadProfile
+    by true = refl
+    by false = refl
+
+-- "Old images get 1", and 4 in the new length
+pub old-length-refused : (image : List ℕ) (inputLen answerLen : ℕ) → length image ≡ 380 → tickRefusal image inputLen answerLen ≡ ImageLength
+unfolding tickRefusal
+old-length-refused image inputLen answerLen e = rw e
+
+pub old-count-refused : (image : List ℕ) → length image ≡ IMAGE-BYTES → word image COUNT ≡ 95 → tickRefusal image INPUT-BYTES ANSWER-BYTES ≡ BrokenImage
+unfolding tickRefusal intact
+old-count-refused image e c = rw (e, c)
+
+-- "a tick finds a bad word 95 under 4"
+pub bad-profile-refused : (image : List ℕ) → length image ≡ IMAGE-BYTES → isProfile (word image PROFILE) ≡ false → tickRefusal image INPUT-BYTES ANSWER-BYTES ≡ BrokenImage
+unfolding tickRefusal intact
+bad-profile-refused image e p = rw (e, p, and-false (eqb (word image COUNT) IMAGE-WORDS))
+  where
+    and-false : (x : Bool) → (x && false) ≡ false
+    and-false true = refl
+    and-false false = refl

@@ -59,9 +59,6 @@ tiny-near s m e F K =
 
 -- a limit above 0 is above the zero
 zero-under : (limit : Float) → T (positive limit) → le Zero limit ≡ true
-zero-under nan p = absurd p
-zero-under (inf t) p = absurd p
-zero-under (fin true m d) p = absurd p
 zero-under (fin false m d) p = le-is 0 (pos 0) m d ∙ le-leb (0 * 1 * down d) (m * up d * 1) (omega arith)
 
 abbrev Zeros : SineCosine → Type 0

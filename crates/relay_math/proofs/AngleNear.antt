@@ -48,8 +48,6 @@ mirrored A C p n w = omega arith
 
 near-neg : (y : Float) (v : Value) → Near 23 y v → Near 23 (neg y) (negated v)
 unfolding neg
-near-neg nan v h = absurd h
-near-neg (inf t) v h = absurd h
 near-neg (fin true m e) v h = rw (← mirrored (m * up e) (down e) (v .minus) (v .plus) (v .over)) h
 near-neg (fin false m e) v h = rw (mirrored (m * up e) (down e) (v .plus) (v .minus) (v .over)) h
 

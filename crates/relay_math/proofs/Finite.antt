@@ -2,7 +2,7 @@
 use mathlib.Core.Path.{_≡_, refl, sym, subst}
 use mathlib.Core.Bool.{Bool, true, false, not, cond}
 use lib.Dec.{T}
-use lib.Ieee.{Float, nan, inf, fin, binary32, fits, ofBits}
+use lib.Ieee.{Float, fin, binary32, fits, ofBits}
 use lib.Ieee.Bits.{is-true}
 use Rattle.relay_math.specs.Exact.{Value, Near, inRange}
 use Rattle.relay_math.specs.F32.{0·0, isFinite, finiteOr}
@@ -30,8 +30,6 @@ sin-cos-far x h = sincos-far x h
 
 near-finite : (y : Float) (v : Value) → Near 20 y v → T (isFinite y)
 unfolding isFinite
-near-finite nan v h = absurd h
-near-finite (inf s) v h = absurd h
 near-finite (fin s m e) v h = tt
 
 pub sin-cos-finite : (x : Float) → T (fits binary32 x) → T (isFinite (sinf x)) × T (isFinite (cosf x))

@@ -1,7 +1,7 @@
 -- The steps on whole numbers are close to the eight terms, and so are x and 1 where x is small; and no product of the steps is too large. Assumes nothing.
 use mathlib.Core.Path.{_≡_, sym, ap, _∙_, subst}
 use Prim.Native.Nat.{ℕ, suc, _+_, _*_, _-_, _/_, _≤_, _<_}
-use native.Mathlib.Nat.{le-of-lt, le-trans, lt-of-le-of-lt, sub-le, sub-add-cancel, add-mul, mul-le-mul-left, mul-le-mul-right, mul-le-mul, mul-pos, div-mul-le-self, div-le-self, mul-div-cancel}
+use native.Mathlib.Nat.{le-of-lt, le-trans, sub-le, sub-add-cancel, add-mul, mul-le-mul-left, mul-le-mul-right, mul-le-mul, mul-pos, div-mul-le-self}
 use native.Mathlib.Omega.{arith}
 use lib.Dec.{lit<, lit≤}
 use mir.Val.{Fits}

@@ -8,7 +8,7 @@ use mathlib.Core.Bool.{Bool, false, _&&_}
 use lib.IntN.{ℤ, pos, negsuc}
 use lib.Dec.{T, leb, ltb, eqb, lit<, leb→le, ltb→lt}
 use lib.Pow.{pow-add, pow-pos, pow-mono, pow-lt, shl-lt, shl-shr}
-use lib.Ieee.{Float, nan, inf, fin, binary32, up, down, fits, size, ofBits, toBits}
+use lib.Ieee.{Float, fin, binary32, up, down, fits, size, ofBits, toBits}
 use lib.Ieee.Fits.{and-l, and-r, down-pos, kept-lt}
 use lib.Ieee.Digits.{back, size-lt, size-le, size-reaches}
 use lib.Ieee.Bits.{ofBits-toBits}
@@ -20,8 +20,6 @@ use Rattle.relay_math.proofs.Signs.{of-natural, of-value}
 -- a value of G / 2 ^ 149 is G grains
 pub grains-of : (x : Float) (s : Bool) (G : ℕ) → HasValue x s G (2 ^ 149) → grains x ≡ G
 unfolding grains
-grains-of nan s G v = absurd v
-grains-of (inf t) s G v = absurd v
 grains-of (fin t m e) s G v = ap (λ (a : ℕ). a / down e) (v .1) ∙ mul-div-cancel G (down-pos e)
 
 pub shift : (m j k : ℕ) → k ≤ j → m * 2 ^ j ≡ m * 2 ^ (j - k) * 2 ^ k

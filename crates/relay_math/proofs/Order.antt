@@ -60,29 +60,23 @@ Number x = T (not (isNan x))
 
 pub finite-number : (x : Float) → T (isFinite x) → Number x
 unfolding isFinite isNan
-finite-number nan h = absurd h
 finite-number (inf s) h = tt
 finite-number (fin s m e) h = tt
 
 pub le-left : (x y : Float) → T (le x y) → Number x
 unfolding le isNan
-le-left nan y h = absurd h
 le-left (inf s) y h = tt
 le-left (fin s m e) y h = tt
 
 pub le-right : (x y : Float) → T (le x y) → Number y
 unfolding le isNan
-le-right nan nan h = absurd h
-le-right (inf s) nan h = absurd h
-le-right (fin s m e) nan h = absurd h
-le-right x (inf t) h = tt
-le-right x (fin t n d) h = tt
+le-right (inf s) (inf t) h = tt
+le-right (inf s) (fin t n d) h = tt
+le-right (fin s m e) (inf t) h = tt
+le-right (fin s m e) (fin t n d) h = tt
 
 pub le-is-not-above : (x y : Float) → Number x → Number y → le y x ≡ not (lt x y)
 unfolding isNan lt le eq
-le-is-not-above x nan p q = absurd q
-le-is-not-above nan (inf t) p q = absurd p
-le-is-not-above nan (fin t n d) p q = absurd p
 le-is-not-above (inf true) (inf true) p q = refl
 le-is-not-above (inf true) (inf false) p q = refl
 le-is-not-above (inf false) (inf true) p q = refl
@@ -107,23 +101,12 @@ finite-trans s m e t n d u l c h k =
 
 pub le-trans : (x y z : Float) → T (le x y) → T (le y z) → T (le x z)
 unfolding le isNan
-le-trans nan y z h k = absurd h
 le-trans (inf true) y nan h k = absurd (le-right y nan k)
 le-trans (inf true) y (inf true) h k = tt
 le-trans (inf true) y (inf false) h k = tt
 le-trans (inf true) y (fin u l c) h k = tt
-le-trans (inf false) nan z h k = absurd h
-le-trans (inf false) (inf true) z h k = absurd h
 le-trans (inf false) (inf false) z h k = k
-le-trans (inf false) (fin t n d) z h k = absurd h
-le-trans (fin s m e) nan z h k = absurd h
-le-trans (fin s m e) (inf true) z h k = absurd h
-le-trans (fin s m e) (inf false) nan h k = absurd k
-le-trans (fin s m e) (inf false) (inf true) h k = absurd k
 le-trans (fin s m e) (inf false) (inf false) h k = tt
-le-trans (fin s m e) (inf false) (fin u l c) h k = absurd k
-le-trans (fin s m e) (fin t n d) nan h k = absurd k
-le-trans (fin s m e) (fin t n d) (inf true) h k = absurd k
 le-trans (fin s m e) (fin t n d) (inf false) h k = tt
 le-trans (fin s m e) (fin t n d) (fin u l c) h k = finite-trans s m e t n d u l c h k
 

@@ -52,21 +52,12 @@ le-is m e n d = ordered (m * up e * down d) (n * up d * down e)
 
 -- ---- what a float is written as: one that is not below zero, one of the value a / c, a positive one, one that was rounded
 pub of-natural : (P : Float → Type 0) → ((m : ℕ) (e : ℤ) → P (fin false m e)) → (x : Float) → T (natural x) → P x
-of-natural P h nan p = absurd p
-of-natural P h (inf s) p = absurd p
-of-natural P h (fin true m e) p = absurd p
 of-natural P h (fin false m e) p = h m e
 
 pub of-positive : (P : Float → Type 0) → ((m : ℕ) (e : ℤ) → T (fits binary32 (fin false (suc m) e)) → P (fin false (suc m) e)) → (x : Float) → T (fits binary32 x) → T (positive x) → P x
-of-positive P h nan f p = absurd p
-of-positive P h (inf s) f p = absurd p
-of-positive P h (fin true m e) f p = absurd p
-of-positive P h (fin false zero e) f p = absurd p
 of-positive P h (fin false (suc m) e) f p = h m e f
 
 pub of-value : (P : Float → Type 0) (s : Bool) (a c : ℕ) → ((m : ℕ) (e : ℤ) → HasValue (fin s m e) s a c → P (fin s m e)) → (x : Float) → HasValue x s a c → P x
-of-value P s a c h nan v = absurd v
-of-value P s a c h (inf t) v = absurd v
 of-value P s a c h (fin t m e) v = subst (λ (t : Bool). HasValue (fin t m e) s a c → P (fin t m e)) (sym (v .0)) (h m e) v
 
 of-units : (P : Float → Type 0) (s : Bool) → ((m : ℕ) (e : ℤ) → P (fin s m e)) → P (inf s) → (q k : ℕ) → P (units binary32 s q k)

@@ -8,7 +8,7 @@ use native.Mathlib.Omega.{arith}
 use borrow.Author.Tests.{le-ltb, ltb-false}
 use lib.Dec.{T, ltb, lit<}
 use lib.IntN.{ℤ, pos}
-use lib.Ieee.{Float, nan, inf, fin, binary32, fits, up, down, unlike, round, sum, add, mul, le, lt, eq, isNan, nearest, ofBits}
+use lib.Ieee.{Float, inf, fin, binary32, fits, up, down, unlike, round, sum, add, mul, le, lt, eq, isNan, nearest, ofBits}
 use lib.Ieee.Fits.{down-pos, round-fits}
 use lib.Ieee.Exact.{HasValue, round-exact}
 use lib.Ieee.Order.{round-mono}
@@ -87,10 +87,6 @@ minus-first m e z h = le-trans (fin true m e) 0·0 z (le-of-not-lt 0·0 (fin tru
 
 pub product-not-below : (x y : Float) → T (isFinite x) → T (isFinite y) → T (le 0·0 x) → T (le 0·0 y) → T (le 0·0 (x ⊗ y))
 unfolding mul isFinite
-product-not-below nan y f g p q = absurd f
-product-not-below (inf s) y f g p q = absurd f
-product-not-below (fin s m e) nan f g p q = absurd g
-product-not-below (fin s m e) (inf t) f g p q = absurd g
 product-not-below (fin true m e) (fin true n d) f g p q = round-not-below (m * up e * (n * up d)) (down e * down d) (mul-pos (down-pos e) (down-pos d))
 product-not-below (fin false m e) (fin false n d) f g p q = round-not-below (m * up e * (n * up d)) (down e * down d) (mul-pos (down-pos e) (down-pos d))
 product-not-below (fin true m e) (fin false n d) f g p q = rounds-zero true (m * up e * (n * up d)) (down e * down d) (rw (none m e true p refl) (zero-mul (n * up d)))
@@ -99,8 +95,6 @@ product-not-below (fin false m e) (fin true n d) f g p q = rounds-zero true (m *
 -- anything finite times +0 is a zero
 pub zero-times : (x : Float) → T (isFinite x) → (b : Bool) × (x ⊗ 0·0 ≡ fin b 0 (pos 0))
 unfolding mul isFinite ofBits
-zero-times nan f = absurd f
-zero-times (inf s) f = absurd f
 zero-times (fin s m e) f = (unlike s false, rw mul-zero (round-zero (unlike s false) (down e * 1)))
 
 -- ---- a sum
@@ -128,16 +122,10 @@ unfolding add
 plus-is s m e t n d p q = sum-is s (m * up e * down d) t (n * up d * down e) (over e d) (λ h. scaled m e d (none m e s p h)) (λ h. scaled n d e (none n d t q h))
 
 pub sum-grows : (x y : Float) → T (fits binary32 x) → T (le 0·0 x) → T (le 0·0 y) → T (le x (x ⊕ y))
-unfolding add
-sum-grows nan y f p q = absurd (unfold le ofBits in p)
-sum-grows (inf true) y f p q = absurd (unfold le ofBits in p)
-sum-grows (inf false) nan f p q = absurd (unfold le ofBits in q)
-sum-grows (inf false) (inf true) f p q = absurd (unfold le ofBits in q)
-sum-grows (inf false) (inf false) f p q = unfold le in tt
-sum-grows (inf false) (fin t n d) f p q = unfold le in tt
-sum-grows (fin s m e) nan f p q = absurd (unfold le ofBits in q)
-sum-grows (fin s m e) (inf true) f p q = absurd (unfold le ofBits in q)
-sum-grows (fin s m e) (inf false) f p q = unfold le in tt
+unfolding add le ofBits
+sum-grows (inf false) (inf false) f p q = tt
+sum-grows (inf false) (fin t n d) f p q = tt
+sum-grows (fin s m e) (inf false) f p q = tt
 sum-grows (fin false m e) (fin t n d) f p q =
     let a = m * up e * down d in
     let w = a + n * up d * down e in
@@ -145,24 +133,23 @@ sum-grows (fin false m e) (fin t n d) f p q =
     let l : m * up e * over e d ≡ a * down e = ap (λ (z : ℕ). m * up e * z) (mul-comm (down e) (down d)) ∙ sym (mul-assoc (m * up e) (down d) (down e)) in
     rw (plus-is false m e t n d p q) (round-above m e w (over e d) f (mul-pos (down-pos e) (down-pos d)) (omega arith))
 sum-grows (fin true m e) (fin false n d) f p q =
-    rw (plus-is true m e false n d p q) (minus-first m e _ (round-not-below (m * up e * down d + n * up d * down e) (over e d) (mul-pos (down-pos e) (down-pos d))))
+    let w = m * up e * down d + n * up d * down e in
+    rw (plus-is true m e false n d p q) (minus-first m e (round binary32 false w (over e d)) (round-not-below w (over e d) (mul-pos (down-pos e) (down-pos d))))
 sum-grows (fin true m e) (fin true n d) f p q =
     let a = scaled m e d (none m e true p refl) in
     let b = scaled n d e (none n d true q refl) in
-    minus-first m e _ (rw (plus-is true m e true n d p q) (rounds-zero true (m * up e * down d + n * up d * down e) (over e d) (omega arith)))
+    let w = m * up e * down d + n * up d * down e in
+    rw (plus-is true m e true n d p q) (minus-first m e (round binary32 true w (over e d)) (rounds-zero true w (over e d) (omega arith)))
 
 -- a zero added: to a float with no minus sign it gives that float, bit for bit
 pub zero-adds-nothing : (x : Float) (b : Bool) → T (fits binary32 x) → T (unsigned x) → x ⊕ fin b 0 (pos 0) ≡ x
 unfolding add
-zero-adds-nothing nan b f u = absurd u
 zero-adds-nothing (inf s) b f u = refl
-zero-adds-nothing (fin true m e) b f u = absurd u
 zero-adds-nothing (fin false m e) b f u = sum-is false (m * up e * 1) b (0 * down e) (down e * 1) (λ h. no h) (λ h. zero-mul (down e)) ∙ rw (zero-mul (down e), add-zero (m * up e * 1), mul-one (m * up e), mul-one (down e)) (round-own m e f)
 
 -- and the same number, if -0 is one
 pub zero-keeps-number : (x : Float) (b : Bool) → T (fits binary32 x) → T (le 0·0 x) → T (eq x (x ⊕ fin b 0 (pos 0)))
-zero-keeps-number nan b f p = absurd (unfold le ofBits in p)
-zero-keeps-number (inf true) b f p = absurd (unfold le ofBits in p)
+unfolding le ofBits
 zero-keeps-number (inf false) b f p = unfold add eq in tt
 zero-keeps-number (fin false m e) b f p = rw (zero-adds-nothing (fin false m e) b f tt) (eq-refl-of (fin false m e) (le-right 0·0 (fin false m e) p))
 zero-keeps-number (fin true m e) b f p =

@@ -5,7 +5,7 @@ use Prim.Native.Nat.{ℕ, zero, suc, _*_}
 use native.Mathlib.Nat.{zero-mul, mul-zero}
 use lib.IntN.{ℤ, pos}
 use lib.Dec.{T}
-use lib.Ieee.{Float, nan, inf, fin, binary32, up, down, unlike, round, neg, sum, add, sub, mul, eq, ofBits}
+use lib.Ieee.{Float, fin, binary32, up, down, unlike, round, neg, sum, add, sub, mul, eq, ofBits}
 use Rattle.relay_math.specs.F32.{_⊕_, _⊖_, _⊗_, 0·0, isFinite}
 use Rattle.relay_math.proofs.Signs.{not-zero}
 use Rattle.relay_math.proofs.Sums.{round-zero}
@@ -21,8 +21,6 @@ equal (none false e) = rw (zero-mul (up e), zero-mul (down e)) tt
 
 pub is-zero : (x : Float) → T (eq x 0·0) → IsZero x
 unfolding eq ofBits
-is-zero nan h = absurd h
-is-zero (inf s) h = absurd h
 is-zero (fin s zero e) h = none s e
 is-zero (fin s (suc m) e) h = absurd (subst T (not-zero m e s) h)
 
@@ -37,14 +35,10 @@ rounded s c = rw (round-zero s c) (none s (pos 0))
 
 pub times : (x : Float) {y : Float} → T (isFinite x) → IsZero y → IsZero (x ⊗ y)
 unfolding mul isFinite
-times nan f z = absurd f
-times (inf s) f z = absurd f
 times (fin s m e) f (none t d) = simp (zero-mul, mul-zero) (rounded (unlike s t) (down e * down d))
 
 pub by : {x : Float} (y : Float) → IsZero x → T (isFinite y) → IsZero (x ⊗ y)
 unfolding mul isFinite
-by nan z f = absurd f
-by (inf s) z f = absurd f
 by (fin t n d) (none s e) f = simp zero-mul (rounded (unlike s t) (down e * down d))
 
 zeros : (s t : Bool) (c : ℕ) → IsZero (sum binary32 s 0 t 0 c)

@@ -1,12 +1,12 @@
 -- |x| in units of 2 ^ -48, by the fields of its bits; and n and r: the reduction in those units is the exact one in grains, which takes off the nearest multiple of P. Assumes nothing.
-use mathlib.Core.Path.{_≡_, refl, sym, ap, _∙_}
+use mathlib.Core.Path.{_≡_, refl, sym, ap, _∙_, subst}
 use mathlib.Core.Bool.{Bool, true, false, not, cond}
 use mathlib.Core.Logic.{inl, inr}
 use Prim.Native.Nat.{ℕ, _+_, _*_, _-_, _/_, _%_, _^_, _≤_, _<_}
 use native.Mathlib.Nat.{le-of-lt, lt-of-lt-of-le, lt-of-le-of-lt, lt-of-not-le, not-le-of-lt}
-use native.Mathlib.Nat.{mul-comm, mul-assoc, add-mul, mul-sub, mul-div-mul-right, mul-le-mul-right, le-of-mul-le-mul-right, mul-lt-mul-of-pos-right, add-mul-mod-self-left, mod-lt, mul-pos, div-mul-le-self, lt-div-mul-add}
+use native.Mathlib.Nat.{mul-comm, mul-assoc, mul-add, mul-sub, mul-div-mul-right, mul-le-mul-right, le-of-mul-le-mul-right, mul-lt-mul-of-pos-right, add-mul-mod-self-left, mod-lt, mul-pos, div-mul-le-self, lt-div-mul-add}
 use native.Mathlib.Omega.{arith}
-use borrow.Author.Tests.{lt-ltb, le-ltb, le-leb, leb-true, ltb-true, ltb-false}
+use borrow.Author.Tests.{le-ltb, le-leb, leb-true}
 use lib.IntN.{ℤ, pos, negsuc}
 use lib.Dec.{T, leb, ltb, lit<, lit≤, leb→le}
 use lib.Pow.{pow-mono, shl-lt}
@@ -18,6 +18,7 @@ use Rattle.relay_math.specs.F32.{grains, fabsf}
 use Rattle.relay_math.specs.Steps.{Tiny, Most, fixed, P48, reduceOf}
 use Rattle.laws.proofs.Tests.{le-or-lt}
 use Rattle.relay_math.proofs.Signs.{le-is}
+use Rattle.relay_math.proofs.Order.{ltb-scaled}
 use Rattle.relay_math.proofs.Grains.{shift, placed, grains-of, grains-exact, reads}
 
 -- ---- a float of size 2 ^ -12 to 2 ^ 13
@@ -62,12 +63,10 @@ parts s m e f h k =
     record { number = tt; low = omega (arith, o, x); high = omega (arith, o, x); is = rw (t, w) (d .is ∙ shift (d .q) (d .k) 101 (omega (arith, x))) }
 
 pub known : (x : Float) → T (fits binary32 x) → T (le Tiny (fabsf x)) → T (le (fabsf x) Most) → Parts x
-unfolding fabsf
-known nan f h k = unfold le lt eq in absurd h
-known (inf s) f h k = unfold le lt eq in absurd k
+unfolding fabsf le lt eq
 known (fin s m e) f h k =
-    parts s m e f (omega (arith, leb→le (1 * 1 * down e) (m * up e * 4096) (rw (le-is 1 (negsuc 11) m e) at h)))
-    (omega (arith, leb→le (m * up e * 1) (1 * 8192 * down e) (rw (le-is m e 1 (pos 13)) at k)))
+    parts s m e f (omega (arith, leb→le (1 * 1 * down e) (m * up e * 4096) (subst T (le-is 1 (negsuc 11) m e) h)))
+    (omega (arith, leb→le (m * up e * 1) (1 * 8192 * down e) (subst T (le-is m e 1 (pos 13)) k)))
 
 -- ---- what u grains turn to: n modulo 4, the rest, and whether it is negative
 pub record Turn (u n R : ℕ) (b : Bool) : Type 0 where
@@ -121,18 +120,8 @@ turns-is X g G = go (leb (2 * (X * g)) (P48 * g)) refl
         let b : 2 * (P48 * g) ≡ 2 * P48 * g = omega arith in
         rw (a, b) (mul-div-mul-right (2 * X + P48) (2 * P48) G ∙ omega arith)
 
-sub-mul : (a b g : ℕ) → a * g - b * g ≡ (a - b) * g
-sub-mul a b g = sym (mul-comm (a - b) g ∙ mul-sub g a b ∙ rw (mul-comm g a, mul-comm g b))
-
 gap-mul : (a b g : ℕ) → gap (a * g) (b * g) ≡ gap a b * g
-gap-mul a b g = rw (sub-mul a b g, sub-mul b a g) (sym (add-mul (a - b) (b - a) g))
-
-ltb-mul : (a b g : ℕ) → 0 < g → ltb (a * g) (b * g) ≡ ltb a b
-ltb-mul a b g G = go (ltb a b) refl
-  where
-    go : (t : Bool) → ltb a b ≡ t → ltb (a * g) (b * g) ≡ t
-    go true h = lt-ltb _ _ (mul-lt-mul-of-pos-right (ltb-true a b h) G)
-    go false h = le-ltb _ _ (mul-le-mul-right g (ltb-false a b h))
+gap-mul a b g = rw (mul-comm a g, mul-comm b g, ← mul-sub g a b, ← mul-sub g b a, mul-comm (gap a b) g) (sym (mul-add g (a - b) (b - a)))
 
 module _ (X : ℕ) where
   pub few : reduceOf X .n < 4
@@ -152,7 +141,7 @@ module _ (X : ℕ) where
   turn =
       (of-turns (X * 2 ^ 101) (count X) (gap X (count X * P48) * 2 ^ 101) (ltb X (count X * P48)) turns-units
       (ap (λ (n : ℕ). gap (X * 2 ^ 101) n) (sym (mul-assoc (count X) P48 (2 ^ 101))) ∙ gap-mul X (count X * P48) (2 ^ 101))
-      (ap (λ (n : ℕ). ltb (X * 2 ^ 101) n) (sym (mul-assoc (count X) P48 (2 ^ 101))) ∙ ltb-mul X (count X * P48) (2 ^ 101) (lit< tt)))
+      (ap (λ (n : ℕ). ltb (X * 2 ^ 101) n) (sym (mul-assoc (count X) P48 (2 ^ 101))) ∙ ltb-scaled X (count X * P48) (2 ^ 101) (lit< tt)))
 
 -- ---- "no tie occurs"
 -- P48 is odd, so no whole number of its units is half of it

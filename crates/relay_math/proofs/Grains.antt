@@ -1,7 +1,7 @@
 -- A finite f32 is a whole number of grains: q * 2 ^ k of them, with a q below 2 ^ 24, and its bit pattern is then k * 2 ^ 23 + q. Assumes nothing.
 use mathlib.Core.Path.{_≡_, refl, sym, ap, _∙_}
 use Prim.Native.Nat.{ℕ, zero, suc, _+_, _-_, _*_, _/_, _%_, _^_, _≤_, _<_}
-use native.Mathlib.Nat.{le-trans, le-of-eq, lt-of-lt-of-le, lt-of-le-of-lt, lt-of-not-le, lt-irrefl, not-le-of-lt, le-of-suc-le-suc, zero-add}
+use native.Mathlib.Nat.{le-trans, le-of-eq, lt-of-lt-of-le, lt-of-le-of-lt, lt-of-not-le, not-le-of-lt, zero-add}
 use native.Mathlib.Nat.{zero-mul, one-mul, mul-one, mul-assoc, mul-right-comm, mul-pos, mul-le-mul-right, mul-lt-mul-of-pos-right, lt-of-mul-lt-mul-right, le-of-mul-le-mul-right, mul-div-cancel}
 use native.Mathlib.Omega.{arith}
 use mathlib.Core.Bool.{Bool, false, _&&_}
@@ -15,7 +15,7 @@ use lib.Ieee.Bits.{ofBits-toBits}
 use lib.Ieee.Exact.{HasValue}
 use Rattle.relay_math.specs.F32.{grains}
 use Rattle.relay_math.specs.Sqrt.{natural}
-use Rattle.relay_math.proofs.Signs.{of-natural, of-value}
+use Rattle.relay_math.proofs.Signs.{of-value}
 
 -- a value of G / 2 ^ 149 is G grains
 pub grains-of : (x : Float) (s : Bool) (G : ℕ) → HasValue x s G (2 ^ 149) → grains x ≡ G
@@ -27,13 +27,10 @@ shift m j k h = ap (λ (x : ℕ). m * x) (ap (λ (x : ℕ). 2 ^ x) (sym (back j 
 
 -- ---- m * 2 ^ e in grains
 
-pub pow-le-back : (a l : ℕ) → 2 ^ a ≤ 2 ^ l → a ≤ l
-pow-le-back a l h = le-of-suc-le-suc (lt-of-not-le (λ (g : suc l ≤ a). lt-irrefl (2 ^ l) (lt-of-lt-of-le (pow-lt g) h)))
-
 place : (e : ℤ) → down e ≤ 2 ^ 149 → (j : ℕ) × (up e * 2 ^ 149 ≡ 2 ^ j * down e)
 place (pos a) h = (a + 149, sym (mul-one (2 ^ (a + 149)) ∙ pow-add 2 a 149))
 place (negsuc a) h =
-    let l : suc a ≤ 149 = pow-le-back (suc a) 149 h in
+    let l : suc a < 150 = lt-of-not-le (λ (g : 150 ≤ suc a). not-le-of-lt (pow-lt {i = 149} g) h) in
     (149 - suc a, one-mul (2 ^ 149) ∙ ap (λ (x : ℕ). 2 ^ x) (sym (back 149 (suc a) (omega arith))) ∙ pow-add 2 (149 - suc a) (suc a))
 
 abbrev pub Placed : ℕ → ℤ → Type 0
@@ -122,6 +119,4 @@ pub same-grains : (x y : Float) → T (natural x) → T (natural y) → T (fits 
 same-grains x y p q f g h = sym (ofBits-toBits binary32 x f) ∙ ap (ofBits binary32) (bits x y p q h) ∙ ofBits-toBits binary32 y g
   where
     bits : (x y : Float) → T (natural x) → T (natural y) → grains x ≡ grains y → toBits binary32 x ≡ toBits binary32 y
-    bits x y p q =
-        of-natural (λ (x : Float). grains x ≡ grains y → toBits binary32 x ≡ toBits binary32 y)
-        (λ m d. of-natural (λ (y : Float). grains (fin false m d) ≡ grains y → toBits binary32 (fin false m d) ≡ toBits binary32 y) (λ n c e. unfold toBits grains in rw e) y q) x p
+    bits (fin false m d) (fin false n c) p q e = unfold toBits grains in rw e

@@ -36,7 +36,7 @@ chain true true false a b c p q = le-ltb 0 (a + c) (omega (arith, ltb-false b a 
 chain true true true a b c p q = le-ltb c a (omega (arith, ltb-false b a p, ltb-false c b q))
 
 -- a larger denominator changes nothing
-ltb-scaled : (a b k : ℕ) → 0 < k → ltb (a * k) (b * k) ≡ ltb a b
+pub ltb-scaled : (a b k : ℕ) → 0 < k → ltb (a * k) (b * k) ≡ ltb a b
 ltb-scaled a b k K = elim (le-or-lt b a) [ inl h ↦ rw (le-ltb a b h) (le-ltb (a * k) (b * k) (mul-le-mul-right k h)) | inr h ↦ rw (lt-ltb a b h) (lt-ltb (a * k) (b * k) (mul-lt-mul-of-pos-right h K)) ]
 
 scaled : (s : Bool) (a : ℕ) (t : Bool) (b k : ℕ) → 0 < k → below s (a * k) t (b * k) ≡ below s a t b

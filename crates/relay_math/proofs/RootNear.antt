@@ -7,11 +7,10 @@ use native.Mathlib.Omega.{arith}
 use mathlib.Core.Bool.{Bool, true, false, not, cond}
 use lib.Dec.{T, leb, leb→le, nleb→lt}
 use lib.Pow.{pow-add, pow-pos, pow-mono, shl-lt}
-use lib.Ieee.{Float, binary32, fits}
+use lib.Ieee.{Float, fin, binary32, fits}
 use Rattle.relay_math.specs.F32.{grains}
 use Rattle.relay_math.specs.Sqrt.{natural, square, isqrt, nearestRoot, Nearest}
 use Rattle.laws.proofs.Tests.{le-or-lt}
-use Rattle.relay_math.proofs.Signs.{of-natural}
 use Rattle.relay_math.proofs.Grains.{shift, reads}
 
 -- ---- the whole root
@@ -62,15 +61,12 @@ abbrev Grid : ℕ → ℕ → Type 0
 Grid G Y = ((c : ℕ) × (Y ≡ c * G)) ⊎ (Y < 2 ^ 23 * G)
 
 on-grid : (k : ℕ) (y : Float) → T (fits binary32 y) → T (natural y) → Grid (2 ^ k) (grains y)
-on-grid k y t p =
-    of-natural (λ (y : Float). T (fits binary32 y) → Grid (2 ^ k) (grains y))
-    (λ m e t.
+on-grid k (fin false m e) t p =
     let w = reads m e t in
     elim (le-or-lt k (w .k)) [
       | inl a ↦ inl (w .q * 2 ^ (w .k - k), w .is ∙ shift (w .q) (w .k) k a)
       | inr a ↦ inr (rw (w .is) (lt-of-lt-of-le (shl-lt 24 (w .k) (w .few)) (le-trans (pow-mono (omega arith)) (le-of-eq (pow-add 2 23 k)))))
-    ])
-    y p t
+    ]
 
 -- ---- the squares: r * G is nearer than a Y above it, and than a Y below it
 module _ (n r G N Y : ℕ) (p : 0 < G) (e : N ≡ n * (G * G)) (y : Grid G Y) (c : Closest n r) (low : 2 ^ 23 ≤ r) (least : 2 ^ 46 ≤ n) where

@@ -7,14 +7,14 @@ use native.Mathlib.Omega.{arith}
 use borrow.Author.Tests.{lt-ltb, le-ltb, ne-eqb}
 use lib.IntN.{ℤ, pos}
 use lib.Dec.{T, leb, ltb}
-use lib.Ieee.{Float, nan, inf, fin, binary32, fits, isNan, up, down, round, units, odd, lt, le, eq}
+use lib.Ieee.{Float, inf, fin, binary32, fits, isNan, up, down, round, units, odd, lt, le, eq}
 use lib.Ieee.Back.{whole-unique}
 use lib.Ieee.Exact.{HasValue}
 use lib.Ieee.Fits.{up-pos, round-is}
 use lib.Ieee.Positive.{positive}
-use Rattle.laws.proofs.Tests.{no, ordered}
-use Rattle.relay_math.specs.Sqrt.{natural}
+use Rattle.laws.proofs.Tests.{ordered}
 use Rattle.relay_math.specs.Steps.{Zero}
+use Rattle.relay_math.proofs.Order.{le-right, le-of-lt}
 
 -- ---- a zero is written in one way, and another number is on the side of its sign
 
@@ -41,19 +41,13 @@ module _ (m : ℕ) (e : ℤ) where
   not-zero s = rw (ne-eqb (suc m * up e * 1) (0 * down e) (λ z. omega (arith, size-pos, z)))
 
 pub not-nan : (x : Float) → lt Zero x ≡ true → T (not (isNan x))
-unfolding lt isNan
-not-nan nan t = no t
-not-nan (inf s) t = tt
-not-nan (fin s m e) t = tt
+not-nan x t = le-right Zero x (le-of-lt Zero x t)
 
 pub le-is : (m : ℕ) (e : ℤ) (n : ℕ) (d : ℤ) → le (fin false m e) (fin false n d) ≡ leb (m * up e * down d) (n * up d * down e)
 unfolding le lt eq
 le-is m e n d = ordered (m * up e * down d) (n * up d * down e)
 
--- ---- what a float is written as: one that is not below zero, one of the value a / c, a positive one, one that was rounded
-pub of-natural : (P : Float → Type 0) → ((m : ℕ) (e : ℤ) → P (fin false m e)) → (x : Float) → T (natural x) → P x
-of-natural P h (fin false m e) p = h m e
-
+-- ---- what a float is written as: a positive one, one of the value a / c, one that was rounded
 pub of-positive : (P : Float → Type 0) → ((m : ℕ) (e : ℤ) → T (fits binary32 (fin false (suc m) e)) → P (fin false (suc m) e)) → (x : Float) → T (fits binary32 x) → T (positive x) → P x
 of-positive P h (fin false (suc m) e) f p = h m e f
 

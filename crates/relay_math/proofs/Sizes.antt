@@ -50,14 +50,12 @@ pick-small : (b : Bool) (x y : Float) → Small x → Small y → Small (cond b 
 pick-small true x y h k = h
 pick-small false x y h k = k
 
-turned-small : (s : Bool) (n : ℕ) (b : Bool) (x y : Float) → Small x → Small y → Small (turned s n b x y)
-unfolding turned
-turned-small s n b x y h k = let even = eqb (n % 2) 0 in signed-small (unlike (unlike s (leb 2 n)) (even && b)) (cond even x y) (pick-small even x y h k)
-
 by-small : (s : Bool) (n : ℕ) (d : Reduced) → d .r ≤ 2 ^ 48 → Small (turnedBy s n d)
-unfolding toFloat sinPoly cosPoly
+unfolding turned toFloat sinPoly cosPoly
 by-small s n d h =
-    turned-small s n (d .back) (toFloat (sinPoly (d .r) (d .z))) (toFloat (cosPoly (d .z))) (round-small (sinPoly (d .r) (d .z)) (2 ^ 48) (lit< tt) (omega (arith, h))) (round-small (cosPoly (d .z)) (2 ^ 48) (lit< tt) (omega arith))
+    let even = eqb (n % 2) 0 in
+    signed-small (unlike (unlike s (leb 2 n)) (even && d .back)) (cond even (toFloat (sinPoly (d .r) (d .z))) (toFloat (cosPoly (d .z))))
+    (pick-small even _ _ (round-small (sinPoly (d .r) (d .z)) (2 ^ 48) (lit< tt) (omega (arith, h))) (round-small (cosPoly (d .z)) (2 ^ 48) (lit< tt) (omega arith)))
 
 -- below 2 ^ -12 the sine is x itself
 tiny-small : (x : Float) → le (fabsf x) Limit ≡ true → le Tiny (fabsf x) ≡ false → Small x

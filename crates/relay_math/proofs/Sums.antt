@@ -57,26 +57,21 @@ round-not-below : (a c : ℕ) → 0 < c → T (le 0·0 (round binary32 false a c
 unfolding ofBits fits
 round-not-below a c C = round-above 0 (pos 0) a c tt C (omega arith)
 
--- ---- a float that is not below zero has nothing under a minus sign
+-- ---- a float that is not below zero has nothing under a minus sign: its size is zero
 
-not-below : (m : ℕ) (e : ℤ) → T (le 0·0 (fin true m e)) → m ≡ 0
+none : (m : ℕ) (e : ℤ) (s : Bool) → T (le 0·0 (fin s m e)) → s ≡ true → m * up e ≡ 0
 unfolding ofBits
-not-below zero e h = refl
-not-below (suc m) e h = no (sym (not-lt-of-le (fin true (suc m) e) 0·0 h) ∙ is-below m e true)
+none zero e true h q = zero-mul (up e)
+none (suc m) e true h q = no (sym (not-lt-of-le (fin true (suc m) e) 0·0 h) ∙ is-below m e true)
+none m e false h q = no q
 
--- so a minus sign says that its size is zero
-module _ (m : ℕ) (e : ℤ) where
-  none : (s : Bool) → T (le 0·0 (fin s m e)) → s ≡ true → m * up e ≡ 0
-  none true h q = rw (not-below m e h) (zero-mul (up e))
-  none false h q = no q
-
-zero-not-below : (s : Bool) → T (le 0·0 (fin s 0 (pos 0)))
+zero-level : (s : Bool) → T (le 0·0 (fin s 0 (pos 0))) × T (le (fin s 0 (pos 0)) 0·0)
 unfolding le ofBits
-zero-not-below true = tt
-zero-not-below false = tt
+zero-level true = (tt, tt)
+zero-level false = (tt, tt)
 
 rounds-zero : (s : Bool) (a c : ℕ) → a ≡ 0 → T (le 0·0 (round binary32 s a c))
-rounds-zero s a c h = rw (h, round-zero s c) (zero-not-below s)
+rounds-zero s a c h = rw (h, round-zero s c) (zero-level s .0)
 
 -- what has a minus sign is at most whatever is not below zero
 minus-first : (m : ℕ) (e : ℤ) (z : Float) → T (le 0·0 z) → T (le (fin true m e) z)
@@ -100,7 +95,7 @@ zero-times (fin s m e) f = (unlike s false, rw mul-zero (round-zero (unlike s fa
 -- ---- a sum
 
 -- of ±a and ±b over c, where a minus sign has nothing under it
-sum-is : (s : Bool) (a : ℕ) (t : Bool) (b c : ℕ) → (s ≡ true → a ≡ 0) → (t ≡ true → b ≡ 0) → sum binary32 s a t b c ≡ round binary32 (s && t) (a + b) c
+pub sum-is : (s : Bool) (a : ℕ) (t : Bool) (b c : ℕ) → (s ≡ true → a ≡ 0) → (t ≡ true → b ≡ 0) → sum binary32 s a t b c ≡ round binary32 (s && t) (a + b) c
 unfolding sum
 sum-is true a true b c p q = refl
 sum-is false a false b c p q = refl
@@ -153,9 +148,5 @@ unfolding le ofBits
 zero-keeps-number (inf false) b f p = unfold add eq in tt
 zero-keeps-number (fin false m e) b f p = rw (zero-adds-nothing (fin false m e) b f tt) (eq-refl-of (fin false m e) (le-right 0·0 (fin false m e) p))
 zero-keeps-number (fin true m e) b f p =
-    let z : fin true m e ⊕ fin b 0 (pos 0) ≡ fin b 0 (pos 0) = plus-is true m e b 0 (pos 0) p (zero-not-below b) ∙ rw (none m e true p refl, zero-mul (down e)) (round-zero b (down e * 1)) in
-    rw z (eq-of-le (fin true m e) (fin b 0 (pos 0)) (minus-first m e (fin b 0 (pos 0)) (zero-not-below b)) (le-trans (fin b 0 (pos 0)) 0·0 (fin true m e) (zero-not-above b) p))
-  where
-    zero-not-above : (s : Bool) → T (le (fin s 0 (pos 0)) 0·0)
-    zero-not-above true = unfold le ofBits in tt
-    zero-not-above false = unfold le ofBits in tt
+    let z : fin true m e ⊕ fin b 0 (pos 0) ≡ fin b 0 (pos 0) = plus-is true m e b 0 (pos 0) p (zero-level b .0) ∙ rw (none m e true p refl, zero-mul (down e)) (round-zero b (down e * 1)) in
+    rw z (eq-of-le (fin true m e) (fin b 0 (pos 0)) (minus-first m e (fin b 0 (pos 0)) (zero-level b .0)) (le-trans (fin b 0 (pos 0)) 0·0 (fin true m e) (zero-level b .1) p))

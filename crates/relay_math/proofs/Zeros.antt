@@ -1,14 +1,14 @@
 -- Zeros of either sign: what is made of them, or by a product with one, is one again. Assumes nothing.
-use mathlib.Core.Path.{subst}
-use mathlib.Core.Bool.{Bool, true, false, not}
+use mathlib.Core.Path.{refl, subst}
+use mathlib.Core.Bool.{Bool, true, false, not, _&&_}
 use Prim.Native.Nat.{ℕ, zero, suc, _*_}
 use native.Mathlib.Nat.{zero-mul, mul-zero}
 use lib.IntN.{ℤ, pos}
 use lib.Dec.{T}
-use lib.Ieee.{Float, fin, binary32, up, down, unlike, round, neg, sum, add, sub, mul, eq, ofBits}
+use lib.Ieee.{Float, fin, binary32, up, down, unlike, round, neg, add, sub, mul, eq, ofBits}
 use Rattle.relay_math.specs.F32.{_⊕_, _⊖_, _⊗_, 0·0, isFinite}
 use Rattle.relay_math.proofs.Signs.{not-zero}
-use Rattle.relay_math.proofs.Sums.{round-zero}
+use Rattle.relay_math.proofs.Sums.{round-zero, sum-is}
 
 pub data IsZero : Float → Type 0 where
   none : (s : Bool) (e : ℤ) → IsZero (fin s 0 e)
@@ -41,16 +41,9 @@ pub by : {x : Float} (y : Float) → IsZero x → T (isFinite y) → IsZero (x �
 unfolding mul isFinite
 by (fin t n d) (none s e) f = simp zero-mul (rounded (unlike s t) (down e * down d))
 
-zeros : (s t : Bool) (c : ℕ) → IsZero (sum binary32 s 0 t 0 c)
-unfolding sum
-zeros true true c = rounded true c
-zeros true false c = rounded false c
-zeros false true c = rounded false c
-zeros false false c = rounded false c
-
 pub plus : {x y : Float} → IsZero x → IsZero y → IsZero (x ⊕ y)
 unfolding add
-plus (none s e) (none t d) = simp zero-mul (zeros s t (down e * down d))
+plus (none s e) (none t d) = simp zero-mul (rw (sum-is s 0 t 0 (down e * down d) (λ h. refl) (λ h. refl)) (rounded (s && t) (down e * down d)))
 
 pub minus : {x y : Float} → IsZero x → IsZero y → IsZero (x ⊖ y)
 unfolding sub neg

@@ -1,5 +1,6 @@
 # make fly         prove and build the core, then fly a slow pass above a stage: a table, logs and a picture, our shield beside the earlier rule;
-#                  a pass of three legs on a route, a curved one, and one in which a rotor stops. The files go to flights/, which nothing here removes
+#                  a pass of three legs on a route, one whose segment is exchanged, a curved pass, and one in which a rotor stops.
+#                  The files go to flights/, which nothing here removes
 #                  `make fly SCENARIO=my.txt` flies that file instead (docs/FLYING.md); OUT=folder has the files elsewhere;
 #                  INSTALL=no installs nothing for the picture
 # make log         a flight log as CSV on standard output, and its picture: `make log FILE=flights/pass-shield.log` (docs/FLYING.md);

@@ -19,7 +19,7 @@ extern "C" {
 /* The version of this header; fosavalo_version() is the archive's. The second number is that of the last change request which both have: a request may
  * change what a word means and leave every length. */
 #define FOSAVALO_VERSION_MAJOR 0
-#define FOSAVALO_VERSION_MINOR 6
+#define FOSAVALO_VERSION_MINOR 7
 #define FOSAVALO_VERSION_PATCH 0
 #define FOSAVALO_VERSION_NUMBER ((FOSAVALO_VERSION_MAJOR << 16) + (FOSAVALO_VERSION_MINOR << 8) + FOSAVALO_VERSION_PATCH)
 #define FOSAVALO_VERSION FOSAVALO_TEXT(FOSAVALO_VERSION_MAJOR) "." FOSAVALO_TEXT(FOSAVALO_VERSION_MINOR) "." FOSAVALO_TEXT(FOSAVALO_VERSION_PATCH)
@@ -87,7 +87,7 @@ float fosavalo_cosf(float x);
 /* Set-up and the joint tick work on bytes: words of 32 bits, little-endian, a float as its bits. A NaN that is written is 7fc00000. */
 
 /* The lengths of the buffers, in bytes. */
-#define FOSAVALO_IMAGE_BYTES 384
+#define FOSAVALO_IMAGE_BYTES 396
 #define FOSAVALO_SETUP_BYTES 204
 #define FOSAVALO_TICK_BYTES 68
 #define FOSAVALO_ANSWER_BYTES 40
@@ -98,13 +98,13 @@ float fosavalo_cosf(float x);
 #define FOSAVALO_LOG_TRAILER_BYTES 12
 #define FOSAVALO_MOST_RECORDS 65535
 
-/* What set-up and the ticks return. Of 0 to 4 it is the lowest that holds; 5 to 7 come after 4, in the order that the route tick tells; 10 comes
- * after 2. The log's calls tell theirs. */
+/* What set-up, the exchange and the ticks return. Of 0 to 4 it is the lowest that holds; 5 to 7 come after 4, in the order that the route tick tells; 10
+ * comes after 2. The log's calls tell theirs. */
 #define FOSAVALO_DONE 0                 /* what the call writes is written: the image, at a tick the answer too, what a log's call tells */
 #define FOSAVALO_WRONG_IMAGE_LENGTH 1   /* image_len is not FOSAVALO_IMAGE_BYTES */
-#define FOSAVALO_WRONG_INPUT_LENGTH 2   /* input_len is not FOSAVALO_SETUP_BYTES, at a tick and an append FOSAVALO_TICK_BYTES; count_len is not 4 */
+#define FOSAVALO_WRONG_INPUT_LENGTH 2   /* input_len is not FOSAVALO_SETUP_BYTES, at a tick and an append FOSAVALO_TICK_BYTES; segment_len is not FOSAVALO_LEG_BYTES; count_len is not 4 */
 #define FOSAVALO_WRONG_ANSWER_LENGTH 3  /* ticks and append: answer_len is not FOSAVALO_ANSWER_BYTES */
-#define FOSAVALO_BROKEN_IMAGE 4         /* ticks only: no set-up or tick leaves such an image */
+#define FOSAVALO_BROKEN_IMAGE 4         /* ticks and exchange: no call leaves such an image */
 #define FOSAVALO_WRONG_LEG_COUNT 5      /* route tick only: the count is 0 or above FOSAVALO_MOST_LEGS */
 #define FOSAVALO_WRONG_ROUTE_LENGTH 6   /* route tick only: under 8 bytes, or the bytes back or the length do not go with the count */
 #define FOSAVALO_LEGS_APART 7           /* route tick only: a leg does not start where the one before it ends */
@@ -122,12 +122,12 @@ static inline const char *fosavalo_meaning(uint32_t number) {
     case FOSAVALO_WRONG_IMAGE_LENGTH:
         return "the image is not " FOSAVALO_TEXT(FOSAVALO_IMAGE_BYTES) " bytes long";
     case FOSAVALO_WRONG_INPUT_LENGTH:
-        return "the input is not " FOSAVALO_TEXT(FOSAVALO_SETUP_BYTES) " bytes long at set-up, " FOSAVALO_TEXT(FOSAVALO_TICK_BYTES)
-               " at a tick and in a log, or a log's count is not 4";
+        return "the input is not " FOSAVALO_TEXT(FOSAVALO_SETUP_BYTES) " bytes long at set-up, " FOSAVALO_TEXT(FOSAVALO_LEG_BYTES)
+               " at an exchange, " FOSAVALO_TEXT(FOSAVALO_TICK_BYTES) " at a tick and in a log, or a log's count is not 4";
     case FOSAVALO_WRONG_ANSWER_LENGTH:
         return "the answer is not " FOSAVALO_TEXT(FOSAVALO_ANSWER_BYTES) " bytes long";
     case FOSAVALO_BROKEN_IMAGE:
-        return "the image is none that set-up or a tick leaves";
+        return "the image is none that set-up, a tick or an exchange leaves";
     case FOSAVALO_WRONG_LEG_COUNT:
         return "a route has 1 to " FOSAVALO_TEXT(FOSAVALO_MOST_LEGS) " legs";
     case FOSAVALO_WRONG_ROUTE_LENGTH:
@@ -175,7 +175,7 @@ static inline const char *fosavalo_meaning(uint32_t number) {
 #define FOSAVALO_SETUP_FS 49
 #define FOSAVALO_SETUP_PROFILE 50   /* a whole number: FOSAVALO_WHOLE or FOSAVALO_LOST_ROTOR */
 
-/* A leg of a route, and the segment of a set-up. */
+/* A leg of a route, and the segment of a set-up and of an exchange. */
 #define FOSAVALO_LEG_P0 0  /* 3 */
 #define FOSAVALO_LEG_V0 3  /* 3 */
 #define FOSAVALO_LEG_A0 6  /* 3 */
@@ -202,7 +202,7 @@ static inline const char *fosavalo_meaning(uint32_t number) {
 #define FOSAVALO_ANSWER_PSI 8
 #define FOSAVALO_ANSWER_MARGIN 9
 
-/* The image. To look at: only set-up and the ticks write one. */
+/* The image. To look at: only set-up, the exchange and the ticks write one. */
 #define FOSAVALO_IMAGE_COUNT 0    /* a whole number: how many words an image has */
 #define FOSAVALO_IMAGE_K_R 1      /* 3; these to G_MIN are set-up's, but for the flag and the time */
 #define FOSAVALO_IMAGE_K_OMEGA 4  /* 3 */
@@ -243,6 +243,7 @@ static inline const char *fosavalo_meaning(uint32_t number) {
 #define FOSAVALO_IMAGE_FILTER_Y1(axis) (75 + 9 * (axis))
 #define FOSAVALO_IMAGE_FILTER_Y2(axis) (76 + 9 * (axis))
 #define FOSAVALO_IMAGE_PROFILE 95 /* a whole number, set-up's */
+#define FOSAVALO_IMAGE_PEAKS 96   /* 3: the bounds of the segment's jerk, +infinity where one is not finite; to be read at any time, without a tick */
 
 /* The profiles: what there is to fly with. */
 #define FOSAVALO_WHOLE 0      /* all rotors */
@@ -256,7 +257,15 @@ static inline const char *fosavalo_meaning(uint32_t number) {
  * that is, and the two buffers must not overlap. */
 uint32_t fosavalo_setup(uint8_t *image, size_t image_len, const uint8_t *input, size_t input_len);
 
-/* One tick on an image that set-up or the last tick left.
+/* Another segment in flight: the words FOSAVALO_LEG_.., of which every bit pattern is taken and mended as at set-up. It is flown from its start: the
+ * governor's time becomes 0, and the peaks are the new segment's. Every other word stays (a NaN is made 7fc00000), so who flies, the rate control and the
+ * filters go on. An image that a tick would refuse is refused, not repaired.
+ *
+ * Returns 0, 1, 2 or 4. Unless it is 0 no byte is changed; the segment never is. Each pointer has to be good for its length, whatever that is, and the two
+ * buffers must not overlap. */
+uint32_t fosavalo_exchange(uint8_t *image, size_t image_len, const uint8_t *segment, size_t segment_len);
+
+/* One tick on an image that set-up, an exchange or the last tick left.
  *
  * The input is the words FOSAVALO_TICK_.., of which every bit pattern is taken; the answer is the words FOSAVALO_ANSWER_..
  * The margin is the smaller of psi_max - psi and 2 k_r (2 - psi) / lambda_j - |error|^2. The error is the filtered rate less the commanded one, which is

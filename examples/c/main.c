@@ -1,5 +1,5 @@
 /* Asks whether the archive and this thread's floating-point environment are right; sets up an image, ticks it along a slow pass, keeps a log of it and
- * prints who flies; then reads the log back, ticks on a route of two legs, makes calls that are refused, and sets up for a lost rotor.
+ * prints who flies; then reads the log back, ticks on a route of two legs, exchanges the segment in flight, makes calls that are refused, and sets up for a lost rotor.
  *
  *   gcc -std=c11 -Wall -Wextra -Werror -I../../include main.c ../../target/staticlib/libfosavalo.a -o joint && ./joint
  */
@@ -142,6 +142,16 @@ int main(void) {
     refused = fosavalo_route_tick(image, sizeof image, input, FOSAVALO_TICK_BYTES, route, sizeof route, answer, sizeof answer);
     refusal("legs that do not meet", refused);
     if (refused != FOSAVALO_LEGS_APART) return 1;
+
+    /* back home in flight: the time starts again, who flies goes on, and the peaks of the jerk stand in the image */
+    uint8_t leg[FOSAVALO_LEG_BYTES];
+    for (size_t k = 0; k < LEG_WORDS; k++) put(leg, k, legs[1][k]);
+    refused = fosavalo_exchange(image, sizeof image, leg, sizeof leg);
+    printf("the segment exchanged: %u, time %.4f, flag %u, peaks", (unsigned)refused, number(image, FOSAVALO_IMAGE_TIME),
+           (unsigned)word(image, FOSAVALO_IMAGE_ENGAGED));
+    for (size_t k = 0; k < 3; k++) printf(" %.4f", number(image, FOSAVALO_IMAGE_PEAKS + k));
+    puts("");
+    if (refused != FOSAVALO_DONE || word(image, FOSAVALO_IMAGE_ENGAGED) != word(answer, FOSAVALO_ANSWER_FLAG)) return 1;
 
     /* an answer buffer that is too short; then an image with a flag that is neither 0 nor 1 */
     uint8_t before[FOSAVALO_IMAGE_BYTES];

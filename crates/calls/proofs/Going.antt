@@ -1,35 +1,36 @@
--- Runs exist and go on for ever: the image that set-up writes is never refused, nor the one that an accepted tick writes. Assumes nothing.
+-- Runs exist and go on for ever: the image that set-up writes is never refused, nor the one that an accepted tick or exchange writes. Assumes nothing.
 use mathlib.Core.Path.{_≡_, refl, ap, _∙_}
 use mathlib.Core.Bool.{Bool, true, false, cond, _||_, _&&_}
 use mathlib.Core.List.{List}
-use Prim.Native.Nat.{ℕ}
+use Prim.Native.Nat.{ℕ, _+_}
 use lib.Dec.{T, eqb}
 use borrow.Author.Tests.{eqb-true, not-false}
 use lib.Ieee.{Float, binary32, fits, lt}
-use Rattle.words.specs.Words.{word, vec, flag}
+use Rattle.words.specs.Words.{word, vec, bits, flag}
 use Rattle.words.proofs.Back.{float-fits}
 use Rattle.relay_math.specs.F32.{0·0, isFinite}
-use Rattle.laws.proofs.Tests.{no}
+use Rattle.laws.proofs.Tests.{no, both}
 use Rattle.relay_geo.specs.Shield.{newShield}
 use Rattle.joint_tick.specs.declared.state.State.{State}
 use Rattle.joint_tick.specs.declared.profile.Profile.{Profile}
 use Rattle.joint_tick.specs.declared.profile.Profile.the-variants.{Whole, LostRotor}
 use Rattle.joint_tick.specs.declared.stages.Reference.{Reference}
 use Rattle.joint_tick.specs.Profile.{profileWord, isProfile, profileOf}
-use Rattle.joint_tick.specs.SetUp.{setUp, segmentOf}
+use Rattle.joint_tick.specs.SetUp.{setUp, segmentOf, exchange}
 use Rattle.joint_tick.specs.Tick.{ticked, prepare, pick, finish, stateAfter}
 use Rattle.joint_tick.specs.Good.{thresholdsOk, good}
-use Rattle.joint_tick.proofs.Kept.{Good, good-parts, set-up-good, tick-good}
+use Rattle.joint_tick.proofs.Kept.{Good, good-parts, set-up-good, tick-good, exchange-good}
 use Rattle.outcome.specs.Outcomes.{isDone}
 use Rattle.outcome.proofs.Tables.{done-none}
-use Rattle.image.specs.Layout.{COUNT, ENGAGED, PROFILE, IMAGE-WORDS, INPUT-BYTES, ANSWER-BYTES, SETUP-ENTER}
+use Rattle.image.specs.Layout.{COUNT, ENGAGED, PROFILE, PEAKS, IMAGE-WORDS, INPUT-BYTES, ANSWER-BYTES, SETUP-ENTER}
 use Rattle.image.specs.Parts.{gainsAt, setAt, legAt, adrcGainsAt, profileAt}
-use Rattle.image.specs.Image.{fixedAt, movingAt, stateAt, imageOf}
+use Rattle.image.specs.Image.{fixedAt, movingAt, stateAt, imageOf, peaksOf, peaksStand}
 use Rattle.image.specs.Inputs.{setupAt, inputAt}
 use Rattle.calls.specs.Entry.{intact, tickTable, tickRefusal}
 use Rattle.calls.specs.Ticks.{Accepted}
+use Rattle.calls.proofs.Flown.{Tests, tests}
 use Rattle.image.specs.Fits.{Fits}
-use Rattle.image.proofs.Decoded.{image-length, count-written, engaged-written, profile-written, decode-encode, state-fits}
+use Rattle.image.proofs.Decoded.{image-length, count-written, engaged-written, profile-written, peaks-stand, standing, decode-encode, state-fits}
 use Rattle.image.proofs.Fitting.{new-shield-fits, governor-fits, advance-fits, segment-fits, rate-new-fits, rate-fraction-fits, rate-tick-fits, gyro-new-fits, gyro-filter-fits}
 
 -- ---- every state that set-up and ticks make is one of f32 values
@@ -65,6 +66,20 @@ tick-fits source s b f =
       lpf = gyro-filter-fits _ _ (f .lpf) (search float-fits);
     }
 
+pub exchange-fits : (s : State) (b : List ℕ) → Fits s → Fits (exchange s (legAt b 0))
+unfolding exchange segmentOf legAt vec
+exchange-fits s b f =
+    record {
+      gains = f .gains;
+      set = f .set;
+      enter = f .enter;
+      exit = f .exit;
+      segment = segment-fits _ _ _ _ _ _ _ (search float-fits) (search float-fits) (search float-fits) (search float-fits);
+      governor = governor-fits _ _ _ (f .governor .1 .0) (f .governor .1 .1 .0) (f .governor .1 .1 .1 .0);
+      rate = f .rate;
+      lpf = f .lpf;
+    }
+
 -- ---- what is written is taken
 
 flag-ok : (b : Bool) → (eqb (flag b) 0 || eqb (flag b) 1) ≡ true
@@ -78,7 +93,7 @@ profile-ok LostRotor = refl
 
 taken : (s : State) → Fits s → good s ≡ true → Accepted (imageOf s)
 unfolding tickRefusal intact
-taken s f g = simp (image-length s, count-written s, profile-written s, profile-ok (s .fixed .profile), engaged-written s, flag-ok (s .moving .engaged), decode-encode s f, g)
+taken s f g = simp (image-length s, count-written s, profile-written s, profile-ok (s .fixed .profile), peaks-stand s (f .segment), engaged-written s, flag-ok (s .moving .engaged), decode-encode s f, g)
 
 enter-fits : (b : List ℕ) → T (fits binary32 (setupAt b .enter))
 unfolding setupAt
@@ -90,30 +105,9 @@ set-up-never-refused b = taken (setUp (setupAt b)) (set-up-fits b) (set-up-good 
 
 -- ---- what an accepted image has
 
-sound : (image : List ℕ) → Accepted image → intact image ≡ true
+passed : (image : List ℕ) → Accepted image → Tests image
 unfolding tickRefusal
-sound image e = not-false (intact image) (done-none (tickTable image INPUT-BYTES ANSWER-BYTES) refl (ap isDone e) 3)
-
--- row 4's four tests, each by itself
-abbrev Tests : List ℕ → Type 0
-Tests image =
-    (eqb (word image COUNT) IMAGE-WORDS ≡ true)
-    × (isProfile (word image PROFILE) ≡ true)
-    × ((eqb (word image ENGAGED) 0 || eqb (word image ENGAGED) 1) ≡ true)
-    × (good (stateAt image) ≡ true)
-
-tests : (image : List ℕ) → Accepted image → Tests image
-unfolding intact
-tests image e =
-    each (eqb (word image COUNT) IMAGE-WORDS) (isProfile (word image PROFILE)) (eqb (word image ENGAGED) 0 || eqb (word image ENGAGED) 1) (good (stateAt image))
-    (sound image e)
-  where
-    each : (x y z v : Bool) → (x && y && z && v) ≡ true → (x ≡ true) × (y ≡ true) × (z ≡ true) × (v ≡ true)
-    each true true true true e = (refl, refl, refl, refl)
-    each true true true false e = no e
-    each true true false v e = no e
-    each true false z v e = no e
-    each false y z v e = no e
+passed image e = tests image (done-none (tickTable image INPUT-BYTES ANSWER-BYTES) refl (ap isDone e) 3)
 
 -- a word that is 0 or 1
 bit : (w : ℕ) → (eqb w 0 || eqb w 1) ≡ true → w ≡ flag (eqb w 1)
@@ -125,16 +119,16 @@ bit w e = go (eqb w 0) (eqb w 1) e refl refl
     go false false e p q = no e
 
 pub good-image : (image : List ℕ) → Accepted image → Good (stateAt image)
-good-image image e = record { holds = state-fits image .governor .0; ok = tests image e .3 }
+good-image image e = record { holds = state-fits image .governor .0; ok = passed image e .4 }
 
 -- its count is its own
 pub count-of-image : (image : List ℕ) → Accepted image → word image COUNT ≡ IMAGE-WORDS
-count-of-image image e = eqb-true (word image COUNT) IMAGE-WORDS (tests image e .0)
+count-of-image image e = eqb-true (word image COUNT) IMAGE-WORDS (passed image e .0)
 
 -- its flag is in its word, and so is its profile
 pub flag-of-image : (image : List ℕ) → Accepted image → word image ENGAGED ≡ flag (movingAt image .engaged)
 unfolding movingAt
-flag-of-image image e = bit (word image ENGAGED) (tests image e .2)
+flag-of-image image e = bit (word image ENGAGED) (passed image e .3)
 
 pub profile-of-word : (w : ℕ) → isProfile w ≡ true → w ≡ profileWord (profileOf w)
 unfolding isProfile
@@ -146,7 +140,12 @@ profile-of-word w e = bit w e ∙ by (eqb w 1)
 
 pub profile-of-image : (image : List ℕ) → Accepted image → word image PROFILE ≡ profileWord (fixedAt image .profile)
 unfolding fixedAt profileAt
-profile-of-image image e = profile-of-word (word image PROFILE) (tests image e .1)
+profile-of-image image e = profile-of-word (word image PROFILE) (passed image e .1)
+
+-- and its peaks have the bits of those worked out from its segment
+pub peaks-of-image : (image : List ℕ) → Accepted image
+    → let p = peaksOf image in (word image PEAKS ≡ bits (p .0)) × (word image (PEAKS + 1) ≡ bits (p .1)) × (word image (PEAKS + 2) ≡ bits (p .2))
+peaks-of-image image e = standing image (passed image e .2)
 
 -- its thresholds are in order
 pub in-order : (image : List ℕ) → Accepted image → lt (fixedAt image .enter) (fixedAt image .exit) ≡ true
@@ -166,3 +165,9 @@ pub tick-never-refused : (source : Float → Reference) (image input : List ℕ)
 tick-never-refused source image input e =
     let s = stateAt image in
     taken (stateAfter source s (inputAt input)) (tick-fits source s input (state-fits image)) (tick-good source s (inputAt input) (good-image image e) .ok)
+
+-- nor that of an exchange, whatever the leg
+pub exchange-never-refused : (image segment : List ℕ) → Accepted image → Accepted (imageOf (exchange (stateAt image) (legAt segment 0)))
+exchange-never-refused image segment e =
+    let s = stateAt image in
+    taken (exchange s (legAt segment 0)) (exchange-fits s segment (state-fits image)) (exchange-good s (legAt segment 0) (good-image image e) .ok)

@@ -12,6 +12,11 @@ setup-once κs a x y v w p q =
     let e = no-second p q in
     (ap (λ (l : Filled). l .outcome) e, both (ap (λ (l : Filled). l .later) e) refl)
 
+pub exchange-once : OneAnswer entry.exchange.ended entry.exchange.Reads.Post
+exchange-once κs a x y v w p q =
+    let e = no-second p q in
+    (ap (λ (l : Filled). l .outcome) e, both (ap (λ (l : Filled). l .later) e) refl)
+
 pub begin-once : OneAnswer entry.begin.ended entry.begin.Reads.Post
 begin-once κs a x y v w p q = (no-second p q, refl)
 

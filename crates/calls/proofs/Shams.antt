@@ -83,7 +83,7 @@ released-after =
 -- a blank image has no count of words, and a fresh one has
 counted : ¬ (blankImage ≡ fresh)
 unfolding word
-counted e = suc-ne-zero 95 (sym (count-written s) ∙ ap (λ (b : List ℕ). word b COUNT) (sym e))
+counted e = suc-ne-zero 98 (sym (count-written s) ∙ ap (λ (b : List ℕ). word b COUNT) (sym e))
 
 -- ---- the shams
 

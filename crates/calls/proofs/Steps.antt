@@ -4,6 +4,7 @@ use mathlib.Core.Path.{_≡_, refl, ap, _∙_}
 use mathlib.Core.List.{List, [], _∷_}
 use Prim.Native.Nat.{ℕ}
 use lib.Dec.{T}
+use lib.ListN.{length}
 use lib.Ieee.{Float, le}
 use Rattle.words.specs.Words.{float}
 use Rattle.latch.specs.Latch.{after}
@@ -13,22 +14,23 @@ use Rattle.relay_traj.proofs.Clock.{never-nan}
 use Rattle.joint_tick.specs.declared.state.State.{State}
 use Rattle.joint_tick.specs.declared.state.TickInput.{TickInput}
 use Rattle.joint_tick.specs.declared.stages.Reference.{Reference}
+use Rattle.joint_tick.specs.SetUp.{exchange}
 use Rattle.joint_tick.specs.Tick.{guidance, stateAfter}
 use Rattle.joint_tick.specs.Tick.{shieldOf as shieldOfState}
 use Rattle.joint_tick.proofs.Shielding.{tick-latch, tick-keeps-flag}
 use Rattle.joint_tick.proofs.Kept.{good-runs}
 use Rattle.joint_tick.proofs.Clock.{time-never-back}
 use Rattle.outcome.specs.declared.Outcome.{Outcome}
-use Rattle.outcome.specs.Outcomes.{Called}
+use Rattle.outcome.specs.Outcomes.{Filled, Called}
 use Rattle.outcome.proofs.Tables.{either}
 use Rattle.image.specs.Layout.{GOVERNOR}
-use Rattle.image.specs.Parts.{governorAt}
+use Rattle.image.specs.Parts.{governorAt, legAt}
 use Rattle.image.specs.Image.{movingAt, stateAt, imageOf}
 use Rattle.image.specs.Inputs.{inputAt}
 use Rattle.image.proofs.Decoded.{decode-encode, time-written, state-fits}
-use Rattle.calls.specs.Entry.{tickFrom}
+use Rattle.calls.specs.Entry.{exchangeRefusal, exchangeCall, tickFrom}
 use Rattle.calls.specs.Ticks.{Accepted, marginsIf, shieldOf, stepped, Steps}
-use Rattle.calls.proofs.Going.{tick-fits, good-image, tick-never-refused}
+use Rattle.calls.proofs.Going.{tick-fits, exchange-fits, good-image, tick-never-refused, exchange-never-refused}
 
 -- the time that an image holds is one that a governor can have
 pub image-runs : (image : List ℕ) → Accepted image → Running (float image GOVERNOR)
@@ -68,3 +70,14 @@ module _ (source : Float → Reference) (o : Outcome) (image input answer : List
       either (λ (c : Called). T (le (float image GOVERNOR) (float (c .later .image) GOVERNOR))) o
       (λ e. rw written (time-never-back source s i (good-runs (good-image image a)) .0))
       (λ e. le-refl-of _ (never-nan (image-runs image a)))
+
+-- An exchange steps the shield by no margin: "the exchange leaves shield, ADRC and filters as they were".
+pub exchange-steps : (image segment : List ℕ) → Accepted image → Steps [] image (exchangeCall image segment .later)
+unfolding after exchangeCall exchange
+exchange-steps image segment a =
+    either (λ (l : Filled). Steps [] image (l .later)) (exchangeRefusal image (length segment))
+    (λ e. record { accepted = exchange-never-refused image segment a; shield = kept })
+    (λ e. record { accepted = a; shield = refl })
+  where
+    kept : shieldOf (imageOf (exchange (stateAt image) (legAt segment 0))) ≡ shieldOf image
+    kept = ap shieldOfState (decode-encode (exchange (stateAt image) (legAt segment 0)) (exchange-fits (stateAt image) segment (state-fits image)))

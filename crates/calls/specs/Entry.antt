@@ -1,4 +1,4 @@
--- Set-up and tick on lent bytes: what is refused, and what each call leaves (document 01's table). Definitions only.
+-- Set-up, tick and exchange on lent bytes: what is refused, and what each call leaves (document 01's table). Definitions only.
 use Prim.Native.Nat.{ℕ}
 use mathlib.Core.Bool.{Bool, not, _&&_, _||_}
 use mathlib.Core.List.{List, [], _∷_}
@@ -8,11 +8,12 @@ use lib.ListN.{length}
 use Rattle.words.specs.Words.{word}
 use Rattle.joint_tick.specs.declared.stages.Reference.{Reference}
 use Rattle.joint_tick.specs.Profile.{isProfile}
-use Rattle.joint_tick.specs.SetUp.{setUp}
+use Rattle.joint_tick.specs.SetUp.{setUp, exchange}
 use Rattle.joint_tick.specs.Tick.{referenceAt, ticked, stateAfter}
 use Rattle.joint_tick.specs.Good.{good}
-use Rattle.image.specs.Layout.{COUNT, ENGAGED, PROFILE, IMAGE-WORDS, IMAGE-BYTES, SETUP-PROFILE, SETUP-BYTES, INPUT-BYTES, ANSWER-BYTES}
-use Rattle.image.specs.Image.{fixedAt, stateAt, imageOf}
+use Rattle.image.specs.Layout.{COUNT, ENGAGED, PROFILE, IMAGE-WORDS, IMAGE-BYTES, SETUP-PROFILE, SETUP-BYTES, LEG-BYTES, INPUT-BYTES, ANSWER-BYTES}
+use Rattle.image.specs.Parts.{legAt}
+use Rattle.image.specs.Image.{fixedAt, stateAt, imageOf, peaksStand}
 use Rattle.image.specs.Inputs.{setupAt, inputAt, answerOf}
 use Rattle.outcome.specs.declared.Outcome.{Outcome}
 use Rattle.outcome.specs.declared.Outcome.the-variants.{ImageLength, InputLength, AnswerLength, BrokenImage, BadProfile}
@@ -20,9 +21,9 @@ use Rattle.outcome.specs.Outcomes.{Table, firstOf, differs, leftUnless, Filled,
 
 -- ---- what is refused: the first row that holds, and so the lowest number
 
--- row 4's tests: its count is its own, its profile is 0 or 1, its flag is 0 or 1, and a tick takes its state
+-- row 4's tests: its count is its own, its profile is 0 or 1, its peaks are its segment's, its flag is 0 or 1, and a tick takes its state
 unfoldable pub intact : List ℕ → Bool
-intact b = eqb (word b COUNT) IMAGE-WORDS && isProfile (word b PROFILE) && (eqb (word b ENGAGED) 0 || eqb (word b ENGAGED) 1) && good (stateAt b)
+intact b = eqb (word b COUNT) IMAGE-WORDS && isProfile (word b PROFILE) && peaksStand b && (eqb (word b ENGAGED) 0 || eqb (word b ENGAGED) 1) && good (stateAt b)
 
 -- of set-up, which does not look at the image's bytes
 abbrev pub setUpTable : ℕ → List ℕ → Table
@@ -30,6 +31,14 @@ setUpTable imageLen input =
     (differs imageLen IMAGE-BYTES, ImageLength)
     ∷ (differs (length input) SETUP-BYTES, InputLength)
     ∷ (not (isProfile (word input SETUP-PROFILE)), BadProfile)
+    ∷ []
+
+-- of an exchange, whose image is judged as a tick's is
+abbrev pub exchangeTable : List ℕ → ℕ → Table
+exchangeTable image segmentLen =
+    (differs (length image) IMAGE-BYTES, ImageLength)
+    ∷ (differs segmentLen LEG-BYTES, InputLength)
+    ∷ (not (intact image), BrokenImage)
     ∷ []
 
 -- of a tick, which is refused whatever its input's bytes are
@@ -44,6 +53,10 @@ tickTable image inputLen answerLen =
 unfoldable pub setUpRefusal : ℕ → List ℕ → Outcome
 setUpRefusal imageLen input = firstOf (setUpTable imageLen input)
 
+unfoldable pub exchangeRefusal : List ℕ → ℕ → Outcome
+unfolding intact
+exchangeRefusal image segmentLen = firstOf (exchangeTable image segmentLen)
+
 unfoldable pub tickRefusal : List ℕ → ℕ → ℕ → Outcome
 unfolding intact
 tickRefusal image inputLen answerLen = firstOf (tickTable image inputLen answerLen)
@@ -53,6 +66,10 @@ tickRefusal image inputLen answerLen = firstOf (tickTable image inputLen answerL
 unfoldable pub setUpCall : List ℕ → List ℕ → Filled
 unfolding setUpRefusal
 setUpCall image input = leftUnless (setUpRefusal (length image) input) (imageOf (setUp (setupAt input))) image
+
+unfoldable pub exchangeCall : List ℕ → List ℕ → Filled
+unfolding exchangeRefusal
+exchangeCall image segment = leftUnless (exchangeRefusal image (length segment)) (imageOf (exchange (stateAt image) (legAt segment 0))) image
 
 -- A tick by references from a source, refused for o or else done: plain ticks and route ticks differ in these two alone.
 unfoldable pub tickFrom : (Float → Reference) → Outcome → List ℕ → List ℕ → List ℕ → Called

@@ -1,4 +1,4 @@
-// Set-up and tick on lent bytes. Nothing is asked of the caller; a refused call changes no byte of any buffer.
+// Set-up, tick and exchange on lent bytes. Nothing is asked of the caller; a refused call changes no byte of any buffer.
 use image::ANSWER_BYTES;
 use image::COUNT;
 use image::ENGAGED;
@@ -8,6 +8,8 @@ use image::GOVERNOR;
 use image::IMAGE_BYTES;
 use image::IMAGE_WORDS;
 use image::INPUT_BYTES;
+use image::LEG_BYTES;
+use image::PEAKS;
 use image::PROFILE;
 use image::QUINTIC_WORDS;
 use image::SEGMENT;
@@ -16,10 +18,14 @@ use image::SETUP_PROFILE;
 use image::T_END;
 use image::fixed_at;
 use image::input_at;
+use image::leg_at;
 use image::moving_at;
 use image::put_answer;
+use image::put_next_state;
 use image::put_state;
+use image::quintic_at;
 use image::setup_at;
+use image::state_at;
 use joint_tick::Fixed;
 use joint_tick::Prepared;
 use joint_tick::Profile;
@@ -28,17 +34,22 @@ use joint_tick::Ticked;
 use joint_tick::is_profile;
 use outcome::Outcome;
 use outcome::is_done;
+use words::bits_of;
 use words::float_at;
 use words::word_at;
 ghost use mathlib.Core.Path.{_≡_};
+ghost use Prim.Native.Nat.{_+_, _*_, _≤_};
+ghost use lib.Dec.{eqb};
 ghost use lib.ListN.{length};
+ghost use Rattle.words.specs.Words.{word, bits};
+ghost use Rattle.relay_traj.specs.Quintic.{peakAbsJerk};
 ghost use Rattle.joint_tick.specs.Good.{segmentOk, good};
 ghost use Rattle.joint_tick.specs.Tick.{prepare};
 ghost use Rattle.image.specs.Layout.{SEGMENT, IMAGE-BYTES, ANSWER-BYTES};
-ghost use Rattle.image.specs.Parts.{segmentAt};
-ghost use Rattle.image.specs.Image.{movingAt, stateAt};
+ghost use Rattle.image.specs.Parts.{quinticAt, segmentAt};
+ghost use Rattle.image.specs.Image.{movingAt, stateAt, peaksStand, HoldsPeaks};
 ghost use Rattle.outcome.specs.Outcomes.{left, lent};
-ghost use Rattle.calls.specs.Entry.{intact, tickRefusal, setUpCall, tickCall};
+ghost use Rattle.calls.specs.Entry.{intact, tickRefusal, setUpCall, exchangeCall, tickCall};
 ghost use Rattle.calls.specs.Inner.{Leaves};
 
 // By the t_end of each axis of the segment.
@@ -73,6 +84,30 @@ fn good_at(image: &[u8]) -> bool
     }
 }
 
+// The stored peak of one axis has the bits of the one worked out from its quintic.
+fn peak_stands(image: &[u8], quintic: usize, peak: usize) -> bool
+    requires { ⌜ (4 * quintic + 28 ≤ length (now image)) × (4 * peak + 4 ≤ length (now image)) ⌝ }
+    ensures { λ r. ⌜ r ≡ eqb (word (now (image .entry)) peak) (bits (peakAbsJerk (quinticAt (now (image .entry)) quintic))) ⌝ }
+{
+    let axis = quintic_at(image, quintic);
+    word_at(image, peak) == bits_of(axis.peak_abs_jerk())
+}
+
+fn peaks_stand(image: &[u8]) -> bool
+    requires { ⌜ length (now image) ≡ IMAGE-BYTES ⌝ }
+    ensures { λ r. ⌜ r ≡ peaksStand (now (image .entry)) ⌝ }
+{
+    if peak_stands(image, SEGMENT, PEAKS) {
+        if peak_stands(image, SEGMENT + QUINTIC_WORDS, PEAKS + 1) {
+            peak_stands(image, SEGMENT + QUINTIC_WORDS + QUINTIC_WORDS, PEAKS + 2)
+        } else {
+            false
+        }
+    } else {
+        false
+    }
+}
+
 // Row 4.
 fn intact(image: &[u8]) -> bool
     requires { ⌜ length (now image) ≡ IMAGE-BYTES ⌝ }
@@ -84,6 +119,9 @@ fn intact(image: &[u8]) -> bool
         return false;
     }
     if !is_profile(word_at(image, PROFILE)) {
+        return false;
+    }
+    if !peaks_stand(image) {
         return false;
     }
     if engaged == 0 {
@@ -139,6 +177,31 @@ pub fn setup(image: &mut [u8], input: &[u8]) -> Outcome
     Outcome::Done
 }
 
+// Another segment in flight, from a leg's 19 words (request Seven). What else the image holds goes on, so a broken one is refused and not repaired.
+pub fn exchange(image: &mut [u8], segment: &[u8]) -> Outcome
+    ensures { λ r. ⌜ left r (now (image .exit)) ≡ exchangeCall (now (image .entry)) (now (segment .entry)) ⌝ }
+{
+    if image.len() != IMAGE_BYTES {
+        return Outcome::ImageLength;
+    }
+    if segment.len() != LEG_BYTES {
+        return Outcome::InputLength;
+    }
+    if !intact(image) {
+        return Outcome::BrokenImage;
+    }
+    let state = joint_tick::exchange(state_at(image), leg_at(segment, 0));
+    put_state(
+        image,
+        state.fixed,
+        state.moving.engaged,
+        state.moving.governor,
+        state.moving.rate,
+        state.moving.lpf,
+    );
+    Outcome::Done
+}
+
 // A tick up to its reference. What was read is gone from the stack once it is prepared.
 pub fn begin(image: &[u8], profile: Profile, given: TickInput) -> Prepared
     requires { ⌜ length (now image) ≡ IMAGE-BYTES ⌝ }
@@ -147,12 +210,12 @@ pub fn begin(image: &[u8], profile: Profile, given: TickInput) -> Prepared
     joint_tick::prepare(profile, moving_at(image), given)
 }
 
-// What a tick leaves. A plain tick and a route tick differ by where their reference comes from, and by nothing else.
+// What a tick leaves. A plain tick and a route tick differ by where their reference comes from, and by nothing else. The peaks were judged by row 4 and stay.
 pub fn leave(image: &mut [u8], answer: &mut [u8], fixed: Fixed, prepared: Prepared, done: Ticked)
-    requires { ⌜ (length (now image) ≡ IMAGE-BYTES) × (length (now answer) ≡ ANSWER-BYTES) ⌝ }
+    requires { ⌜ (length (now image) ≡ IMAGE-BYTES) × (length (now answer) ≡ ANSWER-BYTES) × HoldsPeaks (now image) (fixed .segment) ⌝ }
     ensures { λ _. ⌜ Leaves fixed prepared done (now (image .exit)) (now (answer .exit)) ⌝ }
 {
-    put_state(
+    put_next_state(
         image,
         fixed,
         done.engaged,

@@ -1,7 +1,8 @@
 // The joint tick on lent bytes (added by document 01).
-mod entry; // entry.rt: set-up and tick on lent bytes, and what they refuse
+mod entry; // entry.rt: set-up, tick and exchange on lent bytes, and what they refuse
 
 pub use entry::begin;
+pub use entry::exchange;
 pub use entry::leave;
 pub use entry::setup;
 pub use entry::tick;

@@ -8,6 +8,7 @@ use Rattle.fosavalo.proofs.fosavalo_version
 use Rattle.fosavalo.proofs.fosavalo_sinf
 use Rattle.fosavalo.proofs.fosavalo_cosf
 use Rattle.fosavalo.proofs.fosavalo_setup
+use Rattle.fosavalo.proofs.fosavalo_exchange
 use Rattle.fosavalo.proofs.fosavalo_tick
 use Rattle.fosavalo.proofs.fosavalo_tick_refusal
 use Rattle.fosavalo.proofs.fosavalo_route_tick
@@ -26,6 +27,11 @@ fosavalo-cosf-once κs a x y v w p q = (no-second (p .1) (q .1), refl)
 
 pub fosavalo-setup-once : OneAnswer fosavalo_setup.ended fosavalo_setup.Reads.Post
 fosavalo-setup-once κs a x y v w p q =
+    let e = no-second p q in
+    (ap (λ (f : Left ℕ (List ℕ)). f .outcome) e, both (ap (λ (f : Left ℕ (List ℕ)). f .later) e) refl)
+
+pub fosavalo-exchange-once : OneAnswer fosavalo_exchange.ended fosavalo_exchange.Reads.Post
+fosavalo-exchange-once κs a x y v w p q =
     let e = no-second p q in
     (ap (λ (f : Left ℕ (List ℕ)). f .outcome) e, both (ap (λ (f : Left ℕ (List ℕ)). f .later) e) refl)
 

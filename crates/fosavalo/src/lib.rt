@@ -3,16 +3,16 @@ ghost use mathlib.Core.Path.{_≡_};
 ghost use Rattle.relay_math.specs.Exact.{Limit, IsSine, IsCosine};
 ghost use Rattle.relay_math.specs.Steps.{sinf, cosf};
 ghost use Rattle.outcome.specs.Outcomes.{left, lent, number, numbered};
-ghost use Rattle.calls.specs.Entry.{tickRefusal, setUpCall, tickCall};
+ghost use Rattle.calls.specs.Entry.{tickRefusal, setUpCall, exchangeCall, tickCall};
 ghost use Rattle.route.specs.Entry.{routeCall};
 ghost use Rattle.log.specs.Entry.{appendCall, countCall, recordCall};
 
 // The version that this was built as: 65536 times its first number, 256 times its second, and its third.
 #[no_mangle]
 pub extern "C" fn fosavalo_version() -> u32
-    ensures { λ r. ⌜ r ≡ 0x0600 ⌝ }
+    ensures { λ r. ⌜ r ≡ 0x0700 ⌝ }
 {
-    0x0600
+    0x0700
 }
 
 // The sine of x, as `relay_math::sinf` has it.
@@ -39,6 +39,14 @@ pub extern "C" fn fosavalo_setup(image: &mut [u8], input: &[u8]) -> u32
     ensures { λ r. ⌜ left r (now (image .exit)) ≡ numbered (setUpCall (now (image .entry)) (now (input .entry))) ⌝ }
 {
     outcome::number(calls::setup(image, input))
+}
+
+// Another segment in flight, of a leg's 19 words: the number of its outcome, and the image as `calls::exchange` leaves it.
+#[no_mangle]
+pub extern "C" fn fosavalo_exchange(image: &mut [u8], segment: &[u8]) -> u32
+    ensures { λ r. ⌜ left r (now (image .exit)) ≡ numbered (exchangeCall (now (image .entry)) (now (segment .entry))) ⌝ }
+{
+    outcome::number(calls::exchange(image, segment))
 }
 
 // A tick: the number of its outcome, and the image and the answer as `calls::tick` leaves them.

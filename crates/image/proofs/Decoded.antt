@@ -1,28 +1,34 @@
 -- The state image holds the state: what is written is read again, and what is read is written again in canonical words. Assumes nothing.
 use mathlib.Core.Path.{_≡_, refl, sym, ap, _∙_}
+use mathlib.Core.Bool.{true, _&&_}
 use mathlib.Core.List.{List, [], _∷_, _++_}
 use Prim.Native.Nat.{ℕ, _+_, _-_, _<_}
 use native.Mathlib.Nat.{add-assoc}
 use lib.Dec.{eqb, lit<}
+use borrow.Author.Tests.{eq-eqb, eqb-true}
 use lib.ListN.{length, getD, take, drop}
 use lib.Ieee.{Float}
-use Rattle.words.specs.Words.{word, float, vec, bits, flag, wordsOf, bytesOf, Holds, canons}
-use Rattle.words.proofs.Back.{word-back, float-back, floats-back, first-back, float-fits, flag-back, flag-lt}
+use Rattle.laws.proofs.Tests.{both}
+use Rattle.words.specs.Words.{word, float, vec, floatsOfVec, bits, flag, wordsOf, bytesOf, Holds, canons}
+use Rattle.words.proofs.Back.{word-back, bits-back, float-back, floats-back, first-back, float-fits, flag-back, flag-lt}
 use Rattle.words.proofs.Written.{length-bytesOf}
+use Rattle.relay_math.specs.declared.Vec3.{Vec3}
 use Rattle.relay_geo.specs.declared.controller.GeoGains.{GeoGains}
 use Rattle.relay_geo.specs.declared.set.RecoverableSet.{RecoverableSet}
 use Rattle.relay_traj.specs.declared.governor.RefGovernor.{RefGovernor}
 use Rattle.relay_traj.specs.declared.quintic.Quintic.{Quintic}
 use Rattle.relay_adrc.specs.declared.axis.AdrcAxis.{AdrcAxis}
 use Rattle.relay_adrc.specs.declared.biquad.Biquad.{Biquad}
+use Rattle.relay_traj.specs.Segment.{peakAbsJerk3}
 use Rattle.joint_tick.specs.declared.profile.Profile.{Profile}
 use Rattle.joint_tick.specs.declared.profile.Profile.the-variants.{Whole, LostRotor}
 use Rattle.joint_tick.specs.declared.state.State.{State}
 use Rattle.joint_tick.specs.Profile.{profileWord, profileOf}
-use Rattle.image.specs.Layout.{QUINTIC-WORDS, AXIS-WORDS, BIQUAD-WORDS, COUNT, GAINS, SET, ENTER, EXIT, ENGAGED, GOVERNOR, SEGMENT, RATE, LPF, PROFILE, IMAGE-WORDS, IMAGE-BYTES}
+use Rattle.image.specs.Layout.{QUINTIC-WORDS, AXIS-WORDS, BIQUAD-WORDS, COUNT, GAINS, SET, ENTER, EXIT, ENGAGED, GOVERNOR, SEGMENT, RATE, LPF, PROFILE, PEAKS, IMAGE-WORDS, IMAGE-BYTES}
 use Rattle.image.specs.Parts.{gainsAt, setAt, governorAt, quinticAt, segmentAt, adrcGainsAt, axisAt, rateAt, biquadAt, lpfAt, profileAt, floatsOfGains, floatsOfSet, floatsOfGovernor, floatsOfQuintic, floatsOfAxis, floatsOfBiquad}
-use Rattle.image.specs.Image.{fixedAt, movingAt, stateAt, wordsOfState, imageOf, canonicalImage}
+use Rattle.image.specs.Image.{fixedAt, movingAt, stateAt, wordsOfState, imageOf, peaksOf, peaksStand, canonicalImage}
 use Rattle.image.specs.Fits.{F32, FitsGains, FitsSet, FitsGovernor, FitsQuintic, FitsSegment, FitsAxis, FitsRate, FitsBiquad, FitsLpf, Fits}
+use Rattle.image.proofs.Fitting.{peaks-fit}
 
 -- ---- each part, at any place: words that hold it are read as it
 
@@ -65,7 +71,7 @@ module _ {b ws : List ℕ} (e : Holds b ws) (k : ℕ) where
 
 -- ---- the image of a state, word by word
 
-image-is : (s : State) → Holds (imageOf s) (wordsOfState s)
+pub image-is : (s : State) → Holds (imageOf s) (wordsOfState s)
 unfolding imageOf
 image-is s = record { is = refl }
 
@@ -123,6 +129,34 @@ lpf-written s f =
     let at = biquad-back (image-is s) in
     simp (at LPF (s .moving .lpf .roll) refl (f .0), at (LPF + BIQUAD-WORDS) (s .moving .lpf .pitch) refl (f .1), at (LPF + BIQUAD-WORDS + BIQUAD-WORDS) (s .moving .lpf .yaw) refl (f .2))
 
+-- the peaks are written as they are worked out from the segment ..
+abbrev peaks : State → Vec3
+peaks s = peakAbsJerk3 (s .fixed .segment)
+
+pub peaks-written : (s : State) → (word (imageOf s) PEAKS ≡ bits (peaks s .0)) × (word (imageOf s) (PEAKS + 1) ≡ bits (peaks s .1)) × (word (imageOf s) (PEAKS + 2) ≡ bits (peaks s .2))
+peaks-written s =
+    let at = bits-back (image-is s) in
+    let f = peaks-fit (s .fixed .segment) in
+    (at PEAKS (peaks s .0) refl (f .0), at (PEAKS + 1) (peaks s .1) refl (f .1 .0), at (PEAKS + 2) (peaks s .2) refl (f .1 .1 .0))
+
+-- .. and so stand for the segment that is read again
+pub peaks-stand : (s : State) → FitsSegment (s .fixed .segment) → peaksStand (imageOf s) ≡ true
+unfolding peaksStand
+peaks-stand s f =
+    let w = peaks-written s in
+    rw (segment-written s f, w .0, w .1, w .2, eq-eqb (bits (peaks s .0)) _ refl, eq-eqb (bits (peaks s .1)) _ refl, eq-eqb (bits (peaks s .2)) _ refl)
+
+-- peaks that stand have the bits of those worked out
+pub standing : (b : List ℕ) → peaksStand b ≡ true → let p = peaksOf b in (word b PEAKS ≡ bits (p .0)) × (word b (PEAKS + 1) ≡ bits (p .1)) × (word b (PEAKS + 2) ≡ bits (p .2))
+unfolding peaksStand
+standing b e =
+    let p = peaksOf b in
+    let x = eqb (word b PEAKS) (bits (p .0)) in
+    let y = eqb (word b (PEAKS + 1)) (bits (p .1)) in
+    let c = both (x && y) (eqb (word b (PEAKS + 2)) (bits (p .2))) e in
+    let a = both x y (c .0) in
+    (eqb-true (word b PEAKS) (bits (p .0)) (a .0), eqb-true (word b (PEAKS + 1)) (bits (p .1)) (a .1), eqb-true (word b (PEAKS + 2)) (bits (p .2)) (c .1))
+
 -- what is written is read again
 pub decode-encode : (s : State) → Fits s → stateAt (imageOf s) ≡ s
 unfolding fixedAt movingAt profileAt
@@ -144,11 +178,11 @@ decode-encode s f =
 
 -- ---- written again
 
-same-words : (b : List ℕ) → wordsOfState (stateAt b) ≡ IMAGE-WORDS ∷ canons b GAINS (ENGAGED - GAINS) ++ flag (eqb (word b ENGAGED) 1) ∷ canons b GOVERNOR (PROFILE - GOVERNOR) ++ profileWord (profileOf (word b PROFILE)) ∷ []
+same-words : (b : List ℕ) → wordsOfState (stateAt b) ≡ IMAGE-WORDS ∷ canons b GAINS (ENGAGED - GAINS) ++ flag (eqb (word b ENGAGED) 1) ∷ canons b GOVERNOR (PROFILE - GOVERNOR) ++ profileWord (profileOf (word b PROFILE)) ∷ wordsOf (floatsOfVec (peaksOf b))
 unfolding fixedAt movingAt gainsAt vec setAt governorAt segmentAt quinticAt rateAt axisAt adrcGainsAt lpfAt biquadAt profileAt float
 same-words b = refl
 
--- what is read is written again, but for the count, the flag, the profile and the NaNs
+-- what is read is written again, but for the count, the flag, the profile, the peaks and the NaNs
 pub encode-decode : (b : List ℕ) → imageOf (stateAt b) ≡ canonicalImage b
 unfolding canonicalImage
 encode-decode b = image-is (stateAt b) .is ∙ ap bytesOf (same-words b)

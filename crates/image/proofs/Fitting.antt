@@ -9,8 +9,10 @@ use Rattle.relay_geo.specs.declared.set.RecoverableSet.{RecoverableSet}
 use Rattle.relay_geo.specs.Shield.{newShield}
 use Rattle.relay_traj.specs.declared.governor.RefGovernor.{RefGovernor}
 use Rattle.relay_traj.specs.Governor.{governor, advance}
-use Rattle.relay_traj.specs.Quintic.{quintic}
-use Rattle.relay_traj.specs.Segment.{segment}
+use Rattle.relay_traj.specs.declared.quintic.Quintic.{Quintic}
+use Rattle.relay_traj.specs.declared.segment.Segment3.{Segment3}
+use Rattle.relay_traj.specs.Quintic.{quintic, peakAbsJerk}
+use Rattle.relay_traj.specs.Segment.{segment, peakAbsJerk3}
 use Rattle.relay_adrc.specs.declared.gains.AdrcGains.{AdrcGains}
 use Rattle.relay_adrc.specs.declared.axis.AdrcAxis.{AdrcAxis}
 use Rattle.relay_adrc.specs.declared.rate.AdrcRate.{AdrcRate}
@@ -51,6 +53,15 @@ quintic-fits p0 v0 a0 pf vf af t f g h l = search fitting
 pub segment-fits : (p0 v0 a0 pf vf af : Vec3) (t : Float) → FitsVec p0 → FitsVec v0 → FitsVec a0 → F32 t → FitsSegment (segment p0 v0 a0 pf vf af t)
 unfolding segment
 segment-fits p0 v0 a0 pf vf af t f g h l = (search quintic-fits, search quintic-fits, search quintic-fits)
+
+-- its peaks, whatever its numbers are
+peak-fits : (q : Quintic) → F32 (peakAbsJerk q)
+unfolding peakAbsJerk
+peak-fits q = search fitting
+
+pub peaks-fit : (g : Segment3) → FitsVec (peakAbsJerk3 g)
+unfolding peakAbsJerk3
+peaks-fit g = search peak-fits
 
 -- ---- ADRC
 

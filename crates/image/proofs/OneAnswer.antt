@@ -17,6 +17,9 @@ put-answer-once κs a x y v w p q = (refl, both (no-second p q) refl)
 pub put-state-once : OneAnswer image.put_state.ended image.put_state.Reads.Post
 put-state-once κs a x y v w p q = (refl, both (no-second p q) refl)
 
+pub put-next-state-once : OneAnswer image.put_next_state.ended image.put_next_state.Reads.Post
+put-next-state-once κs a x y v w p q = (refl, both (no-second p q) refl)
+
 pub quat-at-once : OneAnswer parts.quat_at.ended parts.quat_at.Reads.Post
 quat-at-once κs a x y v w p q = (no-second p q, refl)
 
@@ -88,3 +91,6 @@ fixed-at-once κs a x y v w p q = (no-second p q, refl)
 
 pub moving-at-once : OneAnswer image.moving_at.ended image.moving_at.Reads.Post
 moving-at-once κs a x y v w p q = (no-second p q, refl)
+
+pub state-at-once : OneAnswer image.state_at.ended image.state_at.Reads.Post
+state-at-once κs a x y v w p q = (no-second p q, refl)

@@ -1,16 +1,20 @@
 -- The state image: what is read out of it, and what is written. Definitions only.
+use mathlib.Core.Path.{_≡_}
 use mathlib.Core.List.{List, [], _∷_, _++_}
-use Prim.Native.Nat.{ℕ, _-_}
-use mathlib.Core.Bool.{Bool}
+use Prim.Native.Nat.{ℕ, _+_, _-_}
+use mathlib.Core.Bool.{Bool, _&&_}
 use lib.Dec.{eqb}
 use lib.Ieee.{Float}
-use Rattle.words.specs.Words.{word, float, bits, flag, wordsOf, bytesOf, canons}
+use Rattle.words.specs.Words.{word, float, floatsOfVec, bits, flag, wordsOf, bytesOf, canons}
+use Rattle.relay_math.specs.declared.Vec3.{Vec3}
 use Rattle.relay_geo.specs.declared.set.RecoverableSet.{RecoverableSet}
+use Rattle.relay_traj.specs.declared.segment.Segment3.{Segment3}
+use Rattle.relay_traj.specs.Segment.{peakAbsJerk3}
 use Rattle.joint_tick.specs.declared.state.Fixed.{Fixed}
 use Rattle.joint_tick.specs.declared.state.Moving.{Moving}
 use Rattle.joint_tick.specs.declared.state.State.{State}
 use Rattle.joint_tick.specs.Profile.{profileWord, profileOf}
-use Rattle.image.specs.Layout.{GAINS, SET, ENTER, EXIT, ENGAGED, GOVERNOR, SEGMENT, RATE, LPF, PROFILE, IMAGE-WORDS}
+use Rattle.image.specs.Layout.{GAINS, SET, ENTER, EXIT, ENGAGED, GOVERNOR, SEGMENT, RATE, LPF, PROFILE, PEAKS, IMAGE-WORDS}
 use Rattle.image.specs.Parts.{gainsAt, setAt, governorAt, segmentAt, rateAt, lpfAt, profileAt, floatsOfGains, floatsOfSet, floatsOfGovernor, floatsOfSegment, floatsOfRate, floatsOfLpf}
 
 unfoldable pub fixedAt : List ℕ → Fixed
@@ -42,14 +46,27 @@ wordsOfState s =
     wordsOf (floatsOfGains (f .gains)) ++
     wordsOfShield (f .set) (f .enter) (f .exit) (m .engaged) ++
     wordsOf (floatsOfGovernor (m .governor)) ++
-    wordsOf (floatsOfSegment (f .segment)) ++ wordsOf (floatsOfRate (m .rate)) ++ wordsOf (floatsOfLpf (m .lpf)) ++ profileWord (f .profile) ∷ []
+    wordsOf (floatsOfSegment (f .segment)) ++ wordsOf (floatsOfRate (m .rate)) ++ wordsOf (floatsOfLpf (m .lpf)) ++ profileWord (f .profile) ∷ wordsOf (floatsOfVec (peakAbsJerk3 (f .segment)))
 
 unfoldable pub imageOf : State → List ℕ
 imageOf s = bytesOf (wordsOfState s)
 
--- ---- what the theorems in proofs/ speak of
+-- the peaks worked out from the segment that an image holds, and that those it stores have their bits
+abbrev pub peaksOf : List ℕ → Vec3
+peaksOf b = peakAbsJerk3 (segmentAt b SEGMENT)
 
--- an image read and written again: the count is put in, engaged and the profile become 1 or 0, and every float its canonical word
+unfoldable pub peaksStand : List ℕ → Bool
+peaksStand b =
+    let p = peaksOf b in
+    eqb (word b PEAKS) (bits (p .0)) && eqb (word b (PEAKS + 1)) (bits (p .1)) && eqb (word b (PEAKS + 2)) (bits (p .2))
+
+-- ---- what the writer of a tick's image asks, and the theorems in proofs/ speak of
+
+-- the peaks that an image stores are this segment's
+abbrev pub HoldsPeaks : List ℕ → Segment3 → Type 0
+HoldsPeaks b segment = word b PEAKS ∷ word b (PEAKS + 1) ∷ word b (PEAKS + 2) ∷ [] ≡ wordsOf (floatsOfVec (peakAbsJerk3 segment))
+
+-- an image read and written again: the count is put in, engaged and the profile become 1 or 0, and every float its canonical word, and the peaks are the segment's
 unfoldable pub canonicalImage : List ℕ → List ℕ
 canonicalImage b =
-    bytesOf (IMAGE-WORDS ∷ canons b GAINS (ENGAGED - GAINS) ++ flag (eqb (word b ENGAGED) 1) ∷ canons b GOVERNOR (PROFILE - GOVERNOR) ++ profileWord (profileOf (word b PROFILE)) ∷ [])
+    bytesOf (IMAGE-WORDS ∷ canons b GAINS (ENGAGED - GAINS) ++ flag (eqb (word b ENGAGED) 1) ∷ canons b GOVERNOR (PROFILE - GOVERNOR) ++ profileWord (profileOf (word b PROFILE)) ∷ wordsOf (floatsOfVec (peaksOf b)))

@@ -23,6 +23,9 @@ BIQUAD-WORDS = 9
 abbrev pub LEG-WORDS : ℕ
 LEG-WORDS = 19
 
+abbrev pub LEG-BYTES : ℕ
+LEG-BYTES = 4 * LEG-WORDS
+
 -- the image
 abbrev pub COUNT : ℕ
 COUNT = 0
@@ -57,8 +60,11 @@ LPF = 68
 abbrev pub PROFILE : ℕ
 PROFILE = 95
 
+abbrev pub PEAKS : ℕ
+PEAKS = 96
+
 abbrev pub IMAGE-WORDS : ℕ
-IMAGE-WORDS = 96
+IMAGE-WORDS = 99
 
 abbrev pub IMAGE-BYTES : ℕ
 IMAGE-BYTES = 4 * IMAGE-WORDS

@@ -1,4 +1,6 @@
 // The state image. Both directions are over the whole of it: what `put_state` leaves is the state's alone, and no byte of what stood there before.
+use super::layout::AXIS_WORDS;
+use super::layout::BIQUAD_WORDS;
 use super::layout::COUNT;
 use super::layout::ENGAGED;
 use super::layout::ENTER;
@@ -7,10 +9,13 @@ use super::layout::GAINS;
 use super::layout::GOVERNOR;
 use super::layout::IMAGE_WORDS;
 use super::layout::LPF;
+use super::layout::PEAKS;
 use super::layout::PROFILE;
 use super::layout::RATE;
 use super::layout::SEGMENT;
 use super::layout::SET;
+use super::parts::axis_at;
+use super::parts::biquad_at;
 use super::parts::gains_at;
 use super::parts::governor_at;
 use super::parts::lpf_at;
@@ -27,6 +32,8 @@ use super::parts::segment_at;
 use super::parts::set_at;
 use joint_tick::Fixed;
 use joint_tick::Moving;
+use joint_tick::Profile;
+use joint_tick::State;
 use relay_adrc::AdrcRate;
 use relay_adrc::GyroLpf;
 use relay_geo::RecoverableSet;
@@ -34,13 +41,14 @@ use relay_traj::RefGovernor;
 use words::float_at;
 use words::put_flag;
 use words::put_float;
+use words::put_vec;
 use words::put_word;
 use words::word_at;
 ghost use mathlib.Core.Path.{_≡_};
-ghost use lib.ListN.{length};
+ghost use lib.ListN.{length, take};
 ghost use Rattle.words.specs.Words.{Put};
-ghost use Rattle.image.specs.Layout.{SET, IMAGE-BYTES};
-ghost use Rattle.image.specs.Image.{fixedAt, movingAt, wordsOfShield, imageOf};
+ghost use Rattle.image.specs.Layout.{SET, PEAKS, IMAGE-BYTES};
+ghost use Rattle.image.specs.Image.{fixedAt, movingAt, stateAt, wordsOfShield, wordsOfState, imageOf, HoldsPeaks};
 
 // The two parts of the state, each read by itself: whoever needs one reads no other.
 pub fn fixed_at(image: &[u8]) -> Fixed
@@ -69,6 +77,31 @@ pub fn moving_at(image: &[u8]) -> Moving
     }
 }
 
+// Both at once, for an exchange. Not through `moving_at` and the readers of three axes: while these have one caller, the compiler inlines them into the tick, and
+// what they read need not go by way of the stack.
+pub fn state_at(image: &[u8]) -> State
+    requires { ⌜ length (now image) ≡ IMAGE-BYTES ⌝ }
+    ensures { λ r. ⌜ r ≡ stateAt (now (image .entry)) ⌝ }
+{
+    State {
+        fixed: fixed_at(image),
+        moving: Moving {
+            engaged: word_at(image, ENGAGED) == 1,
+            governor: governor_at(image, GOVERNOR),
+            rate: AdrcRate {
+                roll: axis_at(image, RATE),
+                pitch: axis_at(image, RATE + AXIS_WORDS),
+                yaw: axis_at(image, RATE + AXIS_WORDS + AXIS_WORDS),
+            },
+            lpf: GyroLpf {
+                roll: biquad_at(image, LPF),
+                pitch: biquad_at(image, LPF + BIQUAD_WORDS),
+                yaw: biquad_at(image, LPF + BIQUAD_WORDS + BIQUAD_WORDS),
+            },
+        },
+    }
+}
+
 fn put_shield(image: &mut [u8], set: RecoverableSet, enter: f32, exit: f32, engaged: bool)
     requires { ⌜ length (now image) ≡ IMAGE-BYTES ⌝ }
     ensures { λ _. ⌜ Put (now (image .entry)) SET (wordsOfShield set enter exit engaged) (now (image .exit)) ⌝ }
@@ -79,7 +112,30 @@ fn put_shield(image: &mut [u8], set: RecoverableSet, enter: f32, exit: f32, enga
     put_flag(image, ENGAGED, engaged);
 }
 
-// What moves is taken part by part: a tick has the parts in two places and need not bring them together first.
+// All but the peaks. What moves is taken part by part: a tick has the parts in two places and need not bring them together first.
+fn put_before_peaks(
+    image: &mut [u8],
+    fixed: Fixed,
+    engaged: bool,
+    governor: RefGovernor,
+    rate: AdrcRate,
+    lpf: GyroLpf,
+)
+    requires { ⌜ length (now image) ≡ IMAGE-BYTES ⌝ }
+    ensures { λ _. ⌜ Put (now (image .entry)) 0 (take PEAKS (wordsOfState record { fixed = fixed; moving = record { engaged = engaged; governor = governor; rate = rate; lpf = lpf } })) (now (image .exit)) ⌝ }
+{
+    let profile = fixed.profile;
+    put_word(image, COUNT, IMAGE_WORDS as u32);
+    put_gains(image, GAINS, fixed.gains);
+    put_shield(image, fixed.set, fixed.enter, fixed.exit, engaged);
+    put_governor(image, GOVERNOR, governor);
+    put_segment(image, SEGMENT, fixed.segment);
+    put_rate(image, RATE, rate);
+    put_lpf(image, LPF, lpf);
+    put_profile(image, PROFILE, profile);
+}
+
+// The peaks are worked out here, of the segment that is written: they are no part of the state, so that the two cannot come apart.
 pub fn put_state(
     image: &mut [u8],
     fixed: Fixed,
@@ -91,13 +147,29 @@ pub fn put_state(
     requires { ⌜ length (now image) ≡ IMAGE-BYTES ⌝ }
     ensures { λ _. ⌜ now (image .exit) ≡ imageOf record { fixed = fixed; moving = record { engaged = engaged; governor = governor; rate = rate; lpf = lpf } } ⌝ }
 {
-    let profile = fixed.profile;
-    put_word(image, COUNT, IMAGE_WORDS as u32);
-    put_gains(image, GAINS, fixed.gains);
-    put_shield(image, fixed.set, fixed.enter, fixed.exit, engaged);
-    put_governor(image, GOVERNOR, governor);
-    put_segment(image, SEGMENT, fixed.segment);
-    put_rate(image, RATE, rate);
-    put_lpf(image, LPF, lpf);
-    put_profile(image, PROFILE, profile);
+    let segment = fixed.segment;
+    let peaks = segment.peak_abs_jerk();
+    put_before_peaks(image, fixed, engaged, governor, rate, lpf);
+    put_vec(image, PEAKS, peaks);
+}
+
+// The same over an image that holds this segment's peaks: a tick, whose image row 4 has judged, need not work them out again.
+pub fn put_next_state(
+    image: &mut [u8],
+    fixed: Fixed,
+    engaged: bool,
+    governor: RefGovernor,
+    rate: AdrcRate,
+    lpf: GyroLpf,
+)
+    requires { ⌜ (length (now image) ≡ IMAGE-BYTES) × HoldsPeaks (now image) (fixed .segment) ⌝ }
+    ensures { λ _. ⌜ now (image .exit) ≡ imageOf record { fixed = fixed; moving = record { engaged = engaged; governor = governor; rate = rate; lpf = lpf } } ⌝ }
+{
+    let x = word_at(image, PEAKS);
+    let y = word_at(image, PEAKS + 1);
+    let z = word_at(image, PEAKS + 2);
+    put_before_peaks(image, fixed, engaged, governor, rate, lpf);
+    put_word(image, PEAKS, x);
+    put_word(image, PEAKS + 1, y);
+    put_word(image, PEAKS + 2, z);
 }

@@ -16,6 +16,8 @@ pub const BIQUAD_WORDS: usize = 9;
 
 pub const LEG_WORDS: usize = 19;
 
+pub const LEG_BYTES: usize = 4 * LEG_WORDS;
+
 // The image.
 pub const COUNT: usize = 0; // the image's own number of words
 
@@ -39,7 +41,9 @@ pub const LPF: usize = 68;
 
 pub const PROFILE: usize = 95; // its word: 0 or 1
 
-pub const IMAGE_WORDS: usize = 96;
+pub const PEAKS: usize = 96; // of the jerk, axis by axis
+
+pub const IMAGE_WORDS: usize = 99;
 
 pub const IMAGE_BYTES: usize = 4 * IMAGE_WORDS;
 

@@ -6,7 +6,9 @@ mod parts; // parts.rt: the parts of the images and inputs
 
 pub use image::fixed_at;
 pub use image::moving_at;
+pub use image::put_next_state;
 pub use image::put_state;
+pub use image::state_at;
 pub use inputs::input_at;
 pub use inputs::put_answer;
 pub use inputs::setup_at;
@@ -19,7 +21,9 @@ pub use layout::GOVERNOR;
 pub use layout::IMAGE_BYTES;
 pub use layout::IMAGE_WORDS;
 pub use layout::INPUT_BYTES;
+pub use layout::LEG_BYTES;
 pub use layout::LEG_WORDS;
+pub use layout::PEAKS;
 pub use layout::PROFILE;
 pub use layout::QUINTIC_WORDS;
 pub use layout::SEGMENT;

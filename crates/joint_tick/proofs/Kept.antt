@@ -25,7 +25,7 @@ use Rattle.joint_tick.specs.declared.state.Moving.{Moving}
 use Rattle.joint_tick.specs.declared.state.State.{State}
 use Rattle.joint_tick.specs.declared.state.TickInput.{TickInput}
 use Rattle.joint_tick.specs.declared.stages.Reference.{Reference}
-use Rattle.joint_tick.specs.SetUp.{segmentOf, setUp}
+use Rattle.joint_tick.specs.SetUp.{segmentOf, setUp, exchange}
 use Rattle.joint_tick.specs.Tick.{fractionThird, prepare, tickThird, follow, pick, finish, ticked, stateAfter}
 use Rattle.joint_tick.specs.Good.{thresholdsOk, timeOk, lasts, segmentOk, good}
 use Rattle.joint_tick.proofs.Clock.{time-never-back}
@@ -123,3 +123,8 @@ tick-good source s i g =
     let p = good-parts s (g .ok) in
     let r = time-never-back source s i (good-runs g) .1 in
     record { holds = r .holds; ok = all (p .0) (running-ok r) (p .2) }
+
+-- And an exchange gives no other, whatever the leg.
+pub exchange-good : (s : State) (l : Leg) → Good s → Good (exchange s l)
+unfolding good exchange
+exchange-good s l g = record { holds = starts-at-zero .holds; ok = all (good-parts s (g .ok) .0) (running-ok starts-at-zero) (leg-ok l) }

@@ -21,6 +21,9 @@ segment-of-once κs a x y v w p q = (no-second p q, refl)
 pub set-up-once : OneAnswer setup.set_up.ended setup.set_up.Reads.Post
 set-up-once κs a x y v w p q = (no-second p q, refl)
 
+pub exchange-once : OneAnswer setup.exchange.ended setup.exchange.Reads.Post
+exchange-once κs a x y v w p q = (no-second p q, refl)
+
 pub prepare-once : OneAnswer stages.prepare.ended stages.prepare.Reads.Post
 prepare-once κs a x y v w p q = (no-second p q, refl)
 

@@ -1,6 +1,6 @@
 // The joint tick over values (added by document 01): the state, set-up, and the tick in stages. Crate `calls` has the bytes.
 mod profile; // profile.rt: which rules a tick flies by
-mod setup; // setup.rt: the first state
+mod setup; // setup.rt: the first state, and the exchange of its segment
 mod stages; // stages.rt: the tick, stage by stage
 mod state; // state.rt: what the image, the inputs and the answer hold
 mod taken; // taken.rt: the states that a tick takes
@@ -9,6 +9,7 @@ pub use profile::Profile;
 pub use profile::is_profile;
 pub use profile::profile_of;
 pub use profile::profile_word;
+pub use setup::exchange;
 pub use setup::segment_of;
 pub use setup::set_up;
 pub use stages::Prepared;

@@ -1,4 +1,4 @@
-// Set-up: the first state, by the constructors. They mend what is bad, so every bit pattern is taken.
+// Set-up: the first state, by the constructors. They mend what is bad, so every bit pattern is taken. And the exchange of the segment.
 use crate::state::Fixed;
 use crate::state::Leg;
 use crate::state::Moving;
@@ -10,7 +10,7 @@ use relay_geo::SimplexShield;
 use relay_traj::RefGovernor;
 use relay_traj::Segment3;
 ghost use mathlib.Core.Path.{_≡_};
-ghost use Rattle.joint_tick.specs.SetUp.{segmentOf, setUp};
+ghost use Rattle.joint_tick.specs.SetUp.{segmentOf, setUp, exchange};
 
 pub fn segment_of(leg: Leg) -> Segment3
     ensures { λ r. ⌜ r ≡ segmentOf leg ⌝ }
@@ -39,6 +39,36 @@ pub fn set_up(input: SetUp) -> State
             governor: RefGovernor::new(input.err_lo, input.err_hi, input.g_min),
             rate: AdrcRate::new(input.roll, input.pitch, input.yaw),
             lpf: GyroLpf::new(input.fc, input.fs),
+        },
+    }
+}
+
+// Another segment in flight (request Seven): that of a new leg, from its start on.
+pub fn exchange(state: State, leg: Leg) -> State
+    ensures { λ r. ⌜ r ≡ exchange state leg ⌝ }
+{
+    let fixed = state.fixed;
+    let gains = fixed.gains;
+    let set = fixed.set;
+    let profile = fixed.profile;
+    let moving = state.moving;
+    let governor = moving.governor;
+    let rate = moving.rate;
+    let lpf = moving.lpf;
+    State {
+        fixed: Fixed {
+            gains,
+            set,
+            enter: fixed.enter,
+            exit: fixed.exit,
+            segment: segment_of(leg),
+            profile,
+        },
+        moving: Moving {
+            engaged: moving.engaged,
+            governor: governor.reset(),
+            rate,
+            lpf,
         },
     }
 }

@@ -1,5 +1,5 @@
-// The calls on lent bytes: set-up, number 500, tick, 501, and route tick, 502; append to a log, 503, its count, 504, and a record of it, 505. A buffer
-// is stored with more than the right length, so that a call can be lent too little or too much of it; what was not lent has to stay too.
+// The calls on lent bytes: set-up, number 500, tick, 501, and route tick, 502; append to a log, 503, its count, 504, and a record of it, 505; exchange, 506.
+// A buffer is stored with more than the right length, so that a call can be lent too little or too much of it; what was not lent has to stay too.
 use super::Verdict;
 use super::filled;
 use super::filled_to;
@@ -36,7 +36,8 @@ fn called(n: u32, a: &mut [u8], b: &[u8], c: &mut [u8], d: &[u8], at: usize) -> 
         502 => route::route_tick(a, b, d, c),
         503 => log::append(a, at, b, d),
         504 => log::count_into(b, c),
-        _ => log::record_into(b, at, c),
+        505 => log::record_into(b, at, c),
+        _ => calls::exchange(a, b),
     }
 }
 

@@ -7,9 +7,11 @@ use native.Mathlib.Omega.{arith}
 use borrow.Author.Tests.{ltb-false, eqb-false}
 use lib.ListN.{length}
 use Rattle.image.specs.Layout.{IMAGE-BYTES, INPUT-BYTES, ANSWER-BYTES}
+use Rattle.image.specs.Image.{fixedAt, HoldsPeaks}
 use Rattle.outcome.specs.Outcomes.{isDone, left, lent}
 use Rattle.outcome.proofs.Tables.{done-none, in-turn, same, refused-keeps}
 use Rattle.calls.specs.Entry.{tickTable, tickRefusal, tickFrom}
+use Rattle.calls.proofs.Flown.{peaks-held}
 use Rattle.route.specs.Form.{LEG-BYTES, TRAILER-BYTES, countOf, formTable, formRefusal}
 use Rattle.route.specs.Entry.{routeRefusal, routeCall}
 
@@ -17,6 +19,7 @@ pub record Taken (image : List ℕ) (inputLen answerLen : ℕ) (route : List ℕ
   pub image-length : length image ≡ IMAGE-BYTES
   pub input-length : inputLen ≡ INPUT-BYTES
   pub answer-length : answerLen ≡ ANSWER-BYTES
+  pub peaks : HoldsPeaks image (fixedAt image .segment)
   pub trailer : TRAILER-BYTES ≤ length route
   pub some : 0 < countOf route
   pub whole : LEG-BYTES * countOf route ≤ length route
@@ -36,6 +39,7 @@ taken image inputLen answerLen route e =
       image-length = same (length image) IMAGE-BYTES (t 0);
       input-length = same inputLen INPUT-BYTES (t 1);
       answer-length = same answerLen ANSWER-BYTES (t 2);
+      peaks = peaks-held image (t 3);
       trailer = ltb-false (length route) TRAILER-BYTES (t 4);
       some = pos n (eqb-false n 0 (t 5));
       whole = omega (arith, same (length route) (LEG-BYTES * n + TRAILER-BYTES) (t 8));

@@ -20,7 +20,7 @@ use Rattle.runs.proofs.Going.{call-steps, start-accepted, thresholds-in
 -- threshold, and no tick after that one, up to and including this, had a margin that was non-finite or below the lower one. What is passed on is
 -- that command with non-finite numbers made zero, else the fallback treated alike, and the flag names which."
 --
--- Here for any bytes given to set-up, any calls since (a refused one is no tick and changes nothing), and now a tick, on the image's segment or on a
+-- Here for any bytes given to set-up, any calls since (an exchange is no tick; a refused call changes nothing), and now a tick, on the image's segment or on a
 -- route, that is given right lengths and a right route.
 pub demand-three : (setup : List ℕ) (calls : List Call) (t : Tick) → Right t
     → let image = imageAfter (start setup) calls in

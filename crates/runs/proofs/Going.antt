@@ -22,8 +22,8 @@ use Rattle.image.proofs.Decoded.{decode-encode}
 use Rattle.calls.specs.Entry.{setUpRefusal, setUpCall}
 use Rattle.calls.specs.Ticks.{Accepted, marginsIf, shieldOf, stepped, Steps}
 use Rattle.calls.proofs.Going.{set-up-fits, set-up-never-refused, in-order}
-use Rattle.calls.proofs.Steps.{tick-steps}
-use Rattle.runs.specs.Runs.{Tick, Call, Ticks, leftBy, sourceOn, guided, marginsOf, start, imageAfter, marginsAlong}
+use Rattle.calls.proofs.Steps.{tick-steps, exchange-steps}
+use Rattle.runs.specs.Runs.{Tick, Call, Ticks, Exchanges, leftBy, sourceOn, guided, marginsOf, start, imageAfter, marginsAlong}
 use Rattle.runs.specs.DemandThree.{enterOf, exitOf}
 use Rattle.runs.proofs.Shown.{refusalOn, flying-is, done}
 
@@ -31,6 +31,7 @@ use Rattle.runs.proofs.Shown.{refusalOn, flying-is, done}
 
 pub call-steps : (image : List ℕ) (c : Call) → Accepted image → Steps (marginsOf image c) image (leftBy image c)
 unfolding marginsOf leftBy guided
+call-steps image (Exchanges segment) a = exchange-steps image segment a
 call-steps image (Ticks t) a =
     subst (λ (c : Called). Steps (marginsIf c (guided image t .margin)) image (c .later .image)) (sym (flying-is (t .course) image (t .input) (t .answer)))
     (tick-steps (sourceOn (t .course) image) (refusalOn (t .course) image (length (t .input)) (length (t .answer))) image (t .input) (t .answer) a)

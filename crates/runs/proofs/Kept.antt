@@ -1,6 +1,6 @@
--- What ticks of both kinds keep: the clock, which never goes back, and the words that no tick writes anew. Assumes nothing.
+-- What calls keep: ticks of both kinds the clock, which never goes back, and ticks and exchanges the words that they do not write anew. Assumes nothing.
 use mathlib.Core.Path.{_≡_, refl, sym, ap, _∙_, subst}
-use mathlib.Core.Bool.{true, not}
+use mathlib.Core.Bool.{Bool, true, false, not}
 use mathlib.Core.List.{List, [], _∷_, _++_, map}
 use Prim.Native.Nat.{ℕ, zero, suc, _+_, _<_}
 use native.Mathlib.Nat.{add-zero}
@@ -9,9 +9,9 @@ use lib.Dec.{T, eqb, lit<}
 use lib.ListN.{length, getD, take, drop}
 use lib.Seq.{getD-take, getD-drop}
 use lib.Ieee.{Float, binary32, le, isNan, ofBits, toBits}
-use lib.Ieee.Bits.{ofBits-fits}
+use lib.Ieee.Bits.{ofBits-fits, ofBits-toBits}
 use Rattle.laws.proofs.Tests.{no}
-use Rattle.words.specs.Words.{word, float, vec, canon, wordsOf, canons}
+use Rattle.words.specs.Words.{word, float, vec, canon, flag, floatsOfVec, wordsOf, canons}
 use Rattle.words.proofs.Back.{word-back, bits-lt}
 use Rattle.relay_math.proofs.Order.{le-trans, le-refl-of}
 use Rattle.relay_traj.specs.Governor.{advance}
@@ -22,29 +22,31 @@ use Rattle.relay_adrc.specs.Axis.{axisTick}
 use Rattle.relay_adrc.specs.Biquad.{biquadFilter, gyroFilter}
 use Rattle.joint_tick.specs.declared.profile.Profile.{Profile}
 use Rattle.joint_tick.specs.declared.profile.Profile.the-variants.{Whole, LostRotor}
+use Rattle.joint_tick.specs.declared.state.Leg.{Leg}
 use Rattle.joint_tick.specs.declared.state.State.{State}
 use Rattle.joint_tick.specs.declared.state.TickInput.{TickInput}
 use Rattle.joint_tick.specs.declared.stages.Reference.{Reference}
 use Rattle.joint_tick.specs.Profile.{profileWord, isProfile}
-use Rattle.joint_tick.specs.SetUp.{setUp}
+use Rattle.joint_tick.specs.SetUp.{setUp, exchange}
 use Rattle.joint_tick.specs.Tick.{prepare, follow, pick, finish, ticked, stateAfter}
 use Rattle.joint_tick.proofs.Kept.{tick-keeps as gains-kept}
 use Rattle.joint_tick.proofs.LostRotor.{third-stands}
-use Rattle.image.specs.Layout.{GOVERNOR, RATE, AXIS-WORDS, PROFILE, SETUP-PROFILE}
-use Rattle.image.specs.Parts.{gainsAt, setAt, governorAt, quinticAt, segmentAt, adrcGainsAt, axisAt, rateAt, biquadAt, lpfAt, profileAt, floatsOfAdrcGains, floatsOfAxis}
-use Rattle.image.specs.Image.{fixedAt, movingAt, stateAt, wordsOfState, imageOf}
+use Rattle.image.specs.Layout.{GOVERNOR, SEGMENT, RATE, AXIS-WORDS, PROFILE, PEAKS, SETUP-PROFILE}
+use Rattle.image.specs.Parts.{gainsAt, setAt, governorAt, quinticAt, segmentAt, adrcGainsAt, axisAt, rateAt, biquadAt, lpfAt, legAt, profileAt, floatsOfAdrcGains, floatsOfAxis}
+use Rattle.image.specs.Image.{fixedAt, movingAt, stateAt, wordsOfState, imageOf, peaksOf}
 use Rattle.image.specs.Inputs.{setupAt, inputAt}
 use Rattle.image.proofs.Decoded.{profile-written, decode-encode}
-use Rattle.outcome.specs.Outcomes.{number, isDone, Called}
+use Rattle.image.proofs.Fitting.{peaks-fit}
+use Rattle.outcome.specs.Outcomes.{number, isDone, Filled, Called}
 use Rattle.outcome.proofs.Tables.{done-none, either}
-use Rattle.calls.specs.Entry.{tickTable, tickRefusal, tickFrom}
+use Rattle.calls.specs.Entry.{tickTable, exchangeRefusal, tickRefusal, exchangeCall, tickFrom}
 use Rattle.calls.specs.Ticks.{Accepted}
-use Rattle.calls.proofs.Going.{set-up-fits, count-of-image, profile-of-word, profile-of-image}
+use Rattle.calls.proofs.Going.{set-up-fits, count-of-image, flag-of-image, profile-of-word, profile-of-image, peaks-of-image}
 use Rattle.calls.proofs.Steps.{image-runs, tick-clock}
 use Rattle.route.specs.Form.{formTable}
 use Rattle.route.specs.Entry.{routeRefusal}
-use Rattle.runs.specs.Runs.{Course, Segment, Route, Tick, Call, Ticks, tickOf, leftBy, sourceOn, start, imageAfter}
-use Rattle.runs.specs.Kept.{Kept, SameWords, Front, BandAndSegment, RollGains, PitchGains, YawGains, RollFilter, PitchFilter, YawFilter, ProfileWord}
+use Rattle.runs.specs.Runs.{Course, Segment, Route, Tick, Call, Ticks, Exchanges, tickOf, leftBy, sourceOn, start, imageAfter}
+use Rattle.runs.specs.Kept.{Lasting, Front, Band, RollGains, PitchGains, YawGains, RollFilter, PitchFilter, YawFilter, ProfileWord, Kept, Lasts, SegmentWords, Peaks, Untouched, Stays, Flag, AdrcAndFilters, SameWords, KeptBy, AllKeep}
 use Rattle.runs.proofs.Shown.{refusalOn, flying-is}
 use Rattle.runs.proofs.Going.{call-steps, start-accepted}
 
@@ -64,7 +66,7 @@ clock-over-any-run image (t ∷ more) a =
     let r = clock-over-any-run (leftBy image (Ticks t)) more (call-steps image (Ticks t) a .accepted) in
     (le-trans (float image GOVERNOR) (float (leftBy image (Ticks t)) GOVERNOR) _ (one image t a) (r .0), r .1)
 
--- ---- the words that no tick changes
+-- ---- the words that ticks keep
 
 -- word i of canonical words
 canons-at : (b : List ℕ) (k n i : ℕ) → i < n → getD (canons b k n) i 0 ≡ canon (word b (k + i))
@@ -86,15 +88,17 @@ same-words b s k n held i h =
 state-keeps : (source : Float → Reference) (s : State) (i : TickInput) {k n : ℕ} → Kept k n
     → take n (drop k (wordsOfState (stateAfter source s i))) ≡ take n (drop k (wordsOfState s))
 unfolding prepare advance ticked finish pick follow axisTick gyroFilter biquadFilter
-state-keeps source s i Front = refl
-state-keeps source s i BandAndSegment = refl
-state-keeps source s i RollGains = refl
-state-keeps source s i PitchGains = refl
-state-keeps source s i YawGains = ap (λ (g : AdrcGains). wordsOf (floatsOfAdrcGains g)) (gains-kept source s i .yaw)
-state-keeps source s i RollFilter = refl
-state-keeps source s i PitchFilter = refl
-state-keeps source s i YawFilter = refl
-state-keeps source s i ProfileWord = refl
+state-keeps source s i (Lasts Front) = refl
+state-keeps source s i (Lasts Band) = refl
+state-keeps source s i (Lasts RollGains) = refl
+state-keeps source s i (Lasts PitchGains) = refl
+state-keeps source s i (Lasts YawGains) = ap (λ (g : AdrcGains). wordsOf (floatsOfAdrcGains g)) (gains-kept source s i .yaw)
+state-keeps source s i (Lasts RollFilter) = refl
+state-keeps source s i (Lasts PitchFilter) = refl
+state-keeps source s i (Lasts YawFilter) = refl
+state-keeps source s i (Lasts ProfileWord) = refl
+state-keeps source s i SegmentWords = refl
+state-keeps source s i Peaks = refl
 
 -- .. and that is what was read
 canon-profile : (p : Profile) → profileWord p ≡ canon (profileWord p)
@@ -102,17 +106,31 @@ unfolding ofBits toBits
 canon-profile Whole = refl
 canon-profile LostRotor = refl
 
-read-again : (image : List ℕ) → Accepted image → {k n : ℕ} → Kept k n → take n (drop k (wordsOfState (stateAt image))) ≡ canons image k n
+lasting-again : (image : List ℕ) → Accepted image → {k n : ℕ} → Lasting k n → take n (drop k (wordsOfState (stateAt image))) ≡ canons image k n
 unfolding fixedAt movingAt gainsAt vec setAt governorAt segmentAt quinticAt rateAt axisAt adrcGainsAt lpfAt biquadAt float ofBits toBits
-read-again image a Front = rw (count-of-image image a)
-read-again image a BandAndSegment = refl
-read-again image a RollGains = refl
-read-again image a PitchGains = refl
-read-again image a YawGains = refl
-read-again image a RollFilter = refl
-read-again image a PitchFilter = refl
-read-again image a YawFilter = refl
-read-again image a ProfileWord = ap (λ (w : ℕ). w ∷ []) (canon-profile (fixedAt image .profile) ∙ ap canon (sym (profile-of-image image a)))
+lasting-again image a Front = rw (count-of-image image a)
+lasting-again image a Band = refl
+lasting-again image a RollGains = refl
+lasting-again image a PitchGains = refl
+lasting-again image a YawGains = refl
+lasting-again image a RollFilter = refl
+lasting-again image a PitchFilter = refl
+lasting-again image a YawFilter = refl
+lasting-again image a ProfileWord = ap (λ (w : ℕ). w ∷ []) (canon-profile (fixedAt image .profile) ∙ ap canon (sym (profile-of-image image a)))
+
+peaks-again : (image : List ℕ) → Accepted image → wordsOf (floatsOfVec (peaksOf image)) ≡ canons image PEAKS 3
+peaks-again image a =
+    let w = peaks-of-image image a in
+    let f = peaks-fit (segmentAt image SEGMENT) in
+    let p = peaksOf image in
+    let at = ofBits-toBits binary32 in
+    rw (w .0, w .1, w .2, at (p .0) (f .0), at (p .1) (f .1 .0), at (p .2) (f .1 .1 .0))
+
+read-again : (image : List ℕ) → Accepted image → {k n : ℕ} → Kept k n → take n (drop k (wordsOfState (stateAt image))) ≡ canons image k n
+unfolding fixedAt segmentAt quinticAt float
+read-again image a (Lasts w) = lasting-again image a w
+read-again image a SegmentWords = refl
+read-again image a Peaks = peaks-again image a
 
 -- from any source of references
 tick-keeps : (source : Float → Reference) (image input : List ℕ) → Accepted image → {k n : ℕ} → Kept k n
@@ -156,7 +174,7 @@ module _ (image : List ℕ) (t : Tick) (done : number (tickOf image t .outcome) 
       (λ e z. kept (taken-on (t .course) image _ _ e))
       (λ e z. no (sym e ∙ ap (λ (x : ℕ). eqb x 0) z))) done
 
-  -- "words 0 to 14 and 17 to 40 are kept", and ADRC's gains, the filters' coefficients and the profile: each is the word before, a NaN made 7fc00000
+  -- "words 0 to 14 and 17 to 40 are kept", and ADRC's gains, the filters' coefficients, the profile and the peaks: each is the word before, a NaN made 7fc00000
   pub words-kept : {k n : ℕ} → Kept k n → SameWords image (tickOf image t .later .image) k n
   words-kept {k} {n} w = accepted-keeps k n (λ a. tick-keeps (sourceOn (t .course) image) image (t .input) a w)
 
@@ -164,36 +182,82 @@ module _ (image : List ℕ) (t : Tick) (done : number (tickOf image t .outcome) 
   pub third-axis-kept : word image PROFILE ≡ 1 → SameWords image (tickOf image t .later .image) (RATE + AXIS-WORDS + AXIS-WORDS) AXIS-WORDS
   third-axis-kept p = accepted-keeps (RATE + AXIS-WORDS + AXIS-WORDS) AXIS-WORDS (λ a. third-keeps (sourceOn (t .course) image) image (t .input) p)
 
+-- ---- the words that an exchange keeps
+
+exchanged-keeps : (s : State) (l : Leg) {k n : ℕ} → Untouched k n → take n (drop k (wordsOfState (exchange s l))) ≡ take n (drop k (wordsOfState s))
+unfolding exchange
+exchanged-keeps s l (Stays Front) = refl
+exchanged-keeps s l (Stays Band) = refl
+exchanged-keeps s l (Stays RollGains) = refl
+exchanged-keeps s l (Stays PitchGains) = refl
+exchanged-keeps s l (Stays YawGains) = refl
+exchanged-keeps s l (Stays RollFilter) = refl
+exchanged-keeps s l (Stays PitchFilter) = refl
+exchanged-keeps s l (Stays YawFilter) = refl
+exchanged-keeps s l (Stays ProfileWord) = refl
+exchanged-keeps s l Flag = refl
+exchanged-keeps s l AdrcAndFilters = refl
+
+canon-flag : (b : Bool) → flag b ≡ canon (flag b)
+unfolding ofBits toBits
+canon-flag true = refl
+canon-flag false = refl
+
+untouched-again : (image : List ℕ) → Accepted image → {k n : ℕ} → Untouched k n → take n (drop k (wordsOfState (stateAt image))) ≡ canons image k n
+unfolding movingAt rateAt axisAt adrcGainsAt lpfAt biquadAt float
+untouched-again image a (Stays w) = lasting-again image a w
+untouched-again image a Flag = ap (λ (w : ℕ). w ∷ []) (canon-flag (movingAt image .engaged) ∙ ap canon (sym (flag-of-image image a)))
+untouched-again image a AdrcAndFilters = refl
+
+pub exchange-same : (image segment : List ℕ) → Accepted image → {k n : ℕ} → Untouched k n → SameWords image (imageOf (exchange (stateAt image) (legAt segment 0))) k n
+exchange-same image segment a {k} {n} w =
+    same-words image (exchange (stateAt image) (legAt segment 0)) k n (exchanged-keeps (stateAt image) (legAt segment 0) w ∙ untouched-again image a w)
+
 -- ---- over runs: what set-up wrote has no other NaN, so that these words do not change by a bit
 
-one-keeps : (image : List ℕ) (c : Call) → Accepted image → {k n : ℕ} → Kept k n → (i : ℕ) → i < n
+one-keeps : (image : List ℕ) (c : Call) → Accepted image → (k n : ℕ) → KeptBy c k n → (i : ℕ) → i < n
     → canon (word image (k + i)) ≡ word image (k + i) → word (leftBy image c) (k + i) ≡ word image (k + i)
-unfolding leftBy tickFrom
-one-keeps image (Ticks t) a {k} {n} w i h e =
+unfolding leftBy tickFrom exchangeCall
+one-keeps image (Ticks t) a k n w i h e =
     subst (λ (c : Called). word (c .later .image) (k + i) ≡ word image (k + i)) (sym (flying-is (t .course) image (t .input) (t .answer)))
     (either (λ (c : Called). word (c .later .image) (k + i) ≡ word image (k + i)) (refusalOn (t .course) image (length (t .input)) (length (t .answer)))
     (λ d. tick-keeps (sourceOn (t .course) image) image (t .input) a w i h ∙ e) (λ d. refl))
+one-keeps image (Exchanges segment) a k n w i h e =
+    either (λ (l : Filled). word (l .later) (k + i) ≡ word image (k + i)) (exchangeRefusal image (length segment))
+    (λ d. exchange-same image segment a w i h ∙ e) (λ d. refl)
 
-run-keeps : (image : List ℕ) (calls : List Call) → Accepted image → {k n : ℕ} → Kept k n → (i : ℕ) → i < n
+run-keeps : (image : List ℕ) (calls : List Call) → Accepted image → (k n : ℕ) → AllKeep calls k n → (i : ℕ) → i < n
     → canon (word image (k + i)) ≡ word image (k + i) → word (imageAfter image calls) (k + i) ≡ word image (k + i)
 unfolding imageAfter
-run-keeps image [] a w i h e = refl
-run-keeps image (c ∷ calls) a w i h e =
-    let one = one-keeps image c a w i h e in
-    run-keeps (leftBy image c) calls (call-steps image c a .accepted) w i h (rw one e) ∙ one
+run-keeps image [] a k n w i h e = refl
+run-keeps image (c ∷ calls) a k n w i h e =
+    let one = one-keeps image c a k n (w .0) i h e in
+    run-keeps (leftBy image c) calls (call-steps image c a .accepted) k n (w .1) i h (rw one e) ∙ one
 
-pub words-kept-over-any-run : (setup : List ℕ) (calls : List Call) {k n : ℕ} → Kept k n → (i : ℕ) → i < n
+-- words that every call of the run keeps are set-up's ..
+pub words-kept-over-any-run : (setup : List ℕ) (calls : List Call) {k n : ℕ} → Kept k n → AllKeep calls k n → (i : ℕ) → i < n
     → word (imageAfter (start setup) calls) (k + i) ≡ word (start setup) (k + i)
 unfolding start
-words-kept-over-any-run setup calls {k} {n} w i h =
+words-kept-over-any-run setup calls {k} {n} w all i h =
     let s = setUp (setupAt setup) in
     let same = ap imageOf (decode-encode s (set-up-fits setup)) in
     let canonical = same-words (imageOf s) (stateAt (imageOf s)) k n (read-again (imageOf s) (start-accepted setup) w) i h in
-    run-keeps (imageOf s) calls (start-accepted setup) w i h (sym canonical ∙ ap (λ (b : List ℕ). word b (k + i)) same)
+    run-keeps (imageOf s) calls (start-accepted setup) k n all i h (sym canonical ∙ ap (λ (b : List ℕ). word b (k + i)) same)
+
+-- .. so those of any run at all, with whatever exchanges, and of a run of ticks alone the segment and its peaks too
+pub all-keep-lasting : {k n : ℕ} → Lasting k n → (calls : List Call) → AllKeep calls k n
+all-keep-lasting w [] = tt
+all-keep-lasting w (Ticks t ∷ calls) = (Lasts w, all-keep-lasting w calls)
+all-keep-lasting w (Exchanges segment ∷ calls) = (Stays w, all-keep-lasting w calls)
+
+pub all-keep-ticking : {k n : ℕ} → Kept k n → (ticks : List Tick) → AllKeep (map Ticks ticks) k n
+all-keep-ticking w [] = tt
+all-keep-ticking w (t ∷ ticks) = (w, all-keep-ticking w ticks)
 
 -- "The profile never changes over any run": it is the 51st word that set-up was given.
 pub profile-over-any-run : (setup : List ℕ) (calls : List Call) → isProfile (word setup SETUP-PROFILE) ≡ true
     → word (imageAfter (start setup) calls) PROFILE ≡ word setup SETUP-PROFILE
 unfolding start setUp setupAt profileAt
 profile-over-any-run setup calls p =
-    words-kept-over-any-run setup calls ProfileWord 0 (lit< tt) ∙ profile-written (setUp (setupAt setup)) ∙ sym (profile-of-word (word setup SETUP-PROFILE) p)
+    words-kept-over-any-run setup calls (Lasts ProfileWord) (all-keep-lasting ProfileWord calls) 0 (lit< tt)
+    ∙ profile-written (setUp (setupAt setup)) ∙ sym (profile-of-word (word setup SETUP-PROFILE) p)

@@ -13,7 +13,7 @@ use Rattle.image.specs.Image.{stateAt, imageOf}
 use Rattle.image.specs.Inputs.{setupAt, inputAt}
 use Rattle.outcome.specs.declared.Outcome.the-variants.{Done}
 use Rattle.outcome.specs.Outcomes.{Called}
-use Rattle.calls.specs.Entry.{onSegment, tickCall}
+use Rattle.calls.specs.Entry.{exchangeCall, onSegment, tickCall}
 use Rattle.calls.specs.Ticks.{marginsIf}
 use Rattle.route.specs.Form.{formRefusal}
 use Rattle.route.specs.Entry.{onRoute, routeCall}
@@ -31,9 +31,10 @@ pub record Tick : Type 0 where
   pub input : List ℕ
   pub answer : List ℕ
 
--- A call of a run. Every call on an image is a tick so far; another is a case more, here and in the two definitions by cases below.
+-- A call of a run: a tick, or an exchange of the segment by the bytes of a leg. Another is a case more, here and in the two definitions by cases below.
 pub data Call : Type 0 where
   Ticks : Tick → Call
+  Exchanges : List ℕ → Call
 
 -- the call that flies a course, and what a tick leaves: its outcome, the image and the answer
 unfoldable pub flying : Course → List ℕ → List ℕ → List ℕ → Called
@@ -46,8 +47,9 @@ tickOf image t = flying (t .course) image (t .input) (t .answer)
 
 -- the image that a call leaves; a refused one leaves it as it was
 unfoldable pub leftBy : List ℕ → Call → List ℕ
-unfolding flying
+unfolding flying exchangeCall
 leftBy image (Ticks t) = tickOf image t .later .image
+leftBy image (Exchanges segment) = exchangeCall image segment .later
 
 -- ---- the margins
 
@@ -60,10 +62,11 @@ sourceOn (Route route) image = onRoute route
 unfoldable pub guided : List ℕ → Tick → Guided
 guided image t = guidance (sourceOn (t .course) image) (stateAt image) (inputAt (t .input))
 
--- the margins that a call steps the shield by: that of a tick, if it is accepted
+-- the margins that a call steps the shield by: that of a tick, if it is accepted; an exchange has none
 unfoldable pub marginsOf : List ℕ → Call → List Float
 unfolding flying guided
 marginsOf image (Ticks t) = marginsIf (tickOf image t) (guided image t .margin)
+marginsOf image (Exchanges segment) = []
 
 -- ---- the run
 

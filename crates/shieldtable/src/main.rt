@@ -23,7 +23,7 @@ fn line(step: u64, bits: u32, shield: SimplexShield) -> SimplexShield {
 }
 
 fn refusal() {
-    let mut image = [0u8; image::IMAGE_BYTES]; // 384 zero bytes
+    let mut image = [0u8; image::IMAGE_BYTES]; // 396 zero bytes
     let input = [0u8; image::INPUT_BYTES];
     let mut answer = [0u8; image::ANSWER_BYTES];
     let ended = calls::tick(&mut image, &input, &mut answer);

@@ -19,6 +19,9 @@ float-at-once κs a x y v w p q = (no-second p q, refl)
 pub vec-at-once : OneAnswer read.vec_at.ended read.vec_at.Reads.Post
 vec-at-once κs a x y v w p q = (no-second p q, refl)
 
+pub bits-of-once : OneAnswer write.bits_of.ended write.bits_of.Reads.Post
+bits-of-once κs a x y v w p q = (no-second p q, refl)
+
 pub put-word-once : OneAnswer write.put_word.ended write.put_word.Reads.Post
 put-word-once κs a x y v w p q = (refl, both (no-second (p .is) (q .is)) refl)
 

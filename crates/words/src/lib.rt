@@ -7,6 +7,7 @@ pub use read::float_of;
 pub use read::four_bytes;
 pub use read::vec_at;
 pub use read::word_at;
+pub use write::bits_of;
 pub use write::put_bytes;
 pub use write::put_flag;
 pub use write::put_float;

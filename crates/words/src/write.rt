@@ -19,7 +19,7 @@ pub fn put_word(bytes: &mut [u8], k: usize, w: u32)
 }
 
 // The NaN is always written as 0x7fc0_0000: compiled code may hold any NaN pattern, and `to_bits` is undefined there.
-fn bits_of(x: f32) -> u32
+pub fn bits_of(x: f32) -> u32
     ensures { λ r. ⌜ r ≡ bits x ⌝ }
 {
     if x != x { 0x7fc0_0000 } else { f32::to_bits(x) }

@@ -1,5 +1,5 @@
-//! Sets up an image, ticks it along a slow pass, keeps a log of it and prints who flies; then the log read back, two calls that are refused, and a tick
-//! with a rotor lost.
+//! Sets up an image, ticks it along a slow pass, keeps a log of it and prints who flies; then the log read back, the segment exchanged
+//! in flight, two calls that are refused, and a tick with a rotor lost.
 //!
 //!   make core && cargo run --offline --manifest-path examples/rust/Cargo.toml
 
@@ -34,6 +34,10 @@ fn main() -> Result<(), Refusal> {
     let flown = LogView::try_from(&file[..])?;
     let margins: Vec<f32> = flown.iter().map(|record| record.answer().margin).collect();
     println!("the log, {} records, has the margins {margins:?}", flown.len());
+
+    // back home in flight: the time starts again, who flies goes on, and the peaks of the jerk are read off the image
+    image.exchange(&Segment { p0: [3.0, 0.0, 0.0], pf: [0.0; 3], ..set_up.segment })?;
+    println!("the segment exchanged: time {}, {} flies on, peaks {:?}", image.time(), image.pilot(), image.peak_abs_jerk());
 
     // an image whose latch is neither 0 nor 1; then an answer that is too short, by the calls on bytes
     let mut bytes = *image.as_bytes();

@@ -121,7 +121,7 @@ fn made(image: &mut Image, input: &Input, answer: &mut Answer) {
     flight.write(image);
 }
 
-/// The C call of an earlier archive, on an image of its own length: before request Six that was a word less.
+/// The C call of an earlier archive, on an image of its own length: before request Seven that was 96 words, before request Six 95.
 #[cfg(before)]
 struct Before {
     image: Image,
@@ -132,8 +132,11 @@ struct Before {
 impl Before {
     fn new(run: &Run) -> Self {
         let mut before = Before { image: run.start, len: IMAGE };
-        if before.call(&run.inputs[0], &mut [0; ANSWER]) == 1 {
-            before.len = IMAGE - 4;
+        for words in [99, 96, 95] {
+            before.len = 4 * words;
+            if before.call(&run.inputs[0], &mut [0; ANSWER]) != 1 {
+                break;
+            }
         }
         before
     }
@@ -208,10 +211,11 @@ pub fn alike(run: &Run) -> bool {
 }
 
 /// The C calls whose stack is measured, and the Rust's own calls of a tick beside them.
-pub const CALLS: [&str; 10] = [
+pub const CALLS: [&str; 11] = [
     "fosavalo_setup",
     "fosavalo_tick",
     "fosavalo_route_tick",
+    "fosavalo_exchange",
     "fosavalo_tick_refusal",
     "fosavalo_sinf",
     "fosavalo_cosf",
@@ -222,7 +226,7 @@ pub const CALLS: [&str; 10] = [
 ];
 /// Where in `CALLS` the tick stands, and the Rust's.
 pub const TICKED: usize = 1;
-pub const RUST: usize = 9;
+pub const RUST: usize = CALLS.len() - 1;
 
 /// The stack that each of `CALLS` takes, the most over some ticks of a run, on a thread of its own. None where it can't be measured.
 pub fn stacks(run: &Run) -> Option<[usize; CALLS.len()]> {
@@ -232,7 +236,8 @@ pub fn stacks(run: &Run) -> Option<[usize; CALLS.len()]> {
         })
     }
     let measure = || {
-        let [mut fresh, mut ours, mut routed, mut theirs] = [run.start; 4];
+        let [mut fresh, mut ours, mut routed, mut exchanged, mut theirs] = [run.start; 5];
+        let leg = &run.set_up[4 * 17..4 * 36];
         let (mut answer, route) = ([0; ANSWER], Guide::new(63, MIXED).steady());
         let (mut log, mut record) = ([0; TRAILER + RECORD], [0; RECORD]);
         run.inputs.iter().take(256).try_fold([0; CALLS.len()], |most, input| {
@@ -242,6 +247,7 @@ pub fn stacks(run: &Run) -> Option<[usize; CALLS.len()]> {
                 of(|| faces::setup(&mut fresh, &run.set_up))?,
                 of(|| faces::tick(&mut ours, input, &mut answer))?,
                 of(|| faces::route_tick(&mut routed, input, &route, &mut answer))?,
+                of(|| faces::exchange(&mut exchanged, leg))?,
                 of(|| faces::tick_refusal(&ours, TICK, ANSWER))?,
                 of(|| faces::sinf(yaw))?,
                 of(|| faces::cosf(yaw))?,
@@ -276,5 +282,11 @@ mod tests {
         let (run, route, mut answer) = (pass(), Guide::new(63, MIXED).steady(), [0; ANSWER]);
         assert_eq!(route.len(), 8 * 76 + 8);
         assert_eq!(faces::route_tick(&mut run.start.clone(), &run.inputs[0], &route, &mut answer), 0);
+    }
+
+    #[test]
+    fn an_exchange_that_is_measured_is_one() {
+        let run = pass();
+        assert_eq!(faces::exchange(&mut run.start.clone(), &run.set_up[4 * 17..4 * 36]), 0);
     }
 }

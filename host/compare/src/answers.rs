@@ -6,7 +6,7 @@
 
 use crate::generate::{self, Kind, Part, Rng};
 use crate::joint;
-use crate::joint::bytes::{canonical, put, word, ANSWER, IMAGE, LEG, PROFILE, SETUP, SETUP_PROFILE, TICK};
+use crate::joint::bytes::{canonical, put, word, ANSWER, IMAGE, LEG, PEAKS, PROFILE, SETUP, SETUP_PROFILE, TICK};
 use crate::joint::fault::Fault;
 use crate::joint::lent::Lending;
 use crate::joint::model::{self, Flight};
@@ -28,6 +28,7 @@ const SETUPS: u64 = 320;
 const RUNS: u64 = 40;
 const TICKS: u64 = 30;
 const ROUTE_TICKS: u64 = 8;
+const EXCHANGES: u64 = 240;
 const LOGS: u64 = 40;
 
 /// Where the list stands.
@@ -99,6 +100,7 @@ pub fn sections() -> Vec<Section> {
     }));
     all.extend([setups(), ticks(), route_ticks()]);
     all.extend(logs());
+    all.push(exchanges());
     all
 }
 
@@ -277,6 +279,33 @@ fn route_ticks() -> Section {
     Section::calls("route tick", 502, (0..RUNS).flat_map(|number| run("stored route ticks", number, ROUTE_TICKS, true)).collect())
 }
 
+/// Of images that have flown a little, a few of them with a word replaced.
+fn exchanges() -> Section {
+    let rows = (0..EXCHANGES).map(|n| {
+        let mut rng = Rng::new("stored exchanges", n);
+        let kind = |n: u64| KINDS[(n % 4) as usize];
+        let mut image = buffer(&mut rng, IMAGE + MORE, &[]);
+        let mut input = bits(filled::<SETUP_PROFILE>(kind(n / 4), &set_up_parts(), &mut rng)).to_vec();
+        input.push((n % 2) as u32);
+        set_up(&mut image[..IMAGE], &buffer(&mut rng, SETUP, &input));
+        for _ in 0..rng.below(4) {
+            let words = bits(filled::<{ TICK / 4 }>(kind(n / 16), &INPUT, &mut rng));
+            let input = buffer(&mut rng, TICK, &words);
+            tick(&mut image[..IMAGE], &input, None, &mut [0; ANSWER]);
+        }
+        if rng.below(6) == 0 {
+            damage(&mut rng, &mut image);
+        }
+        let a = Lent { bytes: image, len: length(&mut rng, IMAGE) };
+        let leg = bits(filled::<{ LEG / 4 }>(kind(n), &LEG_PARTS, &mut rng));
+        let b = lent(&mut rng, LEG, &leg);
+        Call { a, b, c: Lent::NONE, d: Lent::NONE, at: 0 }.row(|image, input, _, _, _| {
+            model::call(Fault::None, joint::Call::Exchange, &mut Lending { image, input, route: &[], answer: &mut [] })
+        })
+    });
+    Section::calls("exchange", 506, rows.collect())
+}
+
 /// Ticks from a set-up, the image handed on. Every other run is level, at rest, with no filter and turning as commanded, and its rate beside that
 /// goes about those at which the margin is enter and exit; the others are of all kinds. At times the call is refused, or an image with
 /// one word replaced is lent; then the run goes on with the one before. Eight runs by the old rules and eight with a rotor lost take turns.
@@ -335,10 +364,12 @@ fn run(name: &str, number: u64, ticks: u64, on_routes: bool) -> Vec<Row> {
 /// One word replaced, mostly one of those that row 4 looks at.
 fn damage(rng: &mut Rng, image: &mut [u8]) {
     let any = rng.below(IMAGE / 4);
-    let at = rng.of(&[0, 13, 14, 15, 16, 26, 33, 40, PROFILE, any, any]).unwrap_or(0);
+    let peak = PEAKS + rng.below(3);
+    let at = rng.of(&[0, 13, 14, 15, 16, 26, 33, 40, PROFILE, peak, any, any]).unwrap_or(0);
     let near = rng.near_one(&[0.0, 1e-3, 0.5, 3.0, f32::INFINITY]).to_bits();
     let bits = rng.word().to_bits();
-    let new = rng.of(&[0, 1, 2, 95, 97, near, near, near, bits]).unwrap_or(0);
+    let flipped = word(image, at) ^ 1 << rng.below(32);
+    let new = rng.of(&[0, 1, 2, 95, 96, near, near, near, flipped, bits]).unwrap_or(0);
     put(image, at, new);
 }
 
@@ -351,7 +382,7 @@ fn tick(image: &mut [u8], input: &[u8], route: Option<&[u8]>, answer: &mut [u8])
 /// before it are short. At times no leg or one too many, or one word of a join or of the trailer replaced.
 fn route(rng: &mut Rng, kind: Kind, time: f32) -> Vec<u32> {
     const WORDS: usize = LEG / 4;
-    let count = rng.of(&[1, 1, 2, 2, 2, 3, 3, 3, 4, 4, 5, 8, 0, 9]).unwrap_or(1);
+    let count = rng.of(&[1, 1, 2, 2, 2, 3, 3, 3, 4, 5, 6, 7, 8, 0, 9]).unwrap_or(1);
     let mut legs = vec![[0.0; WORDS]; count];
     let (aim, mut end, mut from) = (rng.below(count + 1), 0.0f32, None);
     for (at, leg) in legs.iter_mut().enumerate() {

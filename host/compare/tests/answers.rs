@@ -46,8 +46,8 @@ fn the_list_has_every_routine_every_number_and_both_controllers() {
     let sections = answers::sections();
     let all: usize = sections.iter().map(|section| section.rows.len()).sum();
     assert!(all >= 10_000, "{all} answers");
-    // 82 of the table, the root and the size, five figures, set-up, both ticks, and a log's three calls
-    assert_eq!(sections.len(), 82 + 2 + 5 + 6);
+    // 82 of the table, the root and the size, five figures, set-up, both ticks, the exchange, and a log's three calls
+    assert_eq!(sections.len(), 82 + 2 + 5 + 7);
     let numbers = |name: &str, all: &[u32], least: usize| {
         let rows = &named(&sections, name).rows;
         let count = |number: &u32| rows.iter().filter(|row| row.answer[0] == *number).count();
@@ -58,6 +58,7 @@ fn the_list_has_every_routine_every_number_and_both_controllers() {
     numbers("set-up", &[0, 1, 2, 10], 6);
     numbers("tick", &[0, 1, 2, 3, 4], 21);
     numbers("route tick", &[0, 1, 2, 3, 4, 5, 6, 7], 10);
+    numbers("exchange", &[0, 1, 2, 4], 5);
     numbers("log append", &[0, 2, 3, 8, 9], 6);
     numbers("log count", &[0, 2, 8], 6);
     numbers("log record", &[0, 8, 13, 14], 6);

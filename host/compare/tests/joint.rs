@@ -1,8 +1,8 @@
-//! The joint tick: the archive's two calls against the Rust's own calls in document 01's order, byte for byte, and the third
+//! The joint tick: the archive's calls against the Rust's own calls in document 01's order, byte for byte, and the third
 //! demand by looking back. FOSAVALO_TICKS asks for more ticks than the gate's five million.
 
 use compare::generate::Rng;
-use compare::joint::bytes::{float, put, word, ANSWER, IMAGE, PROFILE, SETUP, SETUP_PROFILE, TICK};
+use compare::joint::bytes::{float, put, raw, word, ANSWER, IMAGE, LEG, PEAKS, PROFILE, SETUP, SETUP_PROFILE, TICK, WORDS};
 use compare::joint::fault::{Fault, WRONG, WRONG_ERROR, WRONG_PROFILE};
 use compare::joint::guide::PLAIN;
 use compare::joint::lent::Lending;
@@ -37,8 +37,9 @@ fn covered(seen: &Seen) {
     assert!(seen.refused_set_ups.iter().all(|n| *n > 100), "{:?}", seen.refused_set_ups);
     assert!(seen.turning.as_flattened().iter().all(|n| *n > 1000), "{:?}", seen.turning);
     for (at, [accepted, refused]) in seen.damaged.iter().enumerate() {
-        // the words that row 4 looks at, and word 0, of which any other value is refused
-        let looked_at = [0, 13, 14, 15, 16, 26, 33, 40, PROFILE].contains(&at);
+        // the words that row 4 looks at: of word 0 any other value is refused, and of the segment c5, c4, c3 and t_end are looked at by its peaks
+        let of_a_peak = (20..41).contains(&at) && [0, 1, 2, 6].contains(&((at - 20) % 7));
+        let looked_at = [0, 13, 14, 15, 16].contains(&at) || of_a_peak || at >= PROFILE;
         assert!(
             accepted + refused > 1000 && (at == 0 || *accepted > 100) && (*refused > 100) == looked_at,
             "word {at}: {accepted}, {refused}"
@@ -80,9 +81,10 @@ fn with_no_fault_nothing_differs() {
 fn every_length_of_every_buffer() {
     let start = Instant::now();
     let setups = lengths::setups(&archive).unwrap_or_else(|text| panic!("{text}"));
+    let exchanges = lengths::exchanges(&archive).unwrap_or_else(|text| panic!("{text}"));
     let ticks = lengths::ticks(&archive).unwrap_or_else(|text| panic!("{text}"));
-    assert_eq!((setups, ticks), (2 * 401 * 401, 2 * 401 * 401 * 401));
-    println!("{setups} set-ups and {ticks} ticks, {:.1} s", start.elapsed().as_secs_f32());
+    assert_eq!((setups, exchanges, ticks), (2 * 401 * 401, 2 * 401 * 401, 2 * 401 * 401 * 401));
+    println!("{setups} set-ups, {exchanges} exchanges and {ticks} ticks, {:.1} s", start.elapsed().as_secs_f32());
 }
 
 /// And the sweep can fail.
@@ -94,13 +96,15 @@ fn a_wrong_length_taken_or_a_byte_changed_is_caught() {
     };
     let writes = |call, lent: &mut Lending<'_>| {
         let byte = match call {
-            Call::SetUp => lent.image.first_mut(),
+            Call::SetUp | Call::Exchange => lent.image.first_mut(),
             _ => lent.answer.last_mut().filter(|_| lent.input.len() % 64 == 4),
         };
         byte.into_iter().for_each(|byte| *byte ^= 1);
         model::call(Fault::None, call, lent)
     };
     let profile = |call, lent: &mut Lending<'_>| model::call(Fault::ProfileFirst, call, lent);
+    let broken = |call, lent: &mut Lending<'_>| model::call(Fault::BrokenFirst, call, lent);
+    assert!(lengths::exchanges(&writes).is_err() && lengths::exchanges(&broken).is_err());
     assert!(lengths::ticks(&longer).is_err() && lengths::ticks(&writes).is_err());
     assert!(lengths::setups(&writes).is_err() && lengths::setups(&profile).is_err());
 }
@@ -190,7 +194,7 @@ fn with<const N: usize>(mut bytes: [u8; N], words: &[(usize, u32)]) -> [u8; N] {
 #[test]
 fn the_image_by_hand() {
     let image = image_of(&set_up());
-    assert_eq!((word(&image, 0), word(&image, 95)), (96, 0));
+    assert_eq!((word(&image, 0), word(&image, 95)), (99, 0));
     assert_eq!(word(&image_of(&lost_rotor()), 95), 1);
     (1..10).for_each(|at| assert_eq!(float(&image, at), at as f32));
     let floats: Vec<f32> = (10..15).map(|at| float(&image, at)).collect();
@@ -202,6 +206,7 @@ fn the_image_by_hand() {
     let filter = [1.0, 0.0, 0.0, 0.0, 0.0, 0.0, 0.0, 0.0, 0.0];
     let expected = [vec![0.0, 1.0, 3.0, 0.25], [axis; 3].concat(), [adrc; 3].concat(), [filter; 3].concat()].concat();
     assert_eq!(floats, expected);
+    assert_eq!([96, 97, 98].map(|at| word(&image, at)), [0; 3]);
 }
 
 #[test]
@@ -376,13 +381,13 @@ fn profiles_by_hand() {
     };
     for profile in [2, 3, 256, 1 << 24, 1 << 31, f32::to_bits(1.0), NAN, u32::MAX] {
         let input = with(set_up(), &[(SETUP_PROFILE, profile)]);
-        assert_eq!((number(384, &input), number(380, &input), number(384, &input[..203])), (10, 1, 2), "{profile:08x}");
-        assert_eq!(number(384, &[&input[..], &[0]].concat()), 2);
+        assert_eq!((number(396, &input), number(384, &input), number(396, &input[..203])), (10, 1, 2), "{profile:08x}");
+        assert_eq!(number(396, &[&input[..], &[0]].concat()), 2);
     }
-    assert_eq!((number(384, &set_up()), number(384, &lost_rotor()), number(384, &set_up()[..200])), (0, 0, 2));
-    let old = with(image_of(&set_up()), &[(0, 95)]);
+    assert_eq!((number(396, &set_up()), number(396, &lost_rotor()), number(396, &set_up()[..200])), (0, 0, 2));
+    let old = with(image_of(&set_up()), &[(0, 96)]);
     assert_eq!(faces::tick(&mut old.clone(), &still(), &mut [0; ANSWER]), 4);
-    assert_eq!(faces::tick(&mut old[..380].to_vec(), &still(), &mut [0; ANSWER]), 1);
+    assert_eq!(faces::tick(&mut old[..384].to_vec(), &still(), &mut [0; ANSWER]), 1);
 }
 
 /// Of the values of word 95 a tick takes two: looked at are the first million, all of at most three bits, and one in 4099.
@@ -407,7 +412,7 @@ fn row_4_by_hand() {
         number
     };
     for (at, refused) in [
-        (0, &[0, 95, 97, 96 << 8, 0x42c0_0000][..]),
+        (0, &[0, 95, 96, 98, 100, 99 << 8, 0x42c6_0000][..]),
         (13, &[0, 0x8000_0000, 0x8000_0001, INFINITY, NAN, 0x3f80_0000, 0xffff_ffff]),
         (14, &[0x3f00_0000, 0x3eff_ffff, 0, NAN, 0xff80_0000]),
         (15, &[2, 3, 256, 0x3f80_0000, 0x8000_0000, u32::MAX]),
@@ -415,12 +420,16 @@ fn row_4_by_hand() {
         (26, &[0x3a83_126e, 0, NAN, INFINITY, 0xff80_0000]),
         (33, &[0x3a83_126e, 0, NAN, INFINITY, 0xbf80_0000]),
         (40, &[0x3a83_126e, 0, NAN, INFINITY, 0x8000_0000]),
+        (20, &[0xffff_ffff, 0x3f80_0000]),
         (95, &[2, 3, 256, 0x3f80_0000, 0x8000_0000, NAN, u32::MAX]),
+        (96, &[1, 0x8000_0000, NAN, INFINITY]),
+        (97, &[1, 0x8000_0000, NAN, INFINITY]),
+        (98, &[1, 0x8000_0000, NAN, INFINITY]),
     ] {
         refused.iter().for_each(|word| assert_eq!(number(at, *word), 4, "word {at} = {word:08x}"));
     }
     for (at, taken) in [
-        (0, &[96][..]),
+        (0, &[99][..]),
         (13, &[1, 0x3f7f_ffff]),
         (14, &[0x3f00_0001, INFINITY]),
         (15, &[0, 1]),
@@ -429,7 +438,8 @@ fn row_4_by_hand() {
         (33, &[0x3a83_126f]),
         (40, &[0x3a83_126f]),
         (1, &[NAN, 0xffff_ffff]),
-        (20, &[0xffff_ffff]),
+        (23, &[0xffff_ffff]),
+        (96, &[0]),
         (94, &[INFINITY]),
         (95, &[0, 1]),
     ] {
@@ -443,10 +453,72 @@ fn row_4_by_hand() {
 #[test]
 fn kept_words_have_one_nan() {
     let mut image = with(image_of(&set_up()), &[(4, 0xffc0_0001), (17, 0x7f80_0001)]);
-    let refused = with(image, &[(0, 95)]);
+    let refused = with(image, &[(0, 96)]);
     let mut same = refused;
     assert_eq!(faces::tick(&mut same, &still(), &mut [0; ANSWER]), 4);
     assert_eq!(same, refused);
     tick(&mut image, &still());
     assert_eq!((word(&image, 4), word(&image, 17)), (NAN, NAN));
+}
+
+/// A leg from rest to rest, from the origin.
+fn leg(pf: [f32; 3], t: f32) -> [u8; LEG] {
+    raw(&[&[0.0; 9][..], &pf, &[0.0; 6], &[t]].concat())
+}
+
+/// "A new call exchanges the segment in flight .. and sets governor time to 0"; "the exchange leaves shield, ADRC and filters as they were".
+#[test]
+fn an_exchange_by_hand() {
+    let mut image = image_of(&set_up());
+    let turning = with(still(), &[(0, 0.5f32.to_bits()), (1, 0.25f32.to_bits())]);
+    for _ in 0..3 {
+        tick(&mut image, &turning);
+    }
+    assert_eq!((word(&image, 15), float(&image, 16)), (0, 0.1875));
+    // rest to rest from 0 to 1 in 2 s: the starred figures, peak 97.5; on the other axes nothing
+    let before = with(image, &[(5, 0xffc0_0001)]);
+    let mut image = before;
+    assert_eq!(faces::exchange(&mut image, &leg([1.0, 0.0, -0.0], 2.0)), 0);
+    assert_eq!([16, 20, 21, 22, 26].map(|at| float(&image, at)), [0.0, 0.1875, -0.9375, 1.25, 2.0]);
+    assert_eq!([16, 96, 97, 98].map(|at| word(&image, at)), [0, 97.5f32.to_bits(), 0, 0]);
+    let written = |at: &usize| *at == 16 || (20..41).contains(at) || *at >= PEAKS;
+    for at in (0..WORDS).filter(|at| !written(at)) {
+        assert_eq!(word(&image, at), if at == 5 { NAN } else { word(&before, at) }, "word {at}");
+    }
+    // a tick keeps the peaks
+    tick(&mut image, &still());
+    assert_eq!((float(&image, 16), word(&image, 96)), (0.0625, 97.5f32.to_bits()));
+    // the planner flies on in the band, in which a fresh shield does not release
+    let in_the_band = with(still(), &[(0, 3.0f32.sqrt().to_bits())]);
+    assert_eq!(faces::exchange(&mut image, &leg([0.0; 3], 2.0)), 0);
+    assert_eq!((word(&tick(&mut image, &in_the_band), 6), word(&tick(&mut image_of(&set_up()), &in_the_band), 6)), (0, 1));
+    // mended as at set-up: a duration that is no number is 1e-3, a bad end position is the start
+    assert_eq!(faces::exchange(&mut image, &leg([f32::NAN, 1.0, 1.0], f32::NAN)), 0);
+    assert_eq!([26, 33, 40].map(|at| float(&image, at)), [1e-3; 3]);
+    assert_eq!(word(&image, 96), 0);
+    // an infinite peak
+    assert_eq!(faces::exchange(&mut image, &leg([0.0, 4.6e35, 0.0], 1.0)), 0);
+    assert_eq!([96, 97, 98].map(|at| word(&image, at)), [0, INFINITY, 0]);
+    tick(&mut image, &still());
+    assert_eq!(faces::tick(&mut with(image, &[(97, NAN)]), &still(), &mut [0; ANSWER]), 4);
+}
+
+/// "the exchange gives 1, 2 (length not 76) and 4", in this order; a broken image is not repaired.
+#[test]
+fn exchanges_refused_by_hand() {
+    let (good, new) = (image_of(&set_up()), leg([1.0, 0.0, 0.0], 2.0));
+    let number = |image: &[u8], segment: &[u8]| {
+        let mut lent = image.to_vec();
+        let number = faces::exchange(&mut lent, segment);
+        assert!(number == 0 || lent == image);
+        number
+    };
+    assert_eq!(number(&good, &new), 0);
+    assert_eq!((number(&good[1..], &new[1..]), number(&good, &new[1..]), number(&good, &[&new[..], &[0]].concat())), (1, 2, 2));
+    for (at, word) in
+        [(0, 96), (13, 0), (14, 0), (15, 2), (16, NAN), (26, NAN), (33, 0), (40, INFINITY), (95, 2), (96, 0x8000_0000), (98, 1)]
+    {
+        let broken = with(good, &[(at, word)]);
+        assert_eq!((number(&broken, &new), number(&broken, &new[1..]), number(&broken[1..], &new)), (4, 2, 1), "word {at}");
+    }
 }

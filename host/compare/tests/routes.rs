@@ -1,8 +1,8 @@
-//! Ticks on routes, mixed with plain ones: the archive against document 02's sentence with the Rust's own segments, byte for byte, and the
+//! Ticks on routes, mixed with plain ones and with exchanges of the segment: the archive against document 02's sentence with the Rust's own segments, byte for byte, and the
 //! third demand by looking back.
 
 use compare::joint::bytes::{float, put, raw, word, ANSWER, IMAGE, LEG, SETUP, SETUP_PROFILE, TICK};
-use compare::joint::fault::{Fault, WRONG_ERROR, WRONG_ON_ROUTES, WRONG_PROFILE};
+use compare::joint::fault::{Fault, WRONG_ERROR, WRONG_EXCHANGE, WRONG_ON_ROUTES, WRONG_PROFILE};
 use compare::joint::guide::MIXED;
 use compare::joint::runs::{self, caught, Watch, GATE_ON_ROUTES};
 use compare::joint::{archive, lengths, model};
@@ -28,9 +28,11 @@ fn every_tick_on_a_route_is_the_rust_s_and_the_look_back_s() {
         ("refusals 4 to 7", &routes.refused[4..]),
         ("apart", &routes.apart),
         ("switches", &[routes.switches]),
+        ("exchanges", &[seen.exchanged, seen.infinite_peaks]),
     ] {
         assert!(counts.iter().all(|count| *count > 1000), "{what}: {counts:?}");
     }
+    assert!(seen.refused_exchanges.iter().all(|count| *count > 100), "{:?}", seen.refused_exchanges);
     assert!(seen.turning.as_flattened().iter().all(|count| *count > 100), "{:?}", seen.turning);
     for (passes, band) in seen.passes().into_iter().zip(seen.band) {
         assert!(band.iter().all(|n| n * 20 >= passes), "{band:?} of {passes}");
@@ -40,7 +42,7 @@ fn every_tick_on_a_route_is_the_rust_s_and_the_look_back_s() {
 
 #[test]
 fn what_looks_right_but_is_wrong_is_caught() {
-    let all = [WRONG_ON_ROUTES, WRONG_ERROR, WRONG_PROFILE].concat();
+    let all = [WRONG_ON_ROUTES, WRONG_ERROR, WRONG_PROFILE, WRONG_EXCHANGE].concat();
     let missed: Vec<_> = all.into_iter().filter(|fault| !caught(*fault, GATE_ON_ROUTES, Watch::All, MIXED)).collect();
     assert!(missed.is_empty(), "not caught within {GATE_ON_ROUTES} ticks: {missed:?}");
 }
@@ -48,7 +50,7 @@ fn what_looks_right_but_is_wrong_is_caught() {
 /// The look-back knows nothing of the model nor of routes, and catches what the third demand is about.
 #[test]
 fn looking_back_alone_catches_what_is_about_the_flag() {
-    for fault in [Fault::ReleasedInTheBand, Fault::Constant, Fault::Untouched] {
+    for fault in [Fault::ReleasedInTheBand, Fault::Constant, Fault::Untouched, Fault::ExchangeResetsShield, Fault::ExchangeReleases] {
         assert!(caught(fault, GATE_ON_ROUTES, Watch::LookBack, MIXED), "{}", fault.name());
     }
 }

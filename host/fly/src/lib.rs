@@ -2,6 +2,7 @@
 
 pub mod aircraft;
 pub mod curve;
+pub mod exchange;
 pub mod flight;
 pub mod legs;
 pub mod output;

@@ -2,7 +2,7 @@
 
 use fly::flight::{Flight, Rule, RULES};
 use fly::table::{choices, passes, table};
-use fly::{curve, legs, output, pass, rotor};
+use fly::{curve, exchange, legs, output, pass, rotor};
 use fosavalo::{BodyRate, GyroFilter, Image, Pilot, Profile, SetUp, TickInput};
 
 #[test]
@@ -18,6 +18,25 @@ fn the_legs() {
     let now = legs::table().expect("the legs meet");
     assert_eq!(now, include_str!("legs.txt"), "\n{now}");
     assert_eq!(legs::fly(pass::DRAWN).expect("the legs meet").strays(), None);
+}
+
+/// And of the pass whose segment is exchanged: the rule is kept over all of its ticks, so who flies is carried across, and ticks keep the peaks.
+#[test]
+fn the_exchanges() {
+    let now = exchange::table().expect("no pass is refused");
+    assert_eq!(now, include_str!("exchange.txt"), "\n{now}");
+    let mut carried = [0; 2];
+    for seed in pass::SEEDS {
+        let flown = exchange::fly(seed).expect("no pass is refused");
+        assert_eq!((flown.flight.strays(), flown.stretches.len()), (None, 3));
+        for stretch in &flown.stretches[1..] {
+            let ticks = &flown.flight.ticks;
+            assert!(ticks[stretch.from].answer.time < 0.002 && ticks[stretch.from - 1].answer.time > 1.0);
+            assert_eq!(stretch.pilot, ticks[stretch.from - 1].answer.pilot);
+            carried[usize::from(stretch.pilot == Pilot::Planner)] += 1;
+        }
+    }
+    assert!(carried[1] > 0, "the planner had control at none of the exchanges: {carried:?}");
 }
 
 /// And of the curved pass: what is flown is never taken from the planner, and document 01's margin would take it.

@@ -27,6 +27,7 @@ mod raw {
         pub fn fosavalo_sinf(x: f32) -> f32;
         pub fn fosavalo_cosf(x: f32) -> f32;
         pub fn fosavalo_setup(image: *mut u8, image_len: usize, input: *const u8, input_len: usize) -> u32;
+        pub fn fosavalo_exchange(image: *mut u8, image_len: usize, segment: *const u8, segment_len: usize) -> u32;
         pub fn fosavalo_tick(
             image: *mut u8,
             image_len: usize,
@@ -102,6 +103,23 @@ pub fn setup(image: &mut [u8], input: &[u8]) -> u32 {
     // SAFETY: each pointer goes with its slice's own length, the function is proved to stay within them, and borrowing keeps
     // the slices apart.
     unsafe { raw::fosavalo_setup(image.as_mut_ptr(), image.len(), input.as_ptr(), input.len()) }
+}
+
+/// Another segment in flight, from a leg's 76 bytes. Gives 0, 1, 2 or 4.
+///
+/// ```
+/// use fosavalo::{calls, SetUp, IMAGE_BYTES, LEG_BYTES};
+///
+/// let mut image = [0; IMAGE_BYTES];
+/// assert_eq!(calls::exchange(&mut image, &[0; LEG_BYTES]), 4); // a broken image is not repaired
+/// calls::setup(&mut image, &SetUp::falcon_quad().to_bytes());
+/// assert_eq!(calls::exchange(&mut image, &[0; LEG_BYTES]), 0);
+/// assert_eq!(calls::exchange(&mut image, &[0; LEG_BYTES + 1]), 2);
+/// ```
+#[inline]
+pub fn exchange(image: &mut [u8], segment: &[u8]) -> u32 {
+    // SAFETY: as above.
+    unsafe { raw::fosavalo_exchange(image.as_mut_ptr(), image.len(), segment.as_ptr(), segment.len()) }
 }
 
 /// One joint tick. Gives 0 to 4.

@@ -1,8 +1,9 @@
-use crate::words::Take;
-use crate::{calls, Answer, FloatFault, Pilot, Profile, Refusal, Route, SetUp, TickInput, ANSWER_BYTES, IMAGE_BYTES, TICK_BYTES};
+use crate::words::{Put, Take};
+use crate::{calls, Answer, FloatFault, Leg, Pilot, Profile, Refusal, Route, SetUp, TickInput};
+use crate::{ANSWER_BYTES, IMAGE_BYTES, LEG_BYTES, TICK_BYTES};
 use core::fmt;
 
-/// The state that goes from tick to tick: 384 bytes that may be copied, stored and sent.
+/// The state that goes from tick to tick: 396 bytes that may be copied, stored and sent.
 ///
 /// ```
 /// use fosavalo::{BodyRate, Image, Pilot, SetUp, TickInput};
@@ -30,16 +31,16 @@ impl Image {
         Ok(Image { bytes })
     }
 
-    /// An image from bytes; refused where these are not 384, as an image from before there were profiles, which had 380. Whether it is
-    /// broken is found by [`Image::check`] and by the next tick.
+    /// An image from bytes; refused where these are not 396, as an image from before the peaks were kept, which had 384. Whether it is
+    /// broken is found by [`Image::check`] and by the next call.
     ///
     /// ```
     /// use fosavalo::{Image, Refusal, TickInput};
     ///
-    /// let mut blank = Image::from_bytes(&[0; 384])?;
+    /// let mut blank = Image::from_bytes(&[0; 396])?;
     /// assert_eq!(blank.check(), Err(Refusal::BrokenImage));
     /// assert_eq!(blank.tick(&TickInput::default()), Err(Refusal::BrokenImage));
-    /// assert_eq!(Image::from_bytes(&[0; 380]), Err(Refusal::ImageLength));
+    /// assert_eq!(Image::from_bytes(&[0; 384]), Err(Refusal::ImageLength));
     /// # Ok::<(), Refusal>(())
     /// ```
     pub fn from_bytes(bytes: &[u8]) -> Result<Self, Refusal> {
@@ -73,6 +74,34 @@ impl Image {
         Answer::from_bytes(&answer)
     }
 
+    /// Another segment in flight, mended as at set-up and flown from its start: the time is 0 again. Who flies, the rate control and the
+    /// filters go on as they were. Where it is refused the image stays as it is.
+    ///
+    /// ```
+    /// use fosavalo::{Image, Leg, Pilot, SetUp, TickInput};
+    ///
+    /// let mut image = Image::set_up(&SetUp::falcon_quad())?;
+    /// image.tick(&TickInput { dt: 0.5, ..TickInput::default() })?;
+    /// assert_eq!((image.time(), image.pilot()), (0.5, Pilot::Planner));
+    ///
+    /// image.exchange(&Leg { pf: [1.0, 0.0, 0.0], t: 2.0, ..SetUp::falcon_quad().segment })?;
+    /// assert_eq!((image.time(), image.pilot()), (0.0, Pilot::Planner)); // who flies is carried across
+    /// assert_eq!(image.peak_abs_jerk(), [97.5, 0.0, 0.0]);
+    /// # Ok::<(), fosavalo::Refusal>(())
+    /// ```
+    pub fn exchange(&mut self, leg: &Leg) -> Result<(), Refusal> {
+        FloatFault::check()?;
+        let mut bytes = [0; LEG_BYTES];
+        leg.put(&mut Put::to(&mut bytes));
+        Refusal::check(calls::exchange(&mut self.bytes, &bytes))
+    }
+
+    /// relay's bound on the size of the segment's jerk, axis by axis; +infinity where that is not finite. It is read off the image: no tick
+    /// is needed, and nothing is worked out.
+    pub fn peak_abs_jerk(&self) -> [f32; 3] {
+        [96, 97, 98].map(|at| f32::from_bits(self.word(at)))
+    }
+
     /// Whether a tick would take this image, and why not: what [`Image::tick`] would be refused for.
     pub fn check(&self) -> Result<(), Refusal> {
         FloatFault::check()?;
@@ -103,14 +132,14 @@ impl Image {
         f32::from_bits(self.word(16))
     }
 
-    /// What it was set up as; no tick changes it. None where the word is no profile's: then the image is broken.
+    /// What it was set up as; no call changes it. None where the word is no profile's: then the image is broken.
     ///
     /// ```
     /// use fosavalo::{Image, Profile, SetUp};
     ///
     /// let image = Image::set_up(&SetUp { profile: Profile::LostRotor, ..SetUp::falcon_quad() })?;
     /// assert_eq!(image.profile(), Some(Profile::LostRotor));
-    /// assert_eq!(Image::from_bytes(&[2; 384])?.profile(), None);
+    /// assert_eq!(Image::from_bytes(&[2; 396])?.profile(), None);
     /// # Ok::<(), fosavalo::Refusal>(())
     /// ```
     pub fn profile(&self) -> Option<Profile> {
@@ -130,6 +159,7 @@ impl fmt::Debug for Image {
             .field("pilot", &self.pilot())
             .field("time", &self.time())
             .field("profile", &self.profile())
+            .field("peak_abs_jerk", &self.peak_abs_jerk())
             .finish_non_exhaustive()
     }
 }

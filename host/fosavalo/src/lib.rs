@@ -4,7 +4,7 @@
 //! ```
 //! use fosavalo::{Image, Pilot, SetUp, TickInput};
 //!
-//! // the state that goes from tick to tick: 384 bytes, nothing allocated
+//! // the state that goes from tick to tick: 396 bytes, nothing allocated
 //! let mut image = Image::set_up(&SetUp::falcon_quad())?;
 //!
 //! // level and still: the margin is far above `exit`, so the planner flies
@@ -25,6 +25,7 @@
 //! | numbers | [`SetUp`], [`Image::set_up`], [`TickInput`], [`Image::tick`], [`Answer`] |
 //! | an aircraft that has lost a rotor | [`Profile::LostRotor`] |
 //! | a path of several legs | [`Leg`], [`Route`], [`Image::route_tick`] |
+//! | another segment in flight, and the peaks of its jerk | [`Image::exchange`], [`Image::peak_abs_jerk`] |
 //! | ticks to keep, or a flight to look at | [`Log`], [`LogView`], [`Record`] |
 //! | bytes of your own | [`calls`]: the C calls as they are, on slices |
 //! | a refusal's number | [`Refusal`] |
@@ -65,7 +66,7 @@ pub use setup::{AdrcGains, Gains, Governor, GyroFilter, Profile, RecoverableSet,
 pub use tick::{Answer, BodyRate, Pilot, TickInput, Torque};
 
 /// The length of an image.
-pub const IMAGE_BYTES: usize = 384;
+pub const IMAGE_BYTES: usize = 396;
 /// The length of what set-up is given.
 pub const SETUP_BYTES: usize = 204;
 /// The length of what a tick is given.

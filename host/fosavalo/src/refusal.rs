@@ -10,11 +10,11 @@ use core::fmt;
 ///
 /// let refusal = Refusal::BrokenImage;
 /// assert_eq!(refusal.number(), Some(4));
-/// assert_eq!(refusal.to_string(), "refused (4): the image is none that set-up or a tick leaves");
+/// assert_eq!(refusal.to_string(), "refused (4): the image is none that set-up, a tick or an exchange leaves");
 ///
 /// // an error like any other
 /// fn fly() -> Result<(), Box<dyn std::error::Error>> {
-///     let mut image = fosavalo::Image::from_bytes(&[0; 384])?;
+///     let mut image = fosavalo::Image::from_bytes(&[0; 396])?;
 ///     image.tick(&fosavalo::TickInput::default())?;
 ///     Ok(())
 /// }
@@ -23,7 +23,7 @@ use core::fmt;
 #[derive(Clone, Copy, Debug, PartialEq, Eq, Hash)]
 #[non_exhaustive]
 pub enum Refusal {
-    /// 1: the image is not 384 bytes long.
+    /// 1: the image is not 396 bytes long.
     ImageLength,
     /// 2: the input is not 204 bytes long at set-up, 68 at a tick and in a log; or what takes a log's count is not 4.
     InputLength,
@@ -121,10 +121,10 @@ impl fmt::Display for Meaning {
             Refusal::ImageLength => write!(f, "the image is not {IMAGE_BYTES} bytes long"),
             Refusal::InputLength => write!(
                 f,
-                "the input is not {SETUP_BYTES} bytes long at set-up, {TICK_BYTES} at a tick and in a log, or a log's count is not 4"
+                "the input is not {SETUP_BYTES} bytes long at set-up, {LEG_BYTES} at an exchange, {TICK_BYTES} at a tick and in a log, or a log's count is not 4"
             ),
             Refusal::AnswerLength => write!(f, "the answer is not {ANSWER_BYTES} bytes long"),
-            Refusal::BrokenImage => f.write_str("the image is none that set-up or a tick leaves"),
+            Refusal::BrokenImage => f.write_str("the image is none that set-up, a tick or an exchange leaves"),
             Refusal::LegCount => write!(f, "a route has 1 to {MOST_LEGS} legs"),
             Refusal::RouteLength => write!(
                 f,

@@ -112,7 +112,7 @@ fn nothing_at_all() {
     let (work, program) = (Work::new("nothing"), crate_folder().join("tests/c/nothing.c"));
     for (compiler, language) in compilers() {
         let said = work.run(compiler, &include(), &program, &[language, &["-O2"]].concat(), &[]);
-        assert_eq!(said, "1 1 2 1 1 2 3 1 1 6 2 8 3 2 8 14 8 unchanged\n", "{compiler}");
+        assert_eq!(said, "1 1 2 1 2 1 1 2 3 1 1 6 2 8 3 2 8 14 8 unchanged\n", "{compiler}");
     }
 }
 
@@ -230,6 +230,7 @@ fn words_stand_where_the_definitions_have_them() {
         block("IMAGE", "RATE", &names(&axis), 1, 3),
         block("IMAGE", "LPF", &names(&biquad), 1, 3),
         block("IMAGE", "PROFILE", &["profile"], 1, 1),
+        block("IMAGE", "PEAKS", &["peaks"], 3, 1),
     ];
     let set_up = [
         block("SETUP", "SETUP-GAINS", &names(&gains), 3, 1),

@@ -139,15 +139,18 @@ const MODULES: [Module; 5] = [
 ];
 
 /// Ours without a Rust original: crate, function, what it is.
-const ADDED: [(&str, &str, &str); 12] = [
+const ADDED: [(&str, &str, &str); 15] = [
     ("joint_tick", "set_up", "set-up over values"),
+    ("joint_tick", "exchange", "the exchange of the segment over values"),
     ("joint_tick", "prepare", "the tick's first stage: fractions, gyro filter, governor"),
     ("joint_tick", "reference_at", "the second: where the trajectory is"),
     ("joint_tick", "finish", "the third: observers, attitudes, fallback, psi, margin; shield; rate controller"),
     ("calls", "setup", "set-up on lent bytes"),
+    ("calls", "exchange", "the exchange of the segment on lent bytes"),
     ("calls", "tick", "the joint tick on lent bytes"),
     ("calls", "tick_refusal", "what a tick would be refused for"),
     ("fosavalo", "fosavalo_setup", "the C call"),
+    ("fosavalo", "fosavalo_exchange", "the C call"),
     ("fosavalo", "fosavalo_tick", "the C call"),
     ("fosavalo", "fosavalo_tick_refusal", "the C call"),
     ("route", "route_tick", "the joint tick on a route, on lent bytes"),

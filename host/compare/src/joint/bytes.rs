@@ -1,6 +1,6 @@
 //! Document 01's words: little-endian u32, floats as their bits, a NaN written as 7fc00000.
 
-pub const IMAGE: usize = 384;
+pub const IMAGE: usize = 396;
 pub const SETUP: usize = 204;
 pub const TICK: usize = 68;
 pub const ANSWER: usize = 40;
@@ -10,8 +10,9 @@ pub const TRAILER: usize = 8;
 /// The words of an image, and what word 0 says.
 pub const WORDS: usize = IMAGE / 4;
 
-/// Where the profile stands, in an image and in a set-up.
-pub const PROFILE: usize = WORDS - 1;
+/// Where the profile stands, in an image and in a set-up; and the three peaks.
+pub const PROFILE: usize = 95;
+pub const PEAKS: usize = 96;
 pub const SETUP_PROFILE: usize = SETUP / 4 - 1;
 
 /// All NaNs alike. On bits: of a float that is a NaN the optimiser may keep other bits than those asked for, and does.

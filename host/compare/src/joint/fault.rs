@@ -80,7 +80,25 @@ faults! {
         AnyProfile = "any profile taken at a tick";
         AnySetUp = "any profile taken at set-up";
         ProfileFirst = "10 before 2";
-        OldCount = "word 0 = 95 taken";
+        OldCount = "word 0 = 96 taken";
+    }
+    /// Those of the exchange and of the peaks.
+    WRONG_EXCHANGE {
+        ExchangeKeepsTime = "an exchange that keeps the time";
+        ExchangeResetsShield = "an exchange that resets the shield";
+        ExchangeReleases = "an exchange that gives the planner control";
+        ExchangeResetsAdrc = "an exchange that resets ADRC";
+        ExchangeResetsFilters = "an exchange that empties the filters";
+        ExchangeKeepsPeaks = "an exchange that keeps the old peaks";
+        ExchangeKeepsNan = "a NaN left as it is by an exchange";
+        ExchangeUnmended = "a duration of an exchange that is not mended";
+        ExchangeRepairs = "a broken image repaired by an exchange";
+        BrokenFirst = "4 before 2 at an exchange";
+        PeakOfFirst = "the first axis's peak for all three";
+        PeaksAsNumbers = "stored peaks compared as numbers";
+        PeaksUnread = "any peaks taken";
+        PeakOfFirstRead = "the first stored peak alone looked at";
+        NanPeakTaken = "a stored NaN taken for infinity";
     }
     /// And those of route ticks alone.
     WRONG_ON_ROUTES {

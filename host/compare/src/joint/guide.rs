@@ -3,17 +3,18 @@
 
 use super::bytes::{put, LEG, TICK, TRAILER};
 use super::fault::Fault;
+use super::pilot::{self, Kind};
 use super::route::Source;
-use super::{pilot, Call};
+use super::Call;
 use crate::generate::Rng;
 
 const WORDS: usize = LEG / 4;
 /// Where a leg has its end.
 const END: usize = 9;
 
-/// The calls of a run: ticks alone, and mixed with route ticks.
+/// The calls of a run: ticks alone, and mixed with route ticks and exchanges.
 pub const PLAIN: &[Call] = &[Call::Tick];
-pub const MIXED: &[Call] = &[Call::Tick, Call::RouteTick];
+pub const MIXED: &[Call] = &[Call::Tick, Call::RouteTick, Call::Exchange];
 
 pub struct Guide {
     rng: Rng,
@@ -21,6 +22,8 @@ pub struct Guide {
     far: bool,
     jumped: bool,
     calls: &'static [Call],
+    /// Whether every leg that is exchanged is one as in flight.
+    steady_legs: bool,
     /// Which of them it is now.
     now: usize,
     /// The route of the run, its legs and as it is flown.
@@ -38,12 +41,17 @@ impl Guide {
         let legs = legs(&mut rng, &durations);
         let steady = Source::of(Fault::None, Call::RouteTick, &bytes(&legs));
         let far = calls.contains(&Call::RouteTick) && rng.below(4) == 0;
-        Guide { rng, far, jumped: false, calls, now: calls.len() - 1, legs, steady }
+        let steady_legs = pilot::kind(number) == Kind::Pass;
+        Guide { rng, far, jumped: false, calls, steady_legs, now: calls.len() - 1, legs, steady }
     }
 
     /// The next call: stretches of each kind, one after another.
     pub fn call(&mut self) -> Call {
-        let stretch = if self.calls[self.now] == Call::RouteTick { 40 } else { 10 };
+        let stretch = match self.calls[self.now] {
+            Call::RouteTick => 40,
+            Call::Exchange => 1,
+            _ => 10,
+        };
         if self.calls.len() > 1 && self.rng.below(stretch) == 0 {
             self.now = (self.now + 1) % self.calls.len();
         }
@@ -54,8 +62,34 @@ impl Guide {
     pub fn source(&self, call: Call) -> &Source {
         match call {
             Call::RouteTick => &self.steady,
-            Call::SetUp | Call::Tick => &Source::Segment,
+            Call::SetUp | Call::Tick | Call::Exchange => &Source::Segment,
         }
+    }
+
+    /// What is lent to an exchange: the run's own leg where it is about that one; else a leg as in flight, and on no pass also one of any bits, one whose
+    /// peaks are infinite, and other lengths.
+    pub fn leg(&mut self, own: Option<&[f32]>) -> Vec<u8> {
+        let t = self.rng.range(0.5, 30.0);
+        let mut words = own.map_or_else(|| legs(&mut self.rng, &[t]), <[f32]>::to_vec);
+        let way = if self.steady_legs || own.is_some() { 0 } else { self.rng.below(8) };
+        let rng = &mut self.rng;
+        match way {
+            1 => words.iter_mut().for_each(|x| *x = rng.word()),
+            2 => words.iter_mut().for_each(|x| *x = rng.special()),
+            3 => words[rng.below(WORDS)] = rng.special(),
+            4 => {
+                words.fill(0.0);
+                (words[END + rng.below(3)], words[WORDS - 1]) = (4.6e35, 1.0);
+            }
+            // at rest: peaks of +0.0
+            5 => words[..WORDS - 1].fill(0.0),
+            _ => {}
+        }
+        let mut leg: Vec<u8> = words.iter().flat_map(|x| x.to_bits().to_le_bytes()).collect();
+        if way == 6 {
+            leg.resize(rng.of(&[0, 4, 68, 72, 75, 77, 80, 84, 152, 204]).unwrap_or(0), 0);
+        }
+        leg
     }
 
     /// The route of the run, with nothing done to it.

@@ -1,6 +1,6 @@
 //! Every length from 0 to 400 of each buffer, all together, between guards: the number, and not a byte changed. And of a route from 0 to 700.
 
-use super::bytes::{put, ANSWER, IMAGE, LEG, SETUP_PROFILE, TICK, TRAILER};
+use super::bytes::{put, raw, ANSWER, IMAGE, LEG, SETUP_PROFILE, TICK, TRAILER};
 use super::fault::Fault;
 use super::lent::{Hands, Lent, Short, LONGEST};
 use super::model::{self, Flight, Profile};
@@ -39,7 +39,7 @@ fn alike(face: Face, call: Call, lent: &mut Hands, expected: &mut Hands) -> Resu
 
 /// The calls with an image of this length, at every length of the input and, where there is one, of the answer; how many.
 fn with_image(face: Face, call: Call, image: usize, before: &Hands) -> Result<u64, String> {
-    let answers = if call == Call::SetUp { 0 } else { LONGEST };
+    let answers = if matches!(call, Call::SetUp | Call::Exchange) { 0 } else { LONGEST };
     let (mut calls, mut lent, mut expected) = (0, before.clone(), before.clone());
     for input in 0..=LONGEST {
         for answer in 0..=answers {
@@ -76,6 +76,14 @@ pub fn ticks(face: Face) -> Result<u64, String> {
         total.is_err()
     });
     total.into_inner().unwrap_or_else(PoisonError::into_inner)
+}
+
+/// An exchange at every pair of lengths, on a good image and on a broken one; how many calls.
+pub fn exchanges(face: Face) -> Result<u64, String> {
+    let good = Hands { input: beginning(&[], &raw::<LEG>(&[1.0; LEG / 4])).input, ..of_a_tick() };
+    let mut broken = good.clone();
+    put(broken.image.bytes_mut(), 15, 2);
+    [good, broken].iter().flat_map(|before| (0..=LONGEST).map(|image| with_image(face, Call::Exchange, image, before))).sum()
 }
 
 /// The calls of `routes`: counts, lengths, trailers, and lengths of the others with a good image and a broken one.

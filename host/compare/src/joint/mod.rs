@@ -1,4 +1,4 @@
-//! The joint tick, which is new, in both profiles, on its segment and on routes: the archive's calls beside the Rust's own calls made in the documents' order.
+//! The joint tick, which is new, in both profiles, on its segment and on routes, and the exchange of the segment: the archive's calls beside the Rust's own calls made in the documents' order.
 //!
 //! `model` is what is expected, of Rust objects, `route` of a route; `refusal` the table of numbers; `fault` what each of them can be made
 //! wrong by; `pilot` what comes in, `guide` which calls and which routes; `runs` the comparison, every byte after every call; `demand` looks
@@ -25,6 +25,8 @@ pub enum Call {
     SetUp,
     Tick,
     RouteTick,
+    /// Of the segment; the leg is lent as the input.
+    Exchange,
 }
 
 /// Who answers a call: the archive, or what stands in its place.
@@ -36,5 +38,6 @@ pub fn archive(call: Call, Lending { image, input, route, answer }: &mut Lending
         Call::SetUp => faces::setup(image, input),
         Call::Tick => faces::tick(image, input, answer),
         Call::RouteTick => faces::route_tick(image, input, route, answer),
+        Call::Exchange => faces::exchange(image, input),
     }
 }

@@ -1,7 +1,7 @@
-//! What is expected of set-up and tick: the Rust's own objects, made by its constructors, and its own calls in document 01's
+//! What is expected of set-up, tick and exchange: the Rust's own objects, made by its constructors, and its own calls in document 01's
 //! order. Between ticks the objects are kept; a damaged image makes them anew from its words. With a fault a tick is wrong in one place.
 
-use super::bytes::{put, Put, Take, ANSWER, IMAGE, PROFILE, WORDS};
+use super::bytes::{canonical, put, Put, Take, ANSWER, IMAGE, PEAKS, PROFILE, WORDS};
 use super::fault::Fault;
 use super::lent::Lending;
 use super::route::Source;
@@ -145,6 +145,34 @@ impl Flight {
         o.axes(self.rate.words());
         o.axes(self.lpf.words());
         o.word(self.profile as u32);
+        o.floats(self.segment.peak_abs_jerk());
+    }
+
+    /// Request Seven: another segment in flight, from its start on.
+    pub fn exchange(&mut self, fault: Fault, leg: &[u8]) {
+        let mut i = Take::from(leg, 0);
+        self.segment = Segment3::new(i.floats(), i.floats(), i.floats(), i.floats(), i.floats(), i.floats(), i.float());
+        if fault != Fault::ExchangeKeepsTime {
+            self.governor.reset();
+        }
+        let [k_r, lambda_j, psi_max, engaged, enter, exit] = self.shield.words();
+        match fault {
+            Fault::ExchangeResetsShield => self.shield = SimplexShield::from_words([k_r, lambda_j, psi_max, 1.0, enter, exit]),
+            Fault::ExchangeReleases => self.shield = SimplexShield::from_words([k_r, lambda_j, psi_max, 0.0 * engaged, enter, exit]),
+            Fault::ExchangeResetsAdrc => self.rate.reset(),
+            Fault::ExchangeResetsFilters => {
+                let mut filters = self.lpf.words();
+                filters.iter_mut().for_each(|filter| filter[5..].fill(0.0));
+                self.lpf = GyroLpf::from_words(filters);
+            }
+            Fault::ExchangeUnmended => {
+                let t = f32::from_bits(super::bytes::word(leg, 18));
+                let mut axes = self.segment.words();
+                axes.iter_mut().for_each(|axis| axis[6] = if t >= 1e-3 { t } else { axis[6] });
+                self.segment = Segment3::from_words(axes);
+            }
+            _ => {}
+        }
     }
 
     /// One tick, and the answer's words.
@@ -414,9 +442,27 @@ pub fn call(fault: Fault, call: Call, lent: &mut Lending<'_>) -> u32 {
             FIRST.set(None);
             Flight::set_up(input).write(image);
         }
+        Call::Exchange => exchange(fault, image, input),
         Call::Tick | Call::RouteTick => tick(fault, &Source::of(fault, call, route), image, input, answer),
     }
+    if fault == Fault::PeakOfFirst {
+        let first = Segment3::from_words(Take::from(image, 20).axes()).peak_abs_jerk()[0];
+        (PEAKS..WORDS).for_each(|at| put(image, at, canonical(first)));
+    }
     0
+}
+
+fn exchange(fault: Fault, image: &mut [u8], leg: &[u8]) {
+    let mut old = [0; IMAGE];
+    old.copy_from_slice(image);
+    let mut flight = Flight::from_image(image);
+    flight.exchange(fault, leg);
+    flight.write(image);
+    match fault {
+        Fault::ExchangeKeepsPeaks => image[4 * PEAKS..].copy_from_slice(&old[4 * PEAKS..]),
+        Fault::ExchangeKeepsNan => [4..60, 68..80, 164..380].into_iter().for_each(|kept| image[kept.clone()].copy_from_slice(&old[kept])),
+        _ => {}
+    }
 }
 
 fn tick(fault: Fault, source: &Source, image: &mut [u8], input: &[u8], answer: &mut [u8]) {

@@ -1,10 +1,11 @@
 //! What comes in: set-ups, ticks and damage. All of it depends on the run's number alone.
 
-use super::bytes::{put, raw, word, PROFILE, SETUP, SETUP_PROFILE, TICK, WORDS};
+use super::bytes::{canonical, put, raw, word, Take, PEAKS, PROFILE, SETUP, SETUP_PROFILE, TICK, WORDS};
 use super::model::{product, times, Flight, Profile};
 use super::route::Source;
 use crate::generate::{self, Rng};
 use oracle::geo::{self, Mat3};
+use oracle::traj::Segment3;
 
 /// How a run comes about.
 #[derive(Clone, Copy, Debug, PartialEq, Eq)]
@@ -215,6 +216,11 @@ impl Pilot {
         self.set_up_with(self.profile as u32)
     }
 
+    /// The leg of the set-up, where the run is about what it alone does: rest and fall, which another leg has not.
+    pub fn own_leg(&self) -> Option<&[f32]> {
+        matches!(self.style, Style::Edge | Style::Fall | Style::Long).then(|| &self.set_up[place::P0..=place::T])
+    }
+
     fn set_up_with(&self, profile: u32) -> [u8; SETUP] {
         let mut bytes = raw(&self.set_up);
         put(&mut bytes, SETUP_PROFILE, profile);
@@ -361,6 +367,11 @@ impl Pilot {
             _ => self.telling(at, image),
         };
         put(image, at, new);
+        // of another segment the peaks are others: at times they are made right
+        if (20..41).contains(&at) && self.rng.flag() {
+            let peaks = Segment3::from_words(Take::from(image, 20).axes()).peak_abs_jerk();
+            peaks.into_iter().zip(PEAKS..).for_each(|(peak, at)| put(image, at, canonical(peak)));
+        }
         Some(at)
     }
 
@@ -374,7 +385,7 @@ impl Pilot {
         let rng = &mut self.rng;
         let near = |rng: &mut Rng, x: u32| rng.near(f32::from_bits(x)).to_bits();
         match at {
-            0 => rng.of(&[95, 95, 97, 96 << 8, 96 << 24, 96 | 1 << 16, 96.0f32.to_bits(), 0]).unwrap_or(0),
+            0 => rng.of(&[96, 96, 95, 98, 100, 99 << 8, 99 << 24, 99 | 1 << 16, 99.0f32.to_bits(), 0]).unwrap_or(0),
             13 => near(rng, word(image, 14)),
             14 => near(rng, word(image, 13)),
             15 => rng.of(&[0, 1, 2, 3, 256, 1 << 24, 1 << 31, 1.0f32.to_bits(), 255, u32::MAX]).unwrap_or(0),
@@ -382,6 +393,9 @@ impl Pilot {
             26 | 33 | 40 => near(rng, 1e-3f32.to_bits()),
             PROFILE if rng.flag() => rng.below(2) as u32,
             PROFILE => rng.of(&NO_PROFILES).unwrap_or(2),
+            PEAKS.. => {
+                rng.of(&[word(image, at), 1 << 31, 0x7fc0_0000, 0x7f80_0000]).unwrap_or(0) ^ rng.of(&[0, 1, 1 << 31, 1 << 23]).unwrap_or(0)
+            }
             _ => near(rng, word(image, at)),
         }
     }

@@ -1,10 +1,11 @@
 //! The documents' tables: which number a call gives. Of 1 to 4 the lowest wins; a set-up's profile comes after them, and what is wrong with a
 //! route too, in an order of its own. With a fault, another number.
 
-use super::bytes::{float, word, ANSWER, IMAGE, LEG, PROFILE, SETUP, SETUP_PROFILE, TICK, TRAILER, WORDS};
+use super::bytes::{canonical, float, word, Take, ANSWER, IMAGE, LEG, PEAKS, PROFILE, SETUP, SETUP_PROFILE, TICK, TRAILER, WORDS};
 use super::fault::Fault;
 use super::lent::Lending;
 use super::Call;
+use oracle::traj::Segment3;
 
 fn of_setup(fault: Fault, image: usize, input: &[u8]) -> u32 {
     let profile = word(input, SETUP_PROFILE) > 1 && fault != Fault::AnySetUp;
@@ -40,6 +41,21 @@ fn of_tick_with(fault: Fault, image: &[u8], input: usize, answer: usize) -> u32 
     }
 }
 
+/// "the exchange gives 1, 2 (length not 76) and 4"
+fn of_exchange(fault: Fault, image: &[u8], segment: usize) -> u32 {
+    if image.len() != IMAGE {
+        1
+    } else if fault == Fault::BrokenFirst && broken(fault, image) {
+        4
+    } else if segment != LEG {
+        2
+    } else if broken(fault, image) && fault != Fault::ExchangeRepairs {
+        4
+    } else {
+        0
+    }
+}
+
 /// Of any call.
 #[inline]
 pub fn of(fault: Fault, call: Call, lent: &Lending) -> u32 {
@@ -47,6 +63,7 @@ pub fn of(fault: Fault, call: Call, lent: &Lending) -> u32 {
     let of_image = || match call {
         Call::SetUp => of_setup(fault, image.len(), lent.input),
         Call::Tick | Call::RouteTick => of_tick_with(fault, image, lent.input.len(), answer),
+        Call::Exchange => of_exchange(fault, image, lent.input.len()),
     };
     let of_route = || {
         if call == Call::RouteTick {
@@ -102,7 +119,7 @@ pub fn apart(fault: Fault, legs: &[u8]) -> Option<usize> {
     legs.windows(2).take(joins).find_map(|two| (0..places).find(|place| !meet(two, *place)))
 }
 
-/// Row 4, in its own order; then the profile.
+/// Row 4, in its own order; then the profile and the peaks.
 fn broken(fault: Fault, image: &[u8]) -> bool {
     let (enter, exit, time) = (float(image, 13), float(image, 14), float(image, 16));
     let no_end = |at| {
@@ -112,7 +129,7 @@ fn broken(fault: Fault, image: &[u8]) -> bool {
     let most = if fault == Fault::EngagedTwo { 2 } else { 1 };
     let ends = if fault == Fault::FirstEndOnly { 1 } else { 3 };
     let count = word(image, 0);
-    !(count == WORDS as u32 || fault == Fault::OldCount && count == 95)
+    !(count == WORDS as u32 || fault == Fault::OldCount && count == 96)
         || !enter.is_finite()
         || !(enter > 0.0)
         || !(exit > enter)
@@ -121,4 +138,21 @@ fn broken(fault: Fault, image: &[u8]) -> bool {
         || time < 0.0
         || [26, 33, 40].into_iter().take(ends).any(no_end)
         || (word(image, PROFILE) > 1 && fault != Fault::AnyProfile)
+        || peaks_differ(fault, image)
+}
+
+/// "a stored peak whose bits differ from the worked-out one's, a worked-out NaN counting as 0x7FC00000"
+fn peaks_differ(fault: Fault, image: &[u8]) -> bool {
+    let peaks = Segment3::from_words(Take::from(image, 20).axes()).peak_abs_jerk();
+    let looked_at = match fault {
+        Fault::PeaksUnread => 0,
+        Fault::PeakOfFirstRead => 1,
+        _ => 3,
+    };
+    peaks.iter().zip(PEAKS..).take(looked_at).any(|(peak, at)| match fault {
+        Fault::PeaksAsNumbers => float(image, at) != *peak,
+        Fault::NanPeakTaken if peak.is_infinite() => canonical(float(image, at)) != canonical(*peak) && !float(image, at).is_nan(),
+        Fault::PeakOfFirst => word(image, at) != canonical(peaks[0]),
+        _ => word(image, at) != canonical(*peak),
+    })
 }

@@ -22,7 +22,7 @@ impl Source {
     pub fn of(fault: Fault, call: Call, route: &[u8]) -> Self {
         match call {
             Call::RouteTick => Source::Route(Route::of(fault, route)),
-            Call::SetUp | Call::Tick => Source::Segment,
+            Call::SetUp | Call::Tick | Call::Exchange => Source::Segment,
         }
     }
 }

@@ -1,7 +1,7 @@
 //! Runs of ticks from set-ups: after every call the return and every lent byte, guards too, are what they should be, and the
 //! flag and the command are what looking back over the run's margins says.
 
-use super::bytes::{float, word, ANSWER, IMAGE, SETUP, TICK, WORDS};
+use super::bytes::{float, word, ANSWER, IMAGE, PEAKS, SETUP, TICK, WORDS};
 use super::fault::Fault;
 use super::guide::Guide;
 use super::lent::{Hands, Lent, Short};
@@ -56,6 +56,10 @@ counts! {
         /// Accepted ticks by the profile, of each kind in the order of `KINDS`.
         pub ticks: [[u64; KINDS.len()]; 2],
         pub refused: u64,
+        /// Exchanges that were accepted, those of them with an infinite peak, and those refused, with 2 and 4.
+        pub exchanged: u64,
+        pub infinite_peaks: u64,
+        pub refused_exchanges: [u64; 2],
         /// Ticks of passes by the profile, with the margin in the band, both ends in it: the planner flying, the fallback flying.
         pub band: [[u64; 2]; 2],
         /// Ticks of passes at which the margin was exactly a threshold.
@@ -124,6 +128,13 @@ impl fmt::Display for Seen {
         writeln!(f, "by the product of attitudes, finite and not: feedforward refused {refused:?}, zeros {zeros:?}, some {some:?}")?;
         let all = self.damaged.iter().fold([0; 2], |[a, b], [c, d]| [a + c, b + d]);
         let least = self.damaged.iter().map(|[a, b]| a + b).min().unwrap_or(0);
+        if self.exchanged > 0 {
+            writeln!(
+                f,
+                "{} exchanges, {} of them with an infinite peak; refused with 2, 4: {:?}",
+                self.exchanged, self.infinite_peaks, self.refused_exchanges
+            )?;
+        }
         write!(f, "{} damaged words accepted, {} refused, at least {least} at each word", all[0], all[1])?;
         match self.routes.accepted() {
             0 => Ok(()),
@@ -218,12 +229,18 @@ pub fn run(face: Face, number: u64, watch: Watch, calls: &'static [Call], seen: 
     let (mut margins, mut last, mut last_call, mut tick) = (Vec::new(), 1, None, 0);
     while tick < pilot::length(number) {
         let call = guide.call();
-        let mut input = pilot.next(&flight, guide.source(call));
-        guide.hurry(&mut input);
+        if call == Call::Exchange {
+            hands.input = Short::holding(&guide.leg(pilot.own_leg()));
+            hands.route = Lent::of(&[]);
+        } else {
+            let mut input = pilot.next(&flight, guide.source(call));
+            guide.hurry(&mut input);
+            hands.route = Lent::of(&guide.route(call, flight.time_ahead(float(&input, 7), float(&input, 10))));
+            hands.input.len = TICK;
+            hands.input.bytes_mut().copy_from_slice(&input);
+        }
         seen.routes.switches += u64::from(tick > 0 && last_call != Some(call));
         last_call = Some(call);
-        hands.route = Lent::of(&guide.route(call, flight.time_ahead(float(&input, 7), float(&input, 10))));
-        hands.input.bytes_mut().copy_from_slice(&input);
         let whole = hands.image.clone();
         let damaged = pilot.damage(hands.image.bytes_mut());
         let (before, mut expected) = (hands.clone(), hands.clone());
@@ -232,6 +249,14 @@ pub fn run(face: Face, number: u64, watch: Watch, calls: &'static [Call], seen: 
             if damaged.is_some() {
                 flight = Flight::from_image(hands.image.bytes());
             }
+            if call == Call::Exchange {
+                flight.exchange(Fault::None, hands.input.bytes());
+                flight.write(expected.image.bytes_mut());
+                seen.exchanged += 1;
+                seen.infinite_peaks += u64::from((PEAKS..WORDS).any(|at| float(expected.image.bytes(), at) == f32::INFINITY));
+            }
+        }
+        if refused == 0 && call != Call::Exchange {
             let source = Source::of(Fault::None, call, hands.route.bytes());
             let way = flight.tick_on(|| Fault::None, &source, hands.input.bytes(), expected.answer.bytes_mut());
             flight.write(expected.image.bytes_mut());
@@ -251,11 +276,13 @@ pub fn run(face: Face, number: u64, watch: Watch, calls: &'static [Call], seen: 
             if let Source::Route(route) = &source {
                 seen.routes.take(hands.route.bytes(), route, way.time);
             }
-        } else {
-            seen.refused += 1;
-            if call == Call::RouteTick {
-                seen.routes.refuse(refused, hands.route.bytes());
+        } else if refused != 0 {
+            match call {
+                Call::RouteTick => seen.routes.refuse(refused, hands.route.bytes()),
+                Call::Exchange => seen.refused_exchanges[usize::from(refused == 4)] += 1,
+                _ => {}
             }
+            seen.refused += u64::from(call != Call::Exchange);
         }
         let returned = face(call, &mut hands.lend());
         let parted = |what, hands: &Hands| {
@@ -263,7 +290,7 @@ pub fn run(face: Face, number: u64, watch: Watch, calls: &'static [Call], seen: 
             Some(Parted { run: number, tick, call, what, damaged, before, expected, found })
         };
         if watch == Watch::All && (returned != refused || hands != expected) {
-            return parted("tick differs", &hands);
+            return parted(if call == Call::Exchange { "exchange differs" } else { "tick differs" }, &hands);
         }
         if let Some(at) = damaged {
             seen.damaged[at][usize::from(refused != 0)] += 1;
@@ -272,7 +299,7 @@ pub fn run(face: Face, number: u64, watch: Watch, calls: &'static [Call], seen: 
                 flight = Flight::from_image(hands.image.bytes());
             }
         }
-        if pilot.kind != Kind::Damaged {
+        if pilot.kind != Kind::Damaged && call != Call::Exchange {
             if returned != 0 {
                 match refused {
                     0 => return None,

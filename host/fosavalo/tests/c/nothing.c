@@ -13,6 +13,8 @@ int main(void) {
         fosavalo_setup(NULL, 0, NULL, 0),
         fosavalo_setup(NULL, 0, set_up, sizeof set_up),
         fosavalo_setup(image, sizeof image, NULL, 0),
+        fosavalo_exchange(NULL, 0, NULL, 0),
+        fosavalo_exchange(image, sizeof image, NULL, 0),
         fosavalo_tick(NULL, 0, NULL, 0, NULL, 0),
         fosavalo_tick(NULL, 0, input, sizeof input, answer, sizeof answer),
         fosavalo_tick(image, sizeof image, NULL, 0, answer, sizeof answer),

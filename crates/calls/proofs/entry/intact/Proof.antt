@@ -24,35 +24,51 @@ intact-spec =
       eq-eqb _ _ (w .before .if1 .left),
     ))
     (λ c κs. search needs)
-    (λ c. let p = c .before .before .before in let w = p .before in simp (
+    (λ c. let k = c .before in let p = k .before .before in let w = p .before in simp (
+      ← w .word-at3 .ensures,
+      ← w .before .before .before .word-at .ensures,
+      ← p .is-profile .ensures,
+      ← k .peaks-stand .ensures,
+      not-false (p .is-profile .result) (k .before .if2 .left),
+      not-true (k .peaks-stand .result) (c .if3 .taken),
+      eq-eqb _ _ (w .before .if1 .left),
+    ))
+    (λ c κs. search needs)
+    (λ c. let k = c .before .before .before in let p = k .before .before in let w = p .before in simp (
       c .good-at .ensures,
       ← w .word-at3 .ensures,
       ← w .before .before .word-at2 .ensures,
       ← w .before .before .before .word-at .ensures,
       ← p .is-profile .ensures,
-      not-false (p .is-profile .result) (c .before .before .if2 .left),
-      eq-eqb _ _ (c .before .if3 .taken),
+      ← k .peaks-stand .ensures,
+      not-false (p .is-profile .result) (k .before .if2 .left),
+      not-false (k .peaks-stand .result) (c .before .before .if3 .left),
+      eq-eqb _ _ (c .before .if4 .taken),
       eq-eqb _ _ (w .before .if1 .left),
     ))
     (λ c κs. search needs)
-    (λ c. let p = c .before .before .before .before in let w = p .before in simp (
+    (λ c. let k = c .before .before .before .before in let p = k .before .before in let w = p .before in simp (
       c .good-at2 .ensures,
       ← w .word-at3 .ensures,
       ← w .before .before .word-at2 .ensures,
       ← w .before .before .before .word-at .ensures,
       ← p .is-profile .ensures,
-      not-false (p .is-profile .result) (c .before .before .before .if2 .left),
-      eq-eqb _ _ (c .before .if4 .taken),
-      ne-eqb _ _ (c .before .before .if3 .left),
+      ← k .peaks-stand .ensures,
+      not-false (p .is-profile .result) (k .before .if2 .left),
+      not-false (k .peaks-stand .result) (c .before .before .before .if3 .left),
+      eq-eqb _ _ (c .before .if5 .taken),
+      ne-eqb _ _ (c .before .before .if4 .left),
       eq-eqb _ _ (w .before .if1 .left),
     ))
-    (λ c. let p = c .before .before .before in let w = p .before in simp (
+    (λ c. let k = c .before .before .before in let p = k .before .before in let w = p .before in simp (
       ← w .word-at3 .ensures,
       ← w .before .before .word-at2 .ensures,
       ← w .before .before .before .word-at .ensures,
       ← p .is-profile .ensures,
-      not-false (p .is-profile .result) (c .before .before .if2 .left),
-      ne-eqb _ _ (c .if4 .left),
-      ne-eqb _ _ (c .before .if3 .left),
+      ← k .peaks-stand .ensures,
+      not-false (p .is-profile .result) (k .before .if2 .left),
+      not-false (k .peaks-stand .result) (c .before .before .if3 .left),
+      ne-eqb _ _ (c .if5 .left),
+      ne-eqb _ _ (c .before .if4 .left),
       eq-eqb _ _ (w .before .if1 .left),
     )))

@@ -6,9 +6,9 @@ returns : tie.Need-returns
 returns c =
     let answered = c .before .before in
     let written = answered .before .before .before .before in
-    record { image = written .put-state .ensures; answer = answered .put-answer .ensures }
+    record { image = written .put-next-state .ensures; answer = answered .put-answer .ensures }
 
 pub leave-spec : {M : Type 1} → statement M
 leave-spec =
     tie.close
-    (tie.spec (λ c κs. search needs) (λ c κs. search needs) (λ c. search needs) (λ c. search needs) returns)
+    (tie.spec (λ c κs. let p = c .before .before .before .pre in (p .0, p .2)) (λ c κs. search needs) (λ c. search needs) (λ c. search needs) returns)

@@ -31,7 +31,7 @@ tick-spec =
     (λ c κs. let e = c .before .before in sized _ _ _ (accepted (e .before .before .tick-refusal .ensures) (e .before .is-done .ensures) (e .if1 .left)) .0)
     (λ c κs. let e = c .before .before .before .before in sized _ _ _ (accepted (e .before .before .tick-refusal .ensures) (e .before .is-done .ensures) (e .if1 .left)) .0)
     (λ c κs. search needs) (λ c κs. search needs)
-    (λ c κs. let e = c .before .before .before .before .before .before .before .before .before in
-    let n = sized _ _ _ (accepted (e .before .before .tick-refusal .ensures) (e .before .is-done .ensures) (e .if1 .left)) in (n .0, n .2))
+    (λ c κs. let f = c .before .before .before .before .before .before in let e = f .before .before .before in
+    let n = sized _ _ _ (accepted (e .before .before .tick-refusal .ensures) (e .before .is-done .ensures) (e .if1 .left)) in (n .0, n .2, rw (f .fixed-at .ensures) (n .3)))
     (λ c. search needs) (λ c. search needs)
     flies)

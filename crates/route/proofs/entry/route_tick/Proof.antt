@@ -35,7 +35,7 @@ route-tick-spec =
     (λ c κs. let e = c .before .before .before .before .before in let t = taken _ _ _ _ (accepted (e .before .before .route-refusal .ensures) (e .before .is-done .ensures) (e .if1 .left)) in t .trailer)
     (λ c κs. let e = c .before .before .before .before .before .before in let t = taken _ _ _ _ (accepted (e .before .before .route-refusal .ensures) (e .before .is-done .ensures) (e .if1 .left)) in rw (c .leg-count .ensures) (t .some, t .whole))
     (λ c κs. search needs)
-    (λ c κs. let e = c .before .before .before .before .before .before .before .before .before .before in
-    let t = taken _ _ _ _ (accepted (e .before .before .route-refusal .ensures) (e .before .is-done .ensures) (e .if1 .left)) in (t .image-length, t .answer-length))
+    (λ c κs. let f = c .before .before .before .before .before .before .before in let e = f .before .before .before in
+    let t = taken _ _ _ _ (accepted (e .before .before .route-refusal .ensures) (e .before .is-done .ensures) (e .if1 .left)) in (t .image-length, t .answer-length, rw (f .fixed-at .ensures) (t .peaks)))
     (λ c. search needs) (λ c. search needs)
     flies)

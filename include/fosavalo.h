@@ -19,7 +19,7 @@ extern "C" {
 /* The version of this header; fosavalo_version() is the archive's. The second number is that of the last change request which both have: a request may
  * change what a word means and leave every length. */
 #define FOSAVALO_VERSION_MAJOR 0
-#define FOSAVALO_VERSION_MINOR 7
+#define FOSAVALO_VERSION_MINOR 8
 #define FOSAVALO_VERSION_PATCH 0
 #define FOSAVALO_VERSION_NUMBER ((FOSAVALO_VERSION_MAJOR << 16) + (FOSAVALO_VERSION_MINOR << 8) + FOSAVALO_VERSION_PATCH)
 #define FOSAVALO_VERSION FOSAVALO_TEXT(FOSAVALO_VERSION_MAJOR) "." FOSAVALO_TEXT(FOSAVALO_VERSION_MINOR) "." FOSAVALO_TEXT(FOSAVALO_VERSION_PATCH)
@@ -93,7 +93,7 @@ float fosavalo_cosf(float x);
 #define FOSAVALO_ANSWER_BYTES 40
 #define FOSAVALO_LEG_BYTES 76
 #define FOSAVALO_ROUTE_TRAILER_BYTES 8
-#define FOSAVALO_MOST_LEGS 8
+#define FOSAVALO_MOST_LEGS 32
 #define FOSAVALO_RECORD_BYTES 108
 #define FOSAVALO_LOG_TRAILER_BYTES 12
 #define FOSAVALO_MOST_RECORDS 65535
@@ -287,7 +287,7 @@ uint32_t fosavalo_tick_refusal(const uint8_t *image, size_t image_len, size_t in
 /* One tick toward a route in place of the image's segment, which is not looked at and kept; image, input and answer are those of a tick.
  * Plain ticks and route ticks may follow each other in any order; the governor's time runs on over both.
  *
- * route: 1 to 8 legs, the words FOSAVALO_LEG_.. each; then two words, the count and how many bytes back from there
+ * route: 1 to 32 legs, the words FOSAVALO_LEG_.. each; then two words, the count and how many bytes back from there
  * the first leg starts, 76 times the count. Legs meet: each p0, v0, a0 equals the pf, vf, af before it as numbers, so that -0.0 meets 0.0
  * and a NaN meets nothing. A leg ends at the sum of the durations up to it, as set-up mends them; the first leg whose end is above the
  * governor's time is flown, at the time less the end before it; past all ends it is the last leg at its duration.

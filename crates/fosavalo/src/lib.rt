@@ -10,9 +10,9 @@ ghost use Rattle.log.specs.Entry.{appendCall, countCall, recordCall};
 // The version that this was built as: 65536 times its first number, 256 times its second, and its third.
 #[no_mangle]
 pub extern "C" fn fosavalo_version() -> u32
-    ensures { λ r. ⌜ r ≡ 0x0700 ⌝ }
+    ensures { λ r. ⌜ r ≡ 0x0800 ⌝ }
 {
-    0x0700
+    0x0800
 }
 
 // The sine of x, as `relay_math::sinf` has it.

@@ -76,12 +76,13 @@ fn lent(
     ))
 }
 
-// Stored: the four buffers and `at`; then the number, and the two buffers that a call may change. None is longer than nine legs and three words.
+// Stored: the four buffers and `at`; then the number, and the two buffers that a call may change. A route is at most 33 legs and three words
+// long, nothing else longer than 704 bytes.
 pub(crate) fn call(n: u32) -> Verdict {
     let mut a = [0u8; 704];
     let mut b = [0u8; 704];
     let mut c = [0u8; 704];
-    let mut d = [0u8; 704];
+    let mut d = [0u8; 2520];
     let mut at = [0u8; 4];
     let a_is = next(&mut a);
     let b_is = next(&mut b);

@@ -55,7 +55,7 @@ pub infinities-meet : (eq (inf false) (inf false) ≡ true) × (eq (inf true) (i
 unfolding eq
 infinities-meet = (refl, refl, refl)
 
--- ---- "6 a route below 8 bytes; 5 count 0 or above 8; 6 .."
+-- ---- "6 a route below 8 bytes; 5 .. 0 or above 32; 6 .."
 
 pub no-bytes : formRefusal [] ≡ RouteLength
 unfolding formRefusal countOf backOf
@@ -65,9 +65,9 @@ pub eight-zeros : formRefusal (replicate 8 0) ≡ LegCount
 unfolding formRefusal countOf backOf
 eight-zeros = refl
 
-pub nine-legs-in-no-room : formRefusal (bytesOf (9 ∷ 0 ∷ [])) ≡ LegCount
+pub many-legs-in-no-room : (formRefusal (bytesOf (32 ∷ 0 ∷ [])) ≡ RouteLength) × (formRefusal (bytesOf (33 ∷ 0 ∷ [])) ≡ LegCount)
 unfolding formRefusal countOf backOf
-nine-legs-in-no-room = refl
+many-legs-in-no-room = (refl, refl)
 
 -- 76 times 2^30 is 0 in 32 bits
 pub no-wrapping : formRefusal (bytesOf (1073741824 ∷ 0 ∷ [])) ≡ LegCount

@@ -3,4 +3,5 @@ pub mod Joins
 pub mod LocalTime
 pub mod LegFlown
 pub mod Taken
+pub mod Limits
 pub mod OneAnswer

@@ -5,9 +5,9 @@ use mathlib.Core.List.{List}
 use Prim.Native.Nat.{ℕ, suc, _+_, _-_, _<_, _≤_}
 use native.Mathlib.Numerals.{add-one}
 use native.Mathlib.Omega.{arith}
-use lib.Ieee.{Float, lt}
+use lib.Ieee.{Float, eq, lt}
+use Rattle.words.specs.Words.{word, float, floatOf}
 use Rattle.relay_math.specs.F32.{_⊕_, _⊖_}
-use Rattle.joint_tick.specs.declared.state.Leg.{Leg}
 use Rattle.route.specs.Form.{legOf, legsMeet, meetFrom}
 use Rattle.route.specs.Legs.{durationOf, flownFrom}
 
@@ -22,6 +22,12 @@ second c p q = rw (p, q)
 pub first : {a : Bool} (b c : Bool) → a ≡ false → (a && b && c) ≡ false
 first b c p = rw p
 
+-- whether two words are the same number, by what was read of them
+pub met : (a : List ℕ) (j : ℕ) (b : List ℕ) (k : ℕ) {w x : ℕ} {r t : Bool} → w ≡ word a j → x ≡ word b k → r ≡ eq (floatOf w) (floatOf x) → r ≡ t
+    → eq (float a j) (float b k) ≡ t
+unfolding float
+met a j b k p q e f = rw (← p, ← q, ← e) f
+
 -- ---- what is left
 
 -- i is one of n: what is left from i on is one more than what is left after it
@@ -30,11 +36,6 @@ more n i h = omega arith
 
 none-left : (n i : ℕ) → n ≤ i → n - i ≡ 0
 none-left n i h = omega arith
-
--- whether a leg meets the one before it, by what was read of them
-pub joined : (b : List ℕ) (i : ℕ) {earlier later : Leg} {r t : Bool} → earlier ≡ legOf b (i - 1) → later ≡ legOf b i → r ≡ legsMeet earlier later → r ≡ t
-    → legsMeet (legOf b (i - 1)) (legOf b i) ≡ t
-joined b i p q e f = rw (← p, ← q, ← e) f
 
 module _ (b : List ℕ) (n i : ℕ) where
   -- ---- the joins

@@ -7,7 +7,7 @@ use Rattle.joint_tick.specs.declared.stages.Reference.{Reference}
 use Rattle.outcome.specs.declared.Outcome.{Outcome}
 use Rattle.outcome.specs.Outcomes.{firstOf, Called}
 use Rattle.calls.specs.Entry.{tickTable, tickFrom}
-use Rattle.route.specs.Form.{countOf, formTable}
+use Rattle.route.specs.Form.{countOf, formTableTo, formTable}
 use Rattle.route.specs.Legs.{referenceOn}
 
 -- 1, 2, 3, 4 as at a tick, and then the route's own
@@ -23,3 +23,10 @@ onRoute route time = referenceOn route (countOf route) time
 unfoldable pub routeCall : List ℕ → List ℕ → List ℕ → List ℕ → Called
 unfolding onRoute tickFrom
 routeCall image input route answer = tickFrom (onRoute route) (routeRefusal image (length input) (length answer) route) image input answer
+
+-- ---- what the theorems in proofs/ speak of
+
+-- the same call with another limit of legs
+abbrev pub routeCallTo : ℕ → List ℕ → List ℕ → List ℕ → List ℕ → Called
+routeCallTo most image input route answer =
+    tickFrom (onRoute route) (firstOf (tickTable image (length input) (length answer) ++ formTableTo most route)) image input answer

@@ -17,7 +17,7 @@ use Rattle.outcome.specs.Outcomes.{Table, firstOf, differs}
 
 -- the limit: everything but the check is over any count
 abbrev pub MOST-LEGS : ℕ
-MOST-LEGS = 8
+MOST-LEGS = 32
 
 abbrev pub LEG-BYTES : ℕ
 LEG-BYTES = 4 * LEG-WORDS
@@ -58,17 +58,21 @@ unfoldable pub allMeet : List ℕ → ℕ → Bool
 unfolding meetFrom
 allMeet b n = meetFrom b (n - 1) 1
 
--- ---- "6 a route below 8 bytes; 5 count 0 or above 8; 6 distance back not 76 times the count, or length not 8 more; 7 legs don't meet"
+-- ---- "6 a route below 8 bytes; 5 count 0 or above 8; 6 distance back not 76 times the count, or length not 8 more; 7 legs don't meet", and request
+-- Eight: "5 now means 0 or above 32". Over any limit, so that the earlier release's can be held beside it.
 
-abbrev pub formTable : List ℕ → Table
-formTable b =
+abbrev pub formTableTo : ℕ → List ℕ → Table
+formTableTo most b =
     (ltb (length b) TRAILER-BYTES, RouteLength)
     ∷ (eqb (countOf b) 0, LegCount)
-    ∷ (ltb MOST-LEGS (countOf b), LegCount)
+    ∷ (ltb most (countOf b), LegCount)
     ∷ (differs (backOf b) (LEG-BYTES * countOf b), RouteLength)
     ∷ (differs (length b) (LEG-BYTES * countOf b + TRAILER-BYTES), RouteLength)
     ∷ (not (allMeet b (countOf b)), LegsApart)
     ∷ []
+
+abbrev pub formTable : List ℕ → Table
+formTable b = formTableTo MOST-LEGS b
 
 unfoldable pub formRefusal : List ℕ → Outcome
 unfolding countOf backOf allMeet

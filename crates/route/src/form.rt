@@ -1,17 +1,20 @@
 // How a route stands in bytes: legs of 19 words each, then a trailer of two words, the count and how many bytes back the first leg starts.
 use image::LEG_WORDS;
-use image::leg_at;
-use joint_tick::Leg;
 use outcome::Outcome;
-use relay_math::Vec3;
+use words::float_of;
 use words::four_bytes;
+use words::word_at;
 ghost use mathlib.Core.Path.{_≡_};
-ghost use Prim.Native.Nat.{_*_, _≤_};
+ghost use Prim.Native.Nat.{_+_, _-_, _*_, _≤_};
+ghost use lib.Ieee.{eq};
 ghost use lib.ListN.{length};
+ghost use Rattle.words.specs.Words.{floatOf, vec};
+ghost use Rattle.image.specs.Layout.{LEG-WORDS};
+ghost use Rattle.image.specs.Parts.{legAt};
 ghost use Rattle.route.specs.Form.{LEG-BYTES, TRAILER-BYTES, countOf, backOf, vecsMeet, legsMeet, allMeet, formRefusal};
 
 // The limit: everything but the check is over any count.
-const MOST_LEGS: usize = 8;
+const MOST_LEGS: usize = 32;
 
 const LEG_BYTES: usize = 4 * LEG_WORDS;
 
@@ -32,23 +35,46 @@ fn bytes_back(route: &[u8]) -> usize
     four_bytes(route, route.len() - 4) as usize
 }
 
-// As numbers: -0.0 meets 0.0, and a NaN meets nothing.
-fn vecs_meet(v: Vec3, w: Vec3) -> bool
-    ensures { λ r. ⌜ r ≡ vecsMeet v w ⌝ }
+// As numbers: -0.0 meets 0.0, and a NaN meets nothing. Mostly the words are the same, and then no float is made of them: a tick compares all joins.
+fn words_meet(w: u32, x: u32) -> bool
+    ensures { λ r. ⌜ r ≡ eq (floatOf w) (floatOf x) ⌝ }
 {
-    if v.0 == w.0 {
-        if v.1 == w.1 { v.2 == w.2 } else { false }
+    if w == x {
+        let size = w % 0x8000_0000;
+        if size > 0x7f80_0000 {
+            return false;
+        }
+        return true;
+    }
+    float_of(w) == float_of(x)
+}
+
+// The vectors whose first words are these.
+fn vecs_meet(route: &[u8], j: usize, k: usize) -> bool
+    requires { ⌜ (4 * j + 12 ≤ length (now route)) × (4 * k + 12 ≤ length (now route)) ⌝ }
+    ensures { λ r. ⌜ r ≡ vecsMeet (vec (now (route .entry)) j) (vec (now (route .entry)) k) ⌝ }
+{
+    if words_meet(word_at(route, j), word_at(route, k)) {
+        if words_meet(word_at(route, j + 1), word_at(route, k + 1)) {
+            words_meet(word_at(route, j + 2), word_at(route, k + 2))
+        } else {
+            false
+        }
     } else {
         false
     }
 }
 
-fn legs_meet(earlier: Leg, later: Leg) -> bool
-    ensures { λ r. ⌜ r ≡ legsMeet earlier later ⌝ }
+// Whether leg i meets the one before it.
+fn legs_meet(route: &[u8], i: usize) -> bool
+    requires { ⌜ (1 ≤ i) × (LEG-BYTES * (i + 1) ≤ length (now route)) ⌝ }
+    ensures { λ r. ⌜ r ≡ legsMeet (legAt (now (route .entry)) (LEG-WORDS * (i - 1))) (legAt (now (route .entry)) (LEG-WORDS * i)) ⌝ }
 {
-    if vecs_meet(later.p0, earlier.pf) {
-        if vecs_meet(later.v0, earlier.vf) {
-            vecs_meet(later.a0, earlier.af)
+    let earlier = LEG_WORDS * (i - 1);
+    let later = LEG_WORDS * i;
+    if vecs_meet(route, later, earlier + 9) {
+        if vecs_meet(route, later + 3, earlier + 12) {
+            vecs_meet(route, later + 6, earlier + 15)
         } else {
             false
         }
@@ -64,9 +90,7 @@ fn all_meet(route: &[u8], count: usize) -> bool
 {
     let mut i = 1;
     while i < count {
-        let earlier = leg_at(route, LEG_WORDS * (i - 1));
-        let later = leg_at(route, LEG_WORDS * i);
-        if !legs_meet(earlier, later) {
+        if !legs_meet(route, i) {
             return false;
         }
         i += 1;

@@ -3,7 +3,7 @@
 
 use super::stack;
 use compare::generate::Rng;
-use compare::joint::bytes::{put, ANSWER, IMAGE, SETUP, TICK};
+use compare::joint::bytes::{put, ANSWER, IMAGE, MOST_LEGS, SETUP, TICK};
 use compare::joint::guide::{Guide, MIXED};
 use compare::joint::model::{Flight, Profile};
 use compare::joint::pilot::Pilot;
@@ -23,8 +23,8 @@ type Answer = [u8; ANSWER];
 /// A set-up's image and what comes in after it.
 pub struct Run {
     set_up: [u8; SETUP],
-    start: Image,
-    inputs: Vec<Input>,
+    pub start: Image,
+    pub inputs: Vec<Input>,
 }
 
 /// A slow pass with all rotors.
@@ -224,12 +224,24 @@ pub const CALLS: [&str; 11] = [
     "fosavalo_log_record",
     "the Rust calls of a tick",
 ];
-/// Where in `CALLS` the tick stands, and the Rust's.
+/// Where in `CALLS` the tick stands, the route tick, and the Rust's.
 pub const TICKED: usize = 1;
+#[cfg(test)]
+const ROUTED: usize = 2;
 pub const RUST: usize = CALLS.len() - 1;
 
-/// The stack that each of `CALLS` takes, the most over some ticks of a run, on a thread of its own. None where it can't be measured.
+/// The stack that each of `CALLS` takes, the most over some ticks of a run, on a thread of its own. None where it can't be measured. The
+/// route has the most legs.
 pub fn stacks(run: &Run) -> Option<[usize; CALLS.len()]> {
+    stacks_on(run, &route(MOST_LEGS))
+}
+
+/// A route of so many legs.
+fn route(legs: usize) -> Vec<u8> {
+    Guide::new(8 * legs as u64 - 1, MIXED).steady()
+}
+
+fn stacks_on(run: &Run, route: &[u8]) -> Option<[usize; CALLS.len()]> {
     fn of<T>(mut call: impl FnMut() -> T) -> Option<usize> {
         stack::depth(&mut || {
             black_box(call());
@@ -238,7 +250,7 @@ pub fn stacks(run: &Run) -> Option<[usize; CALLS.len()]> {
     let measure = || {
         let [mut fresh, mut ours, mut routed, mut exchanged, mut theirs] = [run.start; 5];
         let leg = &run.set_up[4 * 17..4 * 36];
-        let (mut answer, route) = ([0; ANSWER], Guide::new(63, MIXED).steady());
+        let mut answer = [0; ANSWER];
         let (mut log, mut record) = ([0; TRAILER + RECORD], [0; RECORD]);
         run.inputs.iter().take(256).try_fold([0; CALLS.len()], |most, input| {
             let yaw = f32::from_le_bytes(input[32..36].try_into().ok()?);
@@ -246,7 +258,7 @@ pub fn stacks(run: &Run) -> Option<[usize; CALLS.len()]> {
             let here = [
                 of(|| faces::setup(&mut fresh, &run.set_up))?,
                 of(|| faces::tick(&mut ours, input, &mut answer))?,
-                of(|| faces::route_tick(&mut routed, input, &route, &mut answer))?,
+                of(|| faces::route_tick(&mut routed, input, route, &mut answer))?,
                 of(|| faces::exchange(&mut exchanged, leg))?,
                 of(|| faces::tick_refusal(&ours, TICK, ANSWER))?,
                 of(|| faces::sinf(yaw))?,
@@ -279,9 +291,19 @@ mod tests {
 
     #[test]
     fn a_route_tick_that_is_measured_is_a_tick() {
-        let (run, route, mut answer) = (pass(), Guide::new(63, MIXED).steady(), [0; ANSWER]);
-        assert_eq!(route.len(), 8 * 76 + 8);
-        assert_eq!(faces::route_tick(&mut run.start.clone(), &run.inputs[0], &route, &mut answer), 0);
+        let (run, mut answer) = (pass(), [0; ANSWER]);
+        for legs in [1, MOST_LEGS] {
+            let route = route(legs);
+            assert_eq!(route.len(), legs * 76 + 8);
+            assert_eq!(faces::route_tick(&mut run.start.clone(), &run.inputs[0], &route, &mut answer), 0);
+        }
+    }
+
+    #[test]
+    fn no_stack_grows_with_the_legs() {
+        let run = pass();
+        let [one, most] = [1, MOST_LEGS].map(|legs| stacks_on(&run, &route(legs)).expect("measured on this machine"));
+        assert_eq!(one[ROUTED], most[ROUTED]);
     }
 
     #[test]

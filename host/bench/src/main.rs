@@ -4,6 +4,7 @@
 mod angles;
 mod joint;
 mod log;
+mod route;
 mod stack;
 
 use compare::println;
@@ -83,6 +84,21 @@ fn logs() -> bool {
     good
 }
 
+/// The route tick by the legs of the route and the leg flown, beside the Rust's calls on the same legs.
+fn routes() -> bool {
+    let Some(times) = route::times(&joint::pass()) else {
+        println!("route tick: the sides answer differently");
+        return false;
+    };
+    let mut good = true;
+    for ((legs, flown), [ours, theirs, no_joins]) in route::CASES.into_iter().zip(times) {
+        good &= line(&format!("route tick, leg {} of {legs}, Rust from the bytes", flown + 1), (ours, theirs), 1.0);
+        let ratio = ours / no_joins;
+        println!("{:48} ours {ours:6.2} ns  other {no_joins:6.2} ns  ratio {ratio:5.2}  (no bar)", "  .. and Rust that compares no joins");
+    }
+    good
+}
+
 /// The stack of each call, the most over a slow pass, one with random headings and one with a rotor lost.
 fn stacks() -> bool {
     let runs = [joint::pass(), joint::headings(), joint::lost_rotor()];
@@ -153,6 +169,7 @@ fn main() {
     }
     good &= line("root, against the hardware's", least, 2.5);
     good &= angles::rows(&mut rng);
+    good &= routes();
     good &= logs();
     if !good {
         std::process::exit(1);

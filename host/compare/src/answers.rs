@@ -6,7 +6,7 @@
 
 use crate::generate::{self, Kind, Part, Rng};
 use crate::joint;
-use crate::joint::bytes::{canonical, put, word, ANSWER, IMAGE, LEG, PEAKS, PROFILE, SETUP, SETUP_PROFILE, TICK};
+use crate::joint::bytes::{canonical, put, word, ANSWER, IMAGE, LEG, MOST_LEGS, PEAKS, PROFILE, SETUP, SETUP_PROFILE, TICK};
 use crate::joint::fault::Fault;
 use crate::joint::lent::Lending;
 use crate::joint::model::{self, Flight};
@@ -382,7 +382,7 @@ fn tick(image: &mut [u8], input: &[u8], route: Option<&[u8]>, answer: &mut [u8])
 /// before it are short. At times no leg or one too many, or one word of a join or of the trailer replaced.
 fn route(rng: &mut Rng, kind: Kind, time: f32) -> Vec<u32> {
     const WORDS: usize = LEG / 4;
-    let count = rng.of(&[1, 1, 2, 2, 2, 3, 3, 3, 4, 5, 6, 7, 8, 0, 9]).unwrap_or(1);
+    let count = rng.of(&[1, 1, 2, 2, 2, 3, 3, 3, 4, 4, 5, 8, 9, MOST_LEGS, 0, MOST_LEGS + 1]).unwrap_or(1);
     let mut legs = vec![[0.0; WORDS]; count];
     let (aim, mut end, mut from) = (rng.below(count + 1), 0.0f32, None);
     for (at, leg) in legs.iter_mut().enumerate() {
@@ -401,7 +401,7 @@ fn route(rng: &mut Rng, kind: Kind, time: f32) -> Vec<u32> {
     let any = rng.bits() as u32;
     match rng.below(12) {
         0 if count > 1 => words[WORDS * rng.below(count - 1) + 9 + rng.below(9)] = rng.word().to_bits(),
-        1 => words[WORDS * count] = rng.of(&[0, 9, count as u32 + 1, 1 << 30, any]).unwrap_or(0),
+        1 => words[WORDS * count] = rng.of(&[0, MOST_LEGS as u32 + 1, count as u32 + 1, 1 << 30, any]).unwrap_or(0),
         2 => words[WORDS * count + 1] = rng.of(&[0, (LEG * count) as u32 + 76, any]).unwrap_or(0),
         _ => {}
     }

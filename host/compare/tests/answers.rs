@@ -85,21 +85,22 @@ const STORED: usize = IMAGE / 4 + 1;
 /// Where an answer of a tick stands in a row's: after the number and the image.
 const ANSWER: usize = 1 + STORED;
 
-/// Of the accepted route ticks: on the first leg, on a later one, at the very end of one, past all ends.
+/// Of the accepted route ticks: on the first leg, on a later one, at the very end of one, past all ends; on a route of more than eight legs.
 #[test]
 fn the_route_ticks_are_on_every_part_of_a_route() {
     let sections = answers::sections();
-    let mut seen = [0; 4];
+    let mut seen = [0; 5];
     for row in named(&sections, "route tick").rows.iter().filter(|row| row.answer[0] == 0) {
         // image, input and answer, each after two words of sizes
         let route = &row.given[2 + STORED + 2 + 18 + 2 + 11..];
         let bytes: Vec<u8> = route[2..].iter().flat_map(|word| word.to_le_bytes()).take(route[1] as usize).collect();
         let (route, time) = (Route::of(Fault::None, &bytes), f32::from_bits(row.answer[ANSWER + 7]));
         let place = route.place(Fault::None, time);
-        let is = [!place.past && place.leg == 0, !place.past && place.leg > 0, route.ends.contains(&time), place.past];
+        let (within, long) = (!place.past, route.ends.len() > 8);
+        let is = [within && place.leg == 0, within && place.leg > 0, route.ends.contains(&time), place.past, long];
         seen.iter_mut().zip(is).for_each(|(n, is)| *n += usize::from(is));
     }
-    println!("first leg, later leg, at an end, past all: {seen:?}");
+    println!("first leg, later leg, at an end, past all, many legs: {seen:?}");
     assert!(seen.into_iter().all(|n| n >= 8), "{seen:?}");
 }
 

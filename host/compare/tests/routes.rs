@@ -23,7 +23,7 @@ fn every_tick_on_a_route_is_the_rust_s_and_the_look_back_s() {
         ("counts", &routes.counts[..]),
         ("legs", &routes.legs),
         ("ends", &[routes.past, routes.at_end, routes.below_end, routes.above_end]),
-        ("durations", &[routes.mended, routes.lost, routes.infinite]),
+        ("durations", [routes.mended, routes.lost, routes.infinite].as_flattened()),
         ("joins", &[routes.zeros, routes.infinities]),
         ("refusals 4 to 7", &routes.refused[4..]),
         ("apart", &routes.apart),
@@ -127,6 +127,11 @@ fn the_leg_flown_by_hand() {
     let mended = [f32::NAN, 2.0, 4.0];
     let lost = [16777216.0, 0.5, 1.0, 4.0];
     let huge = [3e38, 3e38, 1.0];
+    // of 32 legs: all alike; all but the first and the last lost; infinite ends from the second on
+    let many = [0.5; 32];
+    let mut many_lost = [0.5; 32];
+    (many_lost[0], many_lost[31]) = (16777216.0, 4.0);
+    let many_huge = [3e38; 32];
     let below = |x: f32| x.next_down();
     for (durations, time, leg, at) in [
         (&[1.0, 2.0, 4.0][..], 0.5, 0, 0.5),
@@ -145,6 +150,18 @@ fn the_leg_flown_by_hand() {
         (&huge, below(3e38), 0, below(3e38)),
         (&huge, 3e38, 1, 0.0),
         (&huge, f32::MAX, 1, f32::MAX - 3e38),
+        (&many, 4.0, 8, 0.0),
+        (&many, 4.25, 8, 0.25),
+        (&many, 8.25, 16, 0.25),
+        (&many, 15.75, 31, 0.25),
+        (&many, below(16.0), 31, below(16.0) - 15.5),
+        (&many, 16.0, 31, 0.5),
+        (&many_lost, below(16777216.0), 0, below(16777216.0)),
+        (&many_lost, 16777216.0, 31, 0.0),
+        (&many_lost, 16777218.0, 31, 2.0),
+        (&many_lost, 16777220.0, 31, 4.0),
+        (&many_huge, below(3e38), 0, below(3e38)),
+        (&many_huge, f32::MAX, 1, f32::MAX - 3e38),
     ] {
         let legs = legs(durations);
         let (said, clock) = first(0, &other, Some(&bytes(&legs)), time);
@@ -159,7 +176,8 @@ fn the_leg_flown_by_hand() {
     }
 }
 
-/// "6 a route below 8 bytes; 5 count 0 or above 8; 6 distance back not 76 times the count, or length not 8 more; 7 legs don't meet."
+/// "6 a route below 8 bytes; 5 count 0 or above 8; 6 distance back not 76 times the count, or length not 8 more; 7 legs don't meet." And
+/// "5 now means 0 or above 32".
 #[test]
 fn refusals_by_hand() {
     let mut image = [0; IMAGE];
@@ -176,14 +194,19 @@ fn refusals_by_hand() {
     let with = |count: u32, back: u32| [&three[..three.len() - 8], &trailer(count, back)].concat();
     assert_eq!(of(&three), 0);
     (0..8).for_each(|n| assert_eq!(of(&vec![0xff; n]), 6));
-    for (count, back, said) in [(0, 0, 5), (0, 1, 5), (9, 684, 5), (1 << 30, 0, 5), (u32::MAX, 0, 5), (1, 76, 6), (1, 0, 6), (8, 608, 6)] {
+    for (count, back, said) in
+        [(0, 0, 5), (0, 1, 5), (33, 2508, 5), (1 << 30, 0, 5), (u32::MAX, 0, 5), (1, 76, 6), (1, 0, 6), (9, 684, 6), (32, 2432, 6)]
+    {
         assert_eq!(of(&trailer(count, back)), said, "{count}, {back}");
     }
-    for (count, back, said) in [(3, 228, 0), (3, 236, 6), (3, 0, 6), (2, 152, 6), (2, 228, 6), (4, 304, 6), (0, 228, 5), (9, 228, 5)] {
+    for (count, back, said) in
+        [(3, 228, 0), (3, 236, 6), (3, 0, 6), (2, 152, 6), (2, 228, 6), (4, 304, 6), (0, 228, 5), (9, 228, 6), (33, 228, 5)]
+    {
         assert_eq!(of(&with(count, back)), said, "{count}, {back}");
     }
-    assert_eq!(of(&bytes(&legs(&[1.0; 8]))), 0);
-    assert_eq!(of(&bytes(&legs(&[1.0; 9]))), 5);
+    for (count, said) in [(8, 0), (9, 0), (31, 0), (32, 0), (33, 5)] {
+        assert_eq!(of(&bytes(&legs(&vec![1.0; count]))), said, "{count} legs");
+    }
     assert_eq!(of(&[&[0; 4], &three[..]].concat()), 6);
     // what a tick is refused for goes first
     assert_eq!(number(&image[1..], 0, &[], 0), 1);

@@ -3,7 +3,7 @@
 use fly::flight::{Flight, Rule, RULES};
 use fly::table::{choices, passes, table};
 use fly::{curve, exchange, legs, output, pass, rotor};
-use fosavalo::{BodyRate, GyroFilter, Image, Pilot, Profile, SetUp, TickInput};
+use fosavalo::{BodyRate, GyroFilter, Image, Leg, Pilot, Profile, Route, SetUp, TickInput};
 
 #[test]
 fn the_table() {
@@ -37,6 +37,36 @@ fn the_exchanges() {
         }
     }
     assert!(carried[1] > 0, "the planner had control at none of the exchanges: {carried:?}");
+}
+
+/// The three legs cut into 32 are the same way: what is wanted hardly differs at any tick. With the first eight of them alone it soon does.
+#[test]
+fn the_legs_in_pieces() {
+    let legs = legs::legs();
+    let mut pieces = Vec::new();
+    for (leg, count) in legs.iter().zip([11u8, 11, 10]) {
+        let t = leg.t / f32::from(count);
+        let at = |k: u8| {
+            let there = legs::reference(&[*leg], t * f32::from(k));
+            [there.position, there.velocity, there.acceleration].map(|v| v.map(|x| x as f32))
+        };
+        for k in 0..count {
+            let ([p0, v0, a0], [pf, vf, af]) = (at(k), if k + 1 == count { [leg.pf, leg.vf, leg.af] } else { at(k + 1) });
+            pieces.push(Leg { p0, v0, a0, pf, vf, af, t });
+        }
+    }
+    // tilted, so that psi goes evenly with what is wanted
+    let input = TickInput { attitude: [0.96, 0.28, 0.0, 0.0], dt: 1e-3, ..TickInput::default() };
+    let psi = |legs: &[Leg]| -> Vec<f32> {
+        let route = Route::new(legs).expect("the legs meet");
+        let flight = Flight::of(&SetUp::falcon_quad(), Rule::Shield, Some(route), &[input; 20_000]).expect("it is flown");
+        flight.ticks.iter().map(|tick| tick.answer.psi).collect()
+    };
+    let apart = |a: &[f32], b: &[f32]| a.iter().zip(b).map(|(a, b)| (a - b).abs()).fold(0.0, f32::max);
+    let whole = psi(&legs);
+    assert_eq!(pieces.len(), fosavalo::MOST_LEGS);
+    let (same, cut) = (apart(&whole, &psi(&pieces)), apart(&whole, &psi(&pieces[..8])));
+    assert!(same < 1e-5 && cut > 1e-3, "{same}, {cut}");
 }
 
 /// And of the curved pass: what is flown is never taken from the planner, and document 01's margin would take it.

@@ -60,7 +60,8 @@ fn legs() {
     assert!(psi(&two) > 0.1 && psi(&scenario("")) == 0.0);
     let apart = leg("0", "1") + "\n# and\n" + &leg("1", "0") + &leg("2", "0") + &leg("3", "0") + "tick 1";
     assert!(mistake(&apart).starts_with("line 5: leg 3: refused (7): "), "{}", mistake(&apart));
-    assert!(mistake(&(leg("0", "0").repeat(10) + "tick 1")).starts_with("line 9: leg 9: refused (5): "));
+    assert!(mistake(&(leg("0", "0").repeat(34) + "tick 1")).starts_with("line 33: leg 33: refused (5): "));
+    assert_eq!(scenario(&leg("0", "0").repeat(32)).route.map(|route| route.len()), Some(32));
     assert_eq!(mistake("leg 1 2 3\ntick 1"), "line 1: leg: takes 19 numbers, here are 3");
     assert_eq!(mistake(&("tick 1\n".to_string() + &leg("0", "0"))), "line 2: leg: stands before the first tick");
 }
@@ -162,4 +163,13 @@ fn the_examples() {
     let route = pilots(include_bytes!("../scenarios/route.txt"), Rule::Shield);
     let off = |at: usize| route.ticks[at].answer.psi - route.ticks.last().map_or(0.0, |last| last.answer.psi);
     assert!(off(14_500) == 0.0 && off(13_000) > 1e-4 && route.ticks.len() == 15_000);
+    // each round of the fourteen legs as the one before it, bit for bit, and none of its legs as the next
+    let rounds = pilots(include_bytes!("../scenarios/rounds.txt"), Rule::Shield);
+    let (leg, psi) =
+        (2048, |from: usize| rounds.ticks.iter().skip(from).take(2048).map(|tick| tick.answer.psi.to_bits()).collect::<Vec<_>>());
+    let round = |from: usize| [0, 1, 2, 3].map(|k| psi(from + k * leg));
+    assert_eq!((round(leg), round(leg)), (round(5 * leg), round(9 * leg)));
+    let [a, b, c, d] = round(leg);
+    assert!(a != b && b != c && c != d && psi(13 * leg) != a);
+    assert_eq!((rounds.ticks.len(), rounds.ticks.last().map(|tick| tick.answer.time)), (14 * leg + 1024, Some(29.0)));
 }

@@ -78,7 +78,7 @@ pub const LEG_BYTES: usize = 76;
 /// The length of what stands behind the legs of a route.
 pub const ROUTE_TRAILER_BYTES: usize = 8;
 /// The most legs that a route has.
-pub const MOST_LEGS: usize = 8;
+pub const MOST_LEGS: usize = 32;
 /// The length of a record of a log: a tick's input and its answer.
 pub const RECORD_BYTES: usize = TICK_BYTES + ANSWER_BYTES;
 /// The length of what stands behind the records of a log.

@@ -31,7 +31,7 @@ pub enum Refusal {
     AnswerLength,
     /// 4: no set-up and no tick leaves such an image.
     BrokenImage,
-    /// 5: a route has 1 to 8 legs.
+    /// 5: a route has 1 to 32 legs.
     LegCount,
     /// 6: the route is under 8 bytes long, or its length or its bytes back do not go with its count.
     RouteLength,
@@ -106,7 +106,7 @@ impl Refusal {
     /// The meaning in words.
     ///
     /// ```
-    /// assert_eq!(fosavalo::Refusal::LegCount.meaning().to_string(), "a route has 1 to 8 legs");
+    /// assert_eq!(fosavalo::Refusal::LegCount.meaning().to_string(), "a route has 1 to 32 legs");
     /// ```
     pub fn meaning(self) -> impl fmt::Display {
         Meaning(self)

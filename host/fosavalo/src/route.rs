@@ -7,7 +7,7 @@ pub type Leg = Segment;
 
 const LONGEST: usize = MOST_LEGS * LEG_BYTES + ROUTE_TRAILER_BYTES;
 
-/// 1 to 8 legs, flown one after another. It is checked when it is made, so that no tick is refused for its route.
+/// 1 to 32 legs, flown one after another. It is checked when it is made, so that no tick is refused for its route.
 ///
 /// Legs meet: each `p0`, `v0`, `a0` is the `pf`, `vf`, `af` before it as a number. A leg ends at the sum of the durations up to it, as
 /// set-up mends a duration; the leg flown is the first whose end is above the image's time, and past all ends the last, at its end.
@@ -27,7 +27,7 @@ const LONGEST: usize = MOST_LEGS * LEG_BYTES + ROUTE_TRAILER_BYTES;
 /// let apart = Route::new(&[rest, out, rest]);
 /// assert_eq!(apart, Err(Refusal::LegsApart(Some(2)))); // the leg, counted from 0
 /// assert_eq!(Route::new(&[]), Err(Refusal::LegCount));
-/// assert_eq!(Route::new(&[rest; 9]), Err(Refusal::LegCount));
+/// assert_eq!(Route::new(&[rest; 33]), Err(Refusal::LegCount));
 /// # Ok::<(), Refusal>(())
 /// ```
 #[derive(Clone, PartialEq, Eq, Hash)]
@@ -38,7 +38,7 @@ pub struct Route {
 }
 
 impl Route {
-    /// A route of these legs; refused where there is none of them or more than 8, and where two do not meet.
+    /// A route of these legs; refused where there is none of them or more than 32, and where two do not meet.
     pub fn new(legs: &[Leg]) -> Result<Self, Refusal> {
         if legs.len() > MOST_LEGS {
             return Err(Refusal::LegCount);

@@ -77,15 +77,21 @@ fn floats(bytes: &[u8]) -> impl Iterator<Item = f32> + '_ {
 /// Legs of any bits that meet or do not, and bytes that are any: a route is made exactly where a tick takes it, and then it is those bytes.
 #[test]
 fn routes_of_any_legs() {
-    let (mut rng, mut seen, mut apart) = (Bytes(4), [0u32; 8], [0u32; MOST_LEGS]);
+    let (mut rng, mut seen, mut apart, mut taken) = (Bytes(4), [0u32; 8], [0u32; MOST_LEGS], [0u32; MOST_LEGS + 1]);
     let mut fresh = [0; IMAGE_BYTES];
     assert_eq!(calls::setup(&mut fresh, &SetUp::falcon_quad().to_bytes()), 0);
     let mut tick = [0; TICK_BYTES];
     for round in 0..20_000 {
         rng.fill(&mut tick);
-        let mut bytes = vec![0; LEG_BYTES * (rng.next() % 9) as usize + ROUTE_TRAILER_BYTES];
+        let count = if rng.next() & 1 == 0 { MOST_LEGS } else { (rng.next() % (MOST_LEGS as u64 + 2)) as usize };
+        let back = LEG_BYTES * count;
+        let mut bytes = vec![0; back + ROUTE_TRAILER_BYTES];
         rng.fill(&mut bytes);
-        let (count, back) = (bytes.len() / LEG_BYTES, bytes.len() - ROUTE_TRAILER_BYTES);
+        // a NaN at a join would leave few routes of many legs
+        if round % 16 != 3 {
+            let ends = bytes.chunks_exact_mut(LEG_BYTES).flat_map(|leg| leg[36..72].chunks_exact_mut(4));
+            ends.filter(|end| floats(end).any(f32::is_nan)).for_each(|end| end.copy_from_slice(&f32::INFINITY.to_le_bytes()));
+        }
         let apart_from = if round % 4 == 0 { 1 + (rng.next() % MOST_LEGS as u64) as usize } else { count };
         (1..count.min(apart_from)).for_each(|leg| bytes.copy_within(LEG_BYTES * leg - 40..LEG_BYTES * leg - 4, LEG_BYTES * leg));
         if round % 8 != 1 {
@@ -110,6 +116,7 @@ fn routes_of_any_legs() {
             Err(refusal) => assert_eq!(refusal.number(), Some(number)),
             Ok(route) => {
                 assert_eq!((number, route.as_bytes()), (0, &bytes[..]));
+                taken[count] += 1;
                 let legs: Vec<Leg> = route.legs().collect();
                 assert_eq!((legs.len(), route.len(), Route::new(&legs)), (count, count, Ok(route.clone())));
                 let mut typed = Image::from_bytes(&fresh).expect("it is 384 bytes long");
@@ -121,6 +128,7 @@ fn routes_of_any_legs() {
     }
     assert!([0, 5, 6, 7].iter().all(|number| seen[*number] > 500), "{seen:?}");
     assert!(apart[0] == 0 && apart[1..].iter().all(|count| *count > 10), "{apart:?}");
+    assert!(taken[0] == 0 && taken[1..].iter().all(|count| *count > 10), "{taken:?}");
 }
 
 /// What is appended is read back, byte for byte, and the log is that of the C calls; it may be stored and gone on with at any time.

@@ -7,6 +7,10 @@ pub const ANSWER: usize = 40;
 pub const LEG: usize = 76;
 pub const TRAILER: usize = 8;
 
+/// The most legs of a route; before request Eight there were 8.
+pub const MOST_LEGS: usize = 32;
+pub const EARLIER_LEGS: usize = 8;
+
 /// The words of an image, and what word 0 says.
 pub const WORDS: usize = IMAGE / 4;
 

@@ -113,7 +113,8 @@ faults! {
         SegmentFlown = "the image's segment flown";
         FormFirst = "5 after 6";
         RouteFirst = "the route before the image";
-        NineLegs = "nine legs taken";
+        OneLegMore = "a leg more than the most taken";
+        EarlierLimit = "the limit left at 8 legs";
         BackFromEnd = "bytes back from the end of the route";
         AnyLength = "a longer route taken";
         JoinBits = "joins compared in bits";

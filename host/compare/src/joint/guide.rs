@@ -1,7 +1,7 @@
 //! Which calls come after a set-up, and which routes: flown through as the clock goes, aimed at the coming time, with odd joins, broken ones
 //! and spoilt trailers. All of it depends on the run's number alone.
 
-use super::bytes::{put, LEG, TICK, TRAILER};
+use super::bytes::{put, EARLIER_LEGS, LEG, MOST_LEGS, TICK, TRAILER};
 use super::fault::Fault;
 use super::pilot::{self, Kind};
 use super::route::Source;
@@ -34,7 +34,7 @@ pub struct Guide {
 impl Guide {
     pub fn new(number: u64, calls: &'static [Call]) -> Self {
         let mut rng = Rng::new("routes", number);
-        let count = 1 + (number / 8 % 8) as usize;
+        let count = 1 + (number / 8) as usize % MOST_LEGS;
         // so long that most of it is flown in the run
         let total = 0.0025 * pilot::length(number) as f32 * rng.range(0.2, 1.2);
         let durations: Vec<f32> = (0..count).map(|_| total * rng.range(0.3, 1.7) / count as f32).collect();
@@ -128,7 +128,8 @@ impl Guide {
     /// Legs with an end at this time or next to it; or durations that are lost beside it, sum to infinity, or are any.
     fn aimed(&mut self, time: f32) -> Vec<f32> {
         let rng = &mut self.rng;
-        let count = 1 + rng.below(8);
+        let most = if rng.flag() { EARLIER_LEGS } else { MOST_LEGS };
+        let count = 1 + rng.below(most);
         let (way, aim) = (rng.below(7), rng.below(count));
         let unit = time.next_up() - time;
         let mut end = 0.0f32;
@@ -202,7 +203,10 @@ impl Guide {
         }
         match way {
             0 => {
-                let other = rng.of(&[0, 9, count + 1, count - 1, 1 << 30, 1 << 30 | count, count << 8, u32::MAX, any]).unwrap_or(0);
+                let (earlier, most) = (EARLIER_LEGS as u32, MOST_LEGS as u32);
+                let other = rng
+                    .of(&[0, earlier + 1, most, most + 1, count + 1, count - 1, 1 << 30, 1 << 30 | count, count << 8, u32::MAX, any])
+                    .unwrap_or(0);
                 end(route, other, back as u32);
             }
             1 => {
@@ -211,7 +215,7 @@ impl Guide {
             }
             // at one with each other, not with the length
             2 => {
-                let other = rng.below(11) as u32;
+                let other = rng.below(MOST_LEGS + 3) as u32;
                 end(route, other, 76 * other);
             }
             3 => {
@@ -220,7 +224,7 @@ impl Guide {
             }
             // more legs than there may be, or none
             4 => {
-                let durations = vec![1.0; if rng.flag() { 9 } else { 0 }];
+                let durations = vec![1.0; if rng.flag() { MOST_LEGS + 1 } else { 0 }];
                 *route = bytes(&legs(rng, &durations));
             }
             5 => route.truncate(rng.below(back + TRAILER)),

@@ -1,6 +1,7 @@
-//! Every length from 0 to 400 of each buffer, all together, between guards: the number, and not a byte changed. And of a route from 0 to 700.
+//! Every length from 0 to 400 of each buffer, all together, between guards: the number, and not a byte changed. And of a route from 0 to a
+//! leg and more beyond the longest.
 
-use super::bytes::{put, raw, ANSWER, IMAGE, LEG, SETUP_PROFILE, TICK, TRAILER};
+use super::bytes::{put, raw, ANSWER, IMAGE, LEG, MOST_LEGS, SETUP_PROFILE, TICK, TRAILER};
 use super::fault::Fault;
 use super::lent::{Hands, Lent, Short, LONGEST};
 use super::model::{self, Flight, Profile};
@@ -11,7 +12,9 @@ use crate::threads;
 use std::sync::{Mutex, PoisonError};
 
 /// And of a route.
-const LONGEST_ROUTE: usize = 700;
+const LONGEST_ROUTE: usize = LEG * (MOST_LEGS + 1) + 2 * TRAILER;
+/// Their legs: from none to one too many.
+const COUNTS: usize = MOST_LEGS + 2;
 
 /// Buffers of the longest length that begin with these bytes, and no route.
 fn beginning(image: &[u8], input: &[u8]) -> Hands {
@@ -88,14 +91,14 @@ pub fn exchanges(face: Face) -> Result<u64, String> {
 
 /// The calls of `routes`: counts, lengths, trailers, and lengths of the others with a good image and a broken one.
 pub fn route_calls() -> u64 {
-    10 * (LONGEST_ROUTE as u64 + 1) * 2 * 16
+    COUNTS as u64 * (LONGEST_ROUTE as u64 + 1) * 2 * 16
 }
 
-/// A route tick at every length of a route of 0 to 9 legs: cut there, and with its trailer moved there. With an image that is good or broken,
+/// A route tick at every length of a route of 0 to 33 legs: cut there, and with its trailer moved there. With an image that is good or broken,
 /// and each of the others a byte short or not.
 pub fn routes(face: Face) -> Result<u64, String> {
     let (good, mut calls) = (of_a_tick(), 0);
-    for count in 0..10 {
+    for count in 0..COUNTS {
         let trailer =
             |bytes: &mut [u8], at: usize| [count, LEG * count].iter().enumerate().for_each(|(k, w)| put(&mut bytes[at..], k, *w as u32));
         // at rest, so that all legs meet; a duration each

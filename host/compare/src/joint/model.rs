@@ -4,7 +4,7 @@
 use super::bytes::{canonical, put, Put, Take, ANSWER, IMAGE, PEAKS, PROFILE, WORDS};
 use super::fault::Fault;
 use super::lent::Lending;
-use super::route::Source;
+use super::route::{sample_of, Source};
 use super::{refusal, Call};
 use oracle::adrc::{AdrcAxis, AdrcGains, AdrcRate, GyroLpf};
 use oracle::geo::{self, GeoAtt, GeoGains, Mat3, RecoverableSet, SimplexShield, Vec3};
@@ -390,12 +390,16 @@ impl Flight {
     #[inline]
     fn sample(&self, fault: Fault, source: &Source, time: f32) -> (Sample3, f32) {
         match source {
-            Source::Route(route) if fault != Fault::SegmentFlown => route.sample(fault, time),
-            _ => {
-                let at = if time == f32::INFINITY && fault != Fault::InfiniteAtZero { self.segment.duration() } else { time };
-                (self.segment.eval(at), at)
+            Source::Route(route) if fault != Fault::SegmentFlown => return route.sample(fault, time),
+            Source::Bytes(route) => {
+                if let Some(sampled) = sample_of(route, time) {
+                    return sampled;
+                }
             }
+            _ => {}
         }
+        let at = if time == f32::INFINITY && fault != Fault::InfiniteAtZero { self.segment.duration() } else { time };
+        (self.segment.eval(at), at)
     }
 }
 

@@ -1,6 +1,6 @@
 //! What the ticks on routes of some runs came to.
 
-use super::bytes::{float, word, LEG, TRAILER};
+use super::bytes::{float, word, EARLIER_LEGS, LEG, MOST_LEGS, TRAILER};
 use super::fault::Fault;
 use super::refusal;
 use super::route::Route;
@@ -10,17 +10,17 @@ use std::fmt;
 counts! {
     pub struct OnRoutes {
         /// Accepted ticks by the count of legs, by the leg flown, both less one.
-        pub counts: [u64; 8],
-        pub legs: [u64; 8],
+        pub counts: [u64; MOST_LEGS],
+        pub legs: [u64; MOST_LEGS],
         /// Past all ends; at an end itself, one unit below one, one unit above one.
         pub past: u64,
         pub at_end: u64,
         pub below_end: u64,
         pub above_end: u64,
-        /// With durations that are mended, lost in rounding, that sum to infinity.
-        pub mended: u64,
-        pub lost: u64,
-        pub infinite: u64,
+        /// With durations that are mended, lost in rounding, that sum to infinity: of up to 8 legs, of more.
+        pub mended: [u64; 2],
+        pub lost: [u64; 2],
+        pub infinite: [u64; 2],
         /// With a join of two zeros of different signs, of two infinities.
         pub zeros: u64,
         pub infinities: u64,
@@ -48,10 +48,11 @@ impl OnRoutes {
         self.at_end += near(&|end| time == *end);
         self.below_end += near(&|end| time.next_up() == *end);
         self.above_end += near(&|end| time == end.next_up());
-        self.infinite += any(&|end| end.is_infinite());
-        self.lost += u64::from(route.ends.windows(2).any(|two| two[0] == two[1]));
+        let long = usize::from(route.ends.len() > EARLIER_LEGS);
+        self.infinite[long] += any(&|end| end.is_infinite());
+        self.lost[long] += u64::from(route.ends.windows(2).any(|two| two[0] == two[1]));
         let legs: Vec<&[u8]> = bytes.chunks_exact(LEG).collect();
-        self.mended += u64::from(legs.iter().map(|leg| float(leg, 18)).any(|t| !(t.is_finite() && t > 1e-3)));
+        self.mended[long] += u64::from(legs.iter().map(|leg| float(leg, 18)).any(|t| !(t.is_finite() && t > 1e-3)));
         let join = |is: &dyn Fn(u32, u32) -> bool| {
             u64::from(legs.windows(2).any(|two| (0..9).any(|place| is(word(two[0], 9 + place), word(two[1], place)))))
         };
@@ -72,14 +73,18 @@ impl fmt::Display for OnRoutes {
     fn fmt(&self, f: &mut fmt::Formatter<'_>) -> fmt::Result {
         writeln!(
             f,
-            "{} ticks on routes, {} changes to or from plain ones; of 1 to 8 legs {:?}",
+            "{} ticks on routes, {} changes to or from plain ones; of 1 to {MOST_LEGS} legs {:?}",
             self.accepted(),
             self.switches,
             self.counts
         )?;
         writeln!(f, "by the leg flown {:?}, {} past all ends", self.legs, self.past)?;
         writeln!(f, "{} at an end itself, {} one unit below one, {} one above", self.at_end, self.below_end, self.above_end)?;
-        writeln!(f, "{} with mended durations, {} with lost ones, {} with an infinite end", self.mended, self.lost, self.infinite)?;
+        writeln!(
+            f,
+            "of up to {EARLIER_LEGS} legs and of more: {:?} with mended durations, {:?} with lost ones, {:?} with an infinite end",
+            self.mended, self.lost, self.infinite
+        )?;
         writeln!(f, "{} with zeros of two signs at a join, {} with infinities", self.zeros, self.infinities)?;
         write!(f, "refused with 4 to 7: {:?}; of 7 by the place: {:?}", &self.refused[4..], self.apart)
     }

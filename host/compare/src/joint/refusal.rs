@@ -1,7 +1,9 @@
 //! The documents' tables: which number a call gives. Of 1 to 4 the lowest wins; a set-up's profile comes after them, and what is wrong with a
 //! route too, in an order of its own. With a fault, another number.
 
-use super::bytes::{canonical, float, word, Take, ANSWER, IMAGE, LEG, PEAKS, PROFILE, SETUP, SETUP_PROFILE, TICK, TRAILER, WORDS};
+use super::bytes::{
+    canonical, float, word, Take, ANSWER, EARLIER_LEGS, IMAGE, LEG, MOST_LEGS, PEAKS, PROFILE, SETUP, SETUP_PROFILE, TICK, TRAILER, WORDS,
+};
 use super::fault::Fault;
 use super::lent::Lending;
 use super::Call;
@@ -81,13 +83,17 @@ pub fn of(fault: Fault, call: Call, lent: &Lending) -> u32 {
 }
 
 /// Document 02's own sentence: "6 a route below 8 bytes; 5 count 0 or above 8; 6 distance back not 76 times the count, or length not 8 more;
-/// 7 legs don't meet".
+/// 7 legs don't meet", and request Eight's: "5 now means 0 or above 32".
 fn of_route(fault: Fault, route: &[u8]) -> u32 {
     let Some((legs, trailer)) = route.len().checked_sub(TRAILER).map(|at| route.split_at(at)) else {
         return 6;
     };
     let (count, back) = (word(trailer, 0) as usize, word(trailer, 1) as usize);
-    let most = if fault == Fault::NineLegs { 9 } else { 8 };
+    let most = match fault {
+        Fault::OneLegMore => MOST_LEGS + 1,
+        Fault::EarlierLimit => EARLIER_LEGS,
+        _ => MOST_LEGS,
+    };
     let length = LEG * count;
     let form = match fault {
         Fault::BackFromEnd => back == length + TRAILER && legs.len() == length,

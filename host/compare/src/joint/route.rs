@@ -16,6 +16,8 @@ pub struct Route {
 pub enum Source {
     Segment,
     Route(Route),
+    /// A route's bytes, with nothing kept: at each tick the Rust makes segments of the legs up to the one flown.
+    Bytes(Vec<u8>),
 }
 
 impl Source {
@@ -36,15 +38,11 @@ pub struct Place {
 
 impl Route {
     pub fn of(fault: Fault, bytes: &[u8]) -> Self {
-        let leg = |words: &[u8]| {
-            let mut i = Take::from(words, 0);
-            Segment3::new(i.floats(), i.floats(), i.floats(), i.floats(), i.floats(), i.floats(), i.float())
-        };
         let (mut sum, mut wide) = (0.0, 0.0);
         let (legs, ends) = bytes
             .chunks_exact(LEG)
             .map(|words| {
-                let leg = leg(words);
+                let leg = segment(words);
                 let duration = if fault == Fault::RawDurations { float(words, 18) } else { leg.duration() };
                 sum += duration;
                 wide += f64::from(duration);
@@ -78,6 +76,28 @@ impl Route {
         let place = self.place(fault, time);
         (self.legs[place.leg].eval(place.at), place.at)
     }
+}
+
+#[inline]
+fn segment(words: &[u8]) -> Segment3 {
+    let mut i = Take::from(words, 0);
+    Segment3::new(i.floats(), i.floats(), i.floats(), i.floats(), i.floats(), i.floats(), i.float())
+}
+
+/// The sample of the leg flown and the time on it, from the bytes. None where there is no leg.
+#[inline]
+pub fn sample_of(bytes: &[u8], time: f32) -> Option<(Sample3, f32)> {
+    let (mut end, mut last) = (0.0, None);
+    for words in bytes.chunks_exact(LEG) {
+        let leg = segment(words);
+        let next = end + leg.duration();
+        if time < next {
+            return Some((leg.eval(time - end), time - end));
+        }
+        end = next;
+        last = Some(leg);
+    }
+    last.map(|leg| (leg.eval(leg.duration()), leg.duration()))
 }
 
 #[cfg(test)]

@@ -5,7 +5,7 @@ use mathlib.Core.Path.{_≡_, refl, sym, _∙_}
 use Prim.Native.Nat.{_-_, _≤_}
 use native.Mathlib.Omega.{arith}
 use Rattle.route.specs.Form.{meetFrom, allMeet}
-use Rattle.route.proofs.Walks.{joined, meet-on, meet-stops, meet-ends}
+use Rattle.route.proofs.Walks.{meet-on, meet-stops, meet-ends}
 use Rattle.route.proofs.form.all_meet.Statement.{statement}
 use Rattle.route.proofs.form.all_meet.Tie as tie
 
@@ -18,17 +18,15 @@ abbrev μ-loop : tie.MeasureT-loop
 returns : tie.Need-returns Inv-loop μ-loop
 unfolding allMeet
 returns c =
-    let at = c .before .before .before in
-    sym (meet-stops _ _ _ (at .before .loop-test .taken)
-    (joined _ _ (at .leg-at .ensures) (c .before .before .leg-at2 .ensures) (c .before .legs-meet .ensures) (not-true (c .before .legs-meet .result) (c .if1 .taken))))
+    let at = c .before in
+    sym (meet-stops _ _ _ (at .before .loop-test .taken) (sym (at .legs-meet .ensures) ∙ not-true (at .legs-meet .result) (c .if1 .taken)))
     ∙ at .before .before .loop .inv .1
 
 loop-again : tie.Need-loop-again Inv-loop μ-loop
 loop-again c =
-    let at = c .before .before .before in (
+    let at = c .before in (
       omega arith,
-      meet-on _ _ _ (at .before .loop-test .taken)
-          (joined _ _ (at .leg-at .ensures) (c .before .before .leg-at2 .ensures) (c .before .legs-meet .ensures) (not-false (c .before .legs-meet .result) (c .if1 .left)))
+      meet-on _ _ _ (at .before .loop-test .taken) (sym (at .legs-meet .ensures) ∙ not-false (at .legs-meet .result) (c .if1 .left))
           ∙ at .before .before .loop .inv .1,
     )
 
@@ -41,12 +39,7 @@ all-meet-spec =
     tie.close
     (tie.spec Inv-loop μ-loop
     (λ c. (omega arith, refl))
-    (λ c. omega arith)
-    (λ c. omega arith)
-    (λ c κs. omega arith)
-    (λ c. omega arith)
-    (λ c κs. omega arith)
-    (λ c κs. search needs)
+    (λ c κs. (omega arith, omega arith))
     returns
     (λ c. omega arith)
     (λ c. omega arith)

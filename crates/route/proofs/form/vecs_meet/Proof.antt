@@ -1,14 +1,42 @@
-use mathlib.Core.Path.{sym}
+-- `route::form::vecs_meet`: three tests one after another, each of two words. Assumes nothing.
+use borrow.Author.Needs.{needs}
+use mathlib.Core.Path.{refl, sym, _∙_}
+use Rattle.words.specs.Words.{vec}
 use Rattle.route.specs.Form.{vecsMeet}
-use Rattle.route.proofs.Walks.{first, second, third}
+use Rattle.route.proofs.Walks.{first, second, third, met}
 use Rattle.route.proofs.form.vecs_meet.Statement.{statement}
 use Rattle.route.proofs.form.vecs_meet.Tie as tie
 
+returns : tie.Need-returns
+unfolding vecsMeet vec
+returns c =
+    let two = c .before .before .before in
+    let one = two .before .before .before .before in
+    sym (third
+    (met _ _ _ _ (one .before .before .before .word-at .ensures) (one .before .before .word-at2 .ensures) (one .before .words-meet .ensures) (one .if1 .taken))
+    (met _ _ _ _ (two .before .before .before .word-at3 .ensures) (two .before .before .word-at4 .ensures) (two .before .words-meet2 .ensures) (two .if2 .taken))
+    ∙ met _ _ _ _ (c .before .before .word-at5 .ensures) (c .before .word-at6 .ensures) (c .words-meet3 .ensures) refl)
+
+returns-2 : tie.Need-returns-2
+unfolding vecsMeet vec
+returns-2 c =
+    let one = c .before .before .before .before in
+    sym (second _
+    (met _ _ _ _ (one .before .before .before .word-at .ensures) (one .before .before .word-at2 .ensures) (one .before .words-meet .ensures) (one .if1 .taken))
+    (met _ _ _ _ (c .before .before .before .word-at3 .ensures) (c .before .before .word-at4 .ensures) (c .before .words-meet2 .ensures) (c .if2 .left)))
+
+returns-3 : tie.Need-returns-3
+unfolding vecsMeet vec
+returns-3 c =
+    sym (first _ _ (met _ _ _ _ (c .before .before .before .word-at .ensures) (c .before .before .word-at2 .ensures) (c .before .words-meet .ensures) (c .if1 .left)))
+
 pub vecs-meet-spec : {M : Type 1} → statement M
-unfolding vecsMeet
 vecs-meet-spec =
     tie.close
     (tie.spec
-    (λ c. let y = c .before .before in sym (third (y .before .before .before .if1 .taken) (y .if2 .taken)))
-    (λ c. sym (second _ (c .before .before .before .if1 .taken) (c .if2 .left)))
-    (λ c. sym (first _ _ (c .if1 .left))))
+    (λ c κs. search needs) (λ c κs. search needs) (λ c κs. search needs)
+    (λ c. search needs) (λ c κs. search needs) (λ c. search needs) (λ c κs. search needs) (λ c κs. search needs)
+    (λ c. search needs) (λ c κs. search needs) (λ c. search needs) (λ c κs. search needs) (λ c κs. search needs)
+    returns
+    returns-2
+    returns-3)

@@ -1,0 +1,40 @@
+-- Request Eight: what the limit of legs decides, and what it does not. Assumes nothing.
+use mathlib.Core.Path.{_≡_, refl}
+use mathlib.Core.Bool.{true}
+use mathlib.Core.List.{List}
+use Prim.Native.Nat.{ℕ, _≤_, _<_}
+use native.Mathlib.Omega.{arith}
+use borrow.Author.Tests.{lt-ltb, le-ltb, ne-eqb}
+use lib.ListN.{length}
+use Rattle.outcome.specs.declared.Outcome.the-variants.{LegCount}
+use Rattle.outcome.specs.Outcomes.{isDone, firstOf, left, lent}
+use Rattle.outcome.proofs.Tables.{in-turn}
+use Rattle.calls.specs.Entry.{tickTable, tickRefusal, tickFrom}
+use Rattle.route.specs.Form.{TRAILER-BYTES, MOST-LEGS, countOf, formTableTo}
+use Rattle.route.specs.Entry.{routeRefusal, routeCall, routeCallTo}
+
+-- ---- over any limit
+
+pub within-both : (most more : ℕ) (image input route answer : List ℕ) → countOf route ≤ most → countOf route ≤ more
+    → routeCallTo most image input route answer ≡ routeCallTo more image input route answer
+within-both most more image input route answer p q = rw (le-ltb _ _ p, le-ltb _ _ q)
+
+pub beyond : (most : ℕ) (route : List ℕ) → TRAILER-BYTES ≤ length route → most < countOf route → firstOf (formTableTo most route) ≡ LegCount
+beyond most route t h = rw (le-ltb _ _ t, ne-eqb (countOf route) 0 (λ e. omega (arith, h, e)), lt-ltb _ _ h)
+
+-- ---- the earlier release, of document 02's first request
+
+abbrev EARLIER : ℕ
+EARLIER = 8
+
+-- "A stored route of up to 8 legs keeps its bytes and flies the same."
+pub flies-the-same : (image input route answer : List ℕ) → countOf route ≤ EARLIER → routeCall image input route answer ≡ routeCallTo EARLIER image input route answer
+unfolding routeCall routeRefusal
+flies-the-same image input route answer h = within-both MOST-LEGS EARLIER image input route answer (omega (arith, h)) h
+
+-- "Ground tools of the earlier release refuse a longer one with 5 and show nothing of it": whatever its other bytes are
+pub earlier-shows-nothing : (image input route answer : List ℕ) → isDone (tickRefusal image (length input) (length answer)) ≡ true
+    → TRAILER-BYTES ≤ length route → EARLIER < countOf route → routeCallTo EARLIER image input route answer ≡ left LegCount (lent image answer)
+unfolding tickFrom tickRefusal
+earlier-shows-nothing image input route answer d t h =
+    rw (in-turn (tickTable image (length input) (length answer)) (formTableTo EARLIER route) refl, d, beyond EARLIER route t h)

@@ -5,6 +5,8 @@
 #                  INSTALL=no installs nothing for the picture
 # make log         a flight log as CSV on standard output, and its picture: `make log FILE=flights/pass-shield.log` (docs/FLYING.md);
 #                  with ENTER=0.03 EXIT=0.07 the picture has these thresholds; OUT and INSTALL as above
+# make explain     a flight log in words: who flew from which record to which and which margin made it so, and where the log's own flags differ:
+#                  `make explain FILE=flights/pass-shield.log ENTER=0.03 EXIT=0.07`; with CSV=yes as CSV (docs/FLYING.md)
 # make choices     the pass with other choices of set, filter and noise: what hangs on them
 # make test        the gate: proofs, must-fail edits, programs, the host's comparisons; its last line is `N passed, 0 failed`.
 #                  What the prover says is kept in gate/
@@ -23,7 +25,7 @@
 # make map         docs/MAP.md and docs/PROMISES.md anew, from the sources
 # make clean       removes all that was built, and no flight
 # make help        these lines
-.PHONY: fly log choices test table archives core exhaustive routines ticks answers bench stack dist docs map clean help
+.PHONY: fly log explain choices test table archives core exhaustive routines ticks answers bench stack dist docs map clean help
 
 CARGO = cargo
 HOST = cd host && $(CARGO)
@@ -37,6 +39,10 @@ log: core
 	@$(CARGO) build --manifest-path host/Cargo.toml --release --offline --quiet --package fly
 	@INSTALL=$(INSTALL) tools/gnuplot
 	@host/target/release/log $(if $(FILE),"$(FILE)") $(if $(ENTER),--enter "$(ENTER)") $(if $(EXIT),--exit "$(EXIT)") $(if $(OUT),--out "$(OUT)")
+
+explain: core
+	@$(CARGO) build --manifest-path host/Cargo.toml --release --offline --quiet --package fly
+	@host/target/release/explain $(if $(FILE),"$(FILE)") $(if $(ENTER),--enter "$(ENTER)") $(if $(EXIT),--exit "$(EXIT)") $(if $(filter yes,$(CSV)),--csv)
 
 choices: core
 	@$(CARGO) build --manifest-path host/Cargo.toml --release --offline --quiet --package fly

@@ -19,7 +19,7 @@ extern "C" {
 /* The version of this header; fosavalo_version() is the archive's. The second number is that of the last change request which both have: a request may
  * change what a word means and leave every length. */
 #define FOSAVALO_VERSION_MAJOR 0
-#define FOSAVALO_VERSION_MINOR 8
+#define FOSAVALO_VERSION_MINOR 9
 #define FOSAVALO_VERSION_PATCH 0
 #define FOSAVALO_VERSION_NUMBER ((FOSAVALO_VERSION_MAJOR << 16) + (FOSAVALO_VERSION_MINOR << 8) + FOSAVALO_VERSION_PATCH)
 #define FOSAVALO_VERSION FOSAVALO_TEXT(FOSAVALO_VERSION_MAJOR) "." FOSAVALO_TEXT(FOSAVALO_VERSION_MINOR) "." FOSAVALO_TEXT(FOSAVALO_VERSION_PATCH)
@@ -97,9 +97,10 @@ float fosavalo_cosf(float x);
 #define FOSAVALO_RECORD_BYTES 108
 #define FOSAVALO_LOG_TRAILER_BYTES 12
 #define FOSAVALO_MOST_RECORDS 65535
+#define FOSAVALO_MOST_MARGINS 65535
 
 /* What set-up, the exchange and the ticks return. Of 0 to 4 it is the lowest that holds; 5 to 7 come after 4, in the order that the route tick tells; 10
- * comes after 2. The log's calls tell theirs. */
+ * comes after 2. The log's calls and flags tell theirs. */
 #define FOSAVALO_DONE 0                 /* what the call writes is written: the image, at a tick the answer too, what a log's call tells */
 #define FOSAVALO_WRONG_IMAGE_LENGTH 1   /* image_len is not FOSAVALO_IMAGE_BYTES */
 #define FOSAVALO_WRONG_INPUT_LENGTH 2   /* input_len is not FOSAVALO_SETUP_BYTES, at a tick and an append FOSAVALO_TICK_BYTES; segment_len is not FOSAVALO_LEG_BYTES; count_len is not 4 */
@@ -109,7 +110,7 @@ float fosavalo_cosf(float x);
 #define FOSAVALO_WRONG_ROUTE_LENGTH 6   /* route tick only: under 8 bytes, or the bytes back or the length do not go with the count */
 #define FOSAVALO_LEGS_APART 7           /* route tick only: a leg does not start where the one before it ends */
 #define FOSAVALO_BROKEN_LOG 8           /* log only: the log's length and its three words do not go together */
-#define FOSAVALO_NO_ROOM 9              /* append only: under 108 bytes beyond the log, or FOSAVALO_MOST_RECORDS in it */
+#define FOSAVALO_NO_ROOM 9              /* append: under 108 bytes beyond the log, or FOSAVALO_MOST_RECORDS in it; flags: lengths */
 #define FOSAVALO_WRONG_PROFILE 10       /* set-up only: the profile is neither 0 nor 1 */
 #define FOSAVALO_NO_RECORD 13           /* record only: the log has no record at that place */
 #define FOSAVALO_WRONG_RECORD_LENGTH 14 /* record only: record_len is not FOSAVALO_RECORD_BYTES */
@@ -139,7 +140,8 @@ static inline const char *fosavalo_meaning(uint32_t number) {
         return "the log's length, its count, its bytes back and its last word, " FOSAVALO_TEXT(FOSAVALO_RECORD_BYTES) ", do not go together";
     case FOSAVALO_NO_ROOM:
         return "the buffer has no room for " FOSAVALO_TEXT(FOSAVALO_RECORD_BYTES) " bytes more, or the log has "
-               FOSAVALO_TEXT(FOSAVALO_MOST_RECORDS) " records";
+               FOSAVALO_TEXT(FOSAVALO_MOST_RECORDS) " records; or there is not a flag for each margin, or more than "
+               FOSAVALO_TEXT(FOSAVALO_MOST_MARGINS) " of them";
     case FOSAVALO_WRONG_PROFILE:
         return "the profile is neither 0 nor 1";
     case FOSAVALO_NO_RECORD:
@@ -327,6 +329,15 @@ uint32_t fosavalo_log_count(const uint8_t *log, size_t log_len, uint8_t *count, 
  * Returns 0; 14 if record_len is not FOSAVALO_RECORD_BYTES; then 8; then 13 if the place is at or beyond the count. Unless it is 0 no byte is
  * changed; the log never is. Each pointer has to be good for its length, whatever that is, and the two buffers must not overlap. */
 uint32_t fosavalo_log_record(const uint8_t *log, size_t log_len, uint64_t place, uint8_t *record, size_t record_len);
+
+/* Who flies at each margin of a list, with no latch: for each the list is looked back through for a release with no later engagement, as those do who explain a
+ * flight. The margins are words, as a record's last one; enter and exit are mended as at set-up; flags takes a byte for each margin, 1 the fallback and 0
+ * the planner. They are the flags of a fresh shield that is stepped by these margins. The time goes with the square of the count where no margin leaves the
+ * band between the thresholds: FOSAVALO_MOST_MARGINS of them may take seconds.
+ *
+ * Returns 0; or 9 if flags_len is above FOSAVALO_MOST_MARGINS or margins_len is not four times flags_len, and then no flag is written. An empty list
+ * is 0. Each pointer has to be good for its length, whatever that is, and the two buffers must not overlap. */
+uint32_t fosavalo_flags(const uint8_t *margins, size_t margins_len, float enter, float exit, uint8_t *flags, size_t flags_len);
 
 #ifdef __cplusplus
 }

@@ -15,6 +15,7 @@ use Rattle.fosavalo.proofs.fosavalo_route_tick
 use Rattle.fosavalo.proofs.fosavalo_log_append
 use Rattle.fosavalo.proofs.fosavalo_log_count
 use Rattle.fosavalo.proofs.fosavalo_log_record
+use Rattle.fosavalo.proofs.fosavalo_flags
 
 pub fosavalo-version-once : OneAnswer fosavalo_version.ended fosavalo_version.Reads.Post
 fosavalo-version-once κs a x y v w p q = (no-second p q, refl)
@@ -62,3 +63,8 @@ pub fosavalo-log-record-once : OneAnswer fosavalo_log_record.ended fosavalo_log_
 fosavalo-log-record-once κs a x y v w p q =
     let e = no-second p q in
     (ap (λ (f : Left ℕ (List ℕ)). f .outcome) e, both refl (both refl (both (ap (λ (f : Left ℕ (List ℕ)). f .later) e) refl)))
+
+pub fosavalo-flags-once : OneAnswer fosavalo_flags.ended fosavalo_flags.Reads.Post
+fosavalo-flags-once κs a x y v w p q =
+    let e = no-second p q in
+    (ap (λ (f : Left ℕ (List ℕ)). f .outcome) e, both refl (both refl (both refl (both (ap (λ (f : Left ℕ (List ℕ)). f .later) e) refl))))

@@ -6,13 +6,14 @@ ghost use Rattle.outcome.specs.Outcomes.{left, lent, number, numbered};
 ghost use Rattle.calls.specs.Entry.{tickRefusal, setUpCall, exchangeCall, tickCall};
 ghost use Rattle.route.specs.Entry.{routeCall};
 ghost use Rattle.log.specs.Entry.{appendCall, countCall, recordCall};
+ghost use Rattle.slow.specs.Entry.{flagsCall};
 
 // The version that this was built as: 65536 times its first number, 256 times its second, and its third.
 #[no_mangle]
 pub extern "C" fn fosavalo_version() -> u32
-    ensures { λ r. ⌜ r ≡ 0x0800 ⌝ }
+    ensures { λ r. ⌜ r ≡ 0x0900 ⌝ }
 {
-    0x0800
+    0x0900
 }
 
 // The sine of x, as `relay_math::sinf` has it.
@@ -105,4 +106,12 @@ pub extern "C" fn fosavalo_log_record(log: &[u8], place: u64, into: &mut [u8]) -
     ensures { λ r. ⌜ left r (now (into .exit)) ≡ numbered (recordCall (now (log .entry)) place (now (into .entry))) ⌝ }
 {
     outcome::number(log::record_into(log, place as usize, into))
+}
+
+// The flags of a list of margins, by looking back: the number of the outcome, and the flags' buffer as `slow::flags_into` leaves it.
+#[no_mangle]
+pub extern "C" fn fosavalo_flags(margins: &[u8], enter: f32, exit: f32, flags: &mut [u8]) -> u32
+    ensures { λ r. ⌜ left r (now (flags .exit)) ≡ numbered (flagsCall (now (margins .entry)) enter exit (now (flags .entry))) ⌝ }
+{
+    outcome::number(slow::flags_into(margins, enter, exit, flags))
 }

@@ -77,6 +77,9 @@ recoverable-set-margin-once κs a x y v w p q = (no-second p q, refl)
 pub recoverable-set-recoverable-once : OneAnswer set.RecoverableSet.recoverable.ended set.RecoverableSet.recoverable.Reads.Post
 recoverable-set-recoverable-once κs a x y v w p q = (no-second p q, refl)
 
+pub mend-once : OneAnswer shield.mend.ended shield.mend.Reads.Post
+mend-once κs a x y v w p q = (no-second p q, refl)
+
 pub simplex-shield-new-once : OneAnswer shield.SimplexShield.new.ended shield.SimplexShield.new.Reads.Post
 simplex-shield-new-once κs a x y v w p q = (no-second p q, refl)
 

@@ -25,6 +25,8 @@ pub use lent::Picked;
 pub use set::RecoverableSet;
 pub use shield::Shielded;
 pub use shield::SimplexShield;
+pub use shield::Thresholds;
+pub use shield::mend;
 pub use vectors::Direction;
 pub use vectors::GRAVITY_NED;
 pub use vectors::Mat3;

@@ -8,7 +8,8 @@ ghost use mathlib.Core.Path.{_≡_};
 ghost use Rattle.relay_geo.specs.Shield.{mendEnter, mendExit, mend, newShield, picked, step, filter};
 
 // Below `enter` the fallback takes over, above `exit` it hands back.
-struct Thresholds {
+#[repr(C)]
+pub struct Thresholds {
     pub enter: f32,
     pub exit: f32,
 }
@@ -46,7 +47,7 @@ fn mend_exit(enter: f32, exit: f32) -> f32
 }
 
 // Thresholds in a safe order, whatever is given.
-fn mend(enter: f32, exit: f32) -> Thresholds
+pub fn mend(enter: f32, exit: f32) -> Thresholds
     ensures { λ r. ⌜ r ≡ mend enter exit ⌝ }
 {
     let enter = mend_enter(enter);

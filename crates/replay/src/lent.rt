@@ -1,10 +1,11 @@
-// The calls on lent bytes: set-up, number 500, tick, 501, and route tick, 502; append to a log, 503, its count, 504, and a record of it, 505; exchange, 506.
-// A buffer is stored with more than the right length, so that a call can be lent too little or too much of it; what was not lent has to stay too.
+// The calls on lent bytes: set-up, number 500, tick, 501, and route tick, 502; append to a log, 503, its count, 504, and a record of it, 505; exchange, 506;
+// flags, 507. A buffer is stored with more than the right length, so that a call can be lent too little or too much of it; what was not lent has to stay too.
 use super::Verdict;
 use super::filled;
 use super::filled_to;
 use super::judged;
 use outcome::Outcome;
+use words::float_at;
 use words::word_at;
 
 // No number of the documents: the list lends more than there is.
@@ -28,6 +29,19 @@ fn next(buffer: &mut [u8]) -> Size {
     }
 }
 
+// The thresholds as words.
+fn flags(margins: &[u8], thresholds: &[u8], flags: &mut [u8]) -> Outcome {
+    if thresholds.len() < 8 {
+        return Outcome::InputLength;
+    }
+    slow::flags_into(
+        margins,
+        float_at(thresholds, 0),
+        float_at(thresholds, 1),
+        flags,
+    )
+}
+
 // A call takes those of the four that it has, and `at`, a log's length or a place in it.
 fn called(n: u32, a: &mut [u8], b: &[u8], c: &mut [u8], d: &[u8], at: usize) -> Outcome {
     match n {
@@ -37,7 +51,8 @@ fn called(n: u32, a: &mut [u8], b: &[u8], c: &mut [u8], d: &[u8], at: usize) -> 
         503 => log::append(a, at, b, d),
         504 => log::count_into(b, c),
         505 => log::record_into(b, at, c),
-        _ => calls::exchange(a, b),
+        506 => calls::exchange(a, b),
+        _ => flags(b, d, c),
     }
 }
 

@@ -5,6 +5,7 @@ mod angles;
 mod joint;
 mod log;
 mod route;
+mod slow;
 mod stack;
 
 use compare::println;
@@ -99,6 +100,18 @@ fn routes() -> bool {
     good
 }
 
+/// The slow shield's longest search, and the longest list with none.
+fn looked_back() -> bool {
+    let Some([far, near]) = slow::times() else {
+        println!("slow shield: a call is refused, or a flag is wrong");
+        return false;
+    };
+    let (name, within) = ("slow shield, 65,535 margins", far <= slow::BAR);
+    let verdict = if within { "within" } else { "OVER" };
+    println!("{name:48} far back: {far:5.2} s  not at all: {:5.2} ms  ({verdict} the bar of {} s)", near * 1e3, slow::BAR);
+    within
+}
+
 /// The stack of each call, the most over a slow pass, one with random headings and one with a rotor lost.
 fn stacks() -> bool {
     let runs = [joint::pass(), joint::headings(), joint::lost_rotor()];
@@ -171,6 +184,7 @@ fn main() {
     good &= angles::rows(&mut rng);
     good &= routes();
     good &= logs();
+    good &= looked_back();
     if !good {
         std::process::exit(1);
     }

@@ -6,12 +6,13 @@
 
 use crate::generate::{self, Kind, Part, Rng};
 use crate::joint;
-use crate::joint::bytes::{canonical, put, word, ANSWER, IMAGE, LEG, MOST_LEGS, PEAKS, PROFILE, SETUP, SETUP_PROFILE, TICK};
+use crate::joint::bytes::{canonical, float, put, word, ANSWER, IMAGE, LEG, MOST_LEGS, PEAKS, PROFILE, SETUP, SETUP_PROFILE, TICK};
 use crate::joint::fault::Fault;
 use crate::joint::lent::Lending;
 use crate::joint::model::{self, Flight};
 use crate::log::{self, RECORD};
 use crate::routine::Routine;
+use crate::slow;
 use crate::table;
 use std::path::PathBuf;
 
@@ -30,6 +31,9 @@ const TICKS: u64 = 30;
 const ROUTE_TICKS: u64 = 8;
 const EXCHANGES: u64 = 240;
 const LOGS: u64 = 40;
+const LISTS: u64 = 240;
+/// The most margins of a list whose flags are stored.
+const MARGINS: usize = 40;
 
 /// Where the list stands.
 pub fn path() -> Result<PathBuf, String> {
@@ -100,7 +104,7 @@ pub fn sections() -> Vec<Section> {
     }));
     all.extend([setups(), ticks(), route_ticks()]);
     all.extend(logs());
-    all.push(exchanges());
+    all.extend([exchanges(), flags()]);
     all
 }
 
@@ -304,6 +308,33 @@ fn exchanges() -> Section {
         })
     });
     Section::calls("exchange", 506, rows.collect())
+}
+
+/// Relay's own shield, stepped. Now and then a byte of the margins or a flag is lent too many or too few.
+fn flags() -> Section {
+    let rows = (0..LISTS).map(|n| {
+        let mut rng = Rng::new("stored flags", n);
+        let count = rng.below(MARGINS + 1);
+        let ((enter, exit), margins) = slow::drawn(&mut rng, count);
+        let near = |rng: &mut Rng, right: usize| match rng.below(16) {
+            0 => right + 1,
+            1 => right.saturating_sub(1),
+            _ => right,
+        };
+        let margins: Vec<u32> = margins.into_iter().map(f32::to_bits).collect();
+        let b = Lent { bytes: buffer(&mut rng, 4 * count + MORE, &margins), len: near(&mut rng, 4 * count) };
+        let c = Lent { bytes: buffer(&mut rng, 4 * (count / 4) + 2 * MORE, &[]), len: near(&mut rng, count) };
+        let d = Lent { bytes: slow::words(&[enter, exit]), len: 8 };
+        Call { a: Lent::NONE, b, c, d, at: 0 }.row(|_, margins, flags, _, _| {
+            if margins.len() != 4 * flags.len() {
+                return 9;
+            }
+            let margins: Vec<f32> = (0..flags.len()).map(|k| float(margins, k)).collect();
+            flags.copy_from_slice(&slow::stepped(&margins, enter, exit));
+            0
+        })
+    });
+    Section::calls("flags", 507, rows.collect())
 }
 
 /// Ticks from a set-up, the image handed on. Every other run is level, at rest, with no filter and turning as commanded, and its rate beside that

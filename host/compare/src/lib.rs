@@ -11,6 +11,7 @@ pub mod progress;
 pub mod routine;
 pub mod runs;
 pub mod said;
+pub mod slow;
 pub mod steps;
 pub mod table;
 pub mod threads;

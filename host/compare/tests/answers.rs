@@ -46,8 +46,8 @@ fn the_list_has_every_routine_every_number_and_both_controllers() {
     let sections = answers::sections();
     let all: usize = sections.iter().map(|section| section.rows.len()).sum();
     assert!(all >= 10_000, "{all} answers");
-    // 82 of the table, the root and the size, five figures, set-up, both ticks, the exchange, and a log's three calls
-    assert_eq!(sections.len(), 82 + 2 + 5 + 7);
+    // 82 of the table, the root and the size, five figures, set-up, both ticks, the exchange, a log's three calls, and flags
+    assert_eq!(sections.len(), 82 + 2 + 5 + 8);
     let numbers = |name: &str, all: &[u32], least: usize| {
         let rows = &named(&sections, name).rows;
         let count = |number: &u32| rows.iter().filter(|row| row.answer[0] == *number).count();
@@ -62,6 +62,7 @@ fn the_list_has_every_routine_every_number_and_both_controllers() {
     numbers("log append", &[0, 2, 3, 8, 9], 6);
     numbers("log count", &[0, 2, 8], 6);
     numbers("log record", &[0, 8, 13, 14], 6);
+    numbers("flags", &[0, 9], 30);
     // of an accepted tick: the flag, a margin of minus infinity, an infinite time; the answer stands after the number and the image
     let ticks = &named(&sections, "tick").rows;
     let seen = |at: usize, word: u32| ticks.iter().filter(|row| row.answer[0] == 0 && row.answer[ANSWER + at] == word).count();
@@ -102,6 +103,24 @@ fn the_route_ticks_are_on_every_part_of_a_route() {
     }
     println!("first leg, later leg, at an end, past all, many legs: {seen:?}");
     assert!(seen.into_iter().all(|n| n >= 8), "{seen:?}");
+}
+
+/// Of the flags that were written: the planner's and the fallback's, a list with both, and a list with none.
+#[test]
+fn the_flags_are_of_both_kinds() {
+    let sections = answers::sections();
+    let mut seen = [0; 4];
+    for row in named(&sections, "flags").rows.iter().filter(|row| row.answer[0] == 0) {
+        // after the sizes of `a`, those of `b` and its words
+        let lent = row.given[2 + 2 + row.given[2] as usize + 1] as usize;
+        let flags: Vec<u8> = row.answer[1..].iter().flat_map(|word| word.to_le_bytes()).take(lent).collect();
+        let [planner, fallback] = [0, 1].map(|flag| flags.iter().filter(|own| **own == flag).count());
+        assert_eq!(planner + fallback, lent);
+        let is = [planner, fallback, usize::from(planner > 0 && fallback > 0), usize::from(lent == 0)];
+        seen.iter_mut().zip(is).for_each(|(n, is)| *n += is);
+    }
+    println!("planner, fallback, both in a list, empty lists: {seen:?}");
+    assert!(seen[..3].iter().all(|n| *n >= 50) && seen[3] >= 1, "{seen:?}");
 }
 
 /// What the proved program prints of a list.

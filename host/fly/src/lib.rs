@@ -3,6 +3,7 @@
 pub mod aircraft;
 pub mod curve;
 pub mod exchange;
+pub mod explain;
 pub mod flight;
 pub mod legs;
 pub mod output;

@@ -4,12 +4,12 @@ use crate::flight::{Flight, Rule};
 use crate::picture::{Picture, Row};
 use crate::table::Pair;
 use crate::ticks::Ticks;
-use fosavalo::{Log, Record, Refusal, MOST_RECORDS};
-use std::io::{self, BufWriter, Write};
+use fosavalo::{Log, Record, Refusal, LOG_TRAILER_BYTES, MOST_RECORDS, RECORD_BYTES};
+use std::io::{self, BufWriter, Read, Write};
 use std::path::Path;
 
 /// Where in a record the flag is, the one word that is a whole number.
-const FLAG: usize = 17 + 6;
+pub const FLAG: usize = 17 + 6;
 
 /// What its files and its row of the picture are called.
 fn row(flight: &Flight) -> Row<'_> {
@@ -49,6 +49,14 @@ pub fn title(name: &str, ticks: &Ticks, thresholds: Option<(f32, f32)>) -> Strin
     let count = ticks.len();
     let band = thresholds.map_or(String::new(), |(enter, exit)| format!(", enter {}, exit {}", brief(enter), brief(exit)));
     format!("{name}: {} s in {count} tick{}{band}", seconds(ticks.seconds()), if count == 1 { "" } else { "s" })
+}
+
+/// A log's file, but no more of it than tells that it is too long for a log.
+pub fn read(file: &Path) -> io::Result<Vec<u8>> {
+    let most = MOST_RECORDS * RECORD_BYTES + LOG_TRAILER_BYTES;
+    let mut bytes = Vec::new();
+    std::fs::File::open(file)?.take(most as u64 + 1).read_to_end(&mut bytes)?;
+    Ok(bytes)
 }
 
 /// To standard output. A reader that wants no more of it, as `head`, is no mistake.

@@ -58,6 +58,7 @@ mod raw {
         ) -> u32;
         pub fn fosavalo_log_count(log: *const u8, log_len: usize, count: *mut u8, count_len: usize) -> u32;
         pub fn fosavalo_log_record(log: *const u8, log_len: usize, place: u64, record: *mut u8, record_len: usize) -> u32;
+        pub fn fosavalo_flags(margins: *const u8, margins_len: usize, enter: f32, exit: f32, flags: *mut u8, flags_len: usize) -> u32;
     }
 }
 
@@ -221,4 +222,19 @@ pub fn log_count(log: &[u8], count: &mut [u8]) -> u32 {
 pub fn log_record(log: &[u8], place: u64, record: &mut [u8]) -> u32 {
     // SAFETY: as above.
     unsafe { raw::fosavalo_log_record(log.as_ptr(), log.len(), place, record.as_mut_ptr(), record.len()) }
+}
+
+/// Who flies at each margin of a list, by looking back: margins as words in, a byte for each out, 1 the fallback and 0 the planner. Gives 0 or 9.
+///
+/// ```
+/// let margins = [1.5f32, 0.75, 0.25].map(f32::to_le_bytes).concat();
+/// let mut flags = [7; 3];
+/// assert_eq!(fosavalo::calls::flags(&margins, 0.5, 1.0, &mut flags), 0);
+/// assert_eq!(flags, [0, 0, 1]);
+/// assert_eq!(fosavalo::calls::flags(&margins[1..], 0.5, 1.0, &mut flags), 9); // a word that is short of a byte
+/// ```
+#[inline]
+pub fn flags(margins: &[u8], enter: f32, exit: f32, flags: &mut [u8]) -> u32 {
+    // SAFETY: as above.
+    unsafe { raw::fosavalo_flags(margins.as_ptr(), margins.len(), enter, exit, flags.as_mut_ptr(), flags.len()) }
 }

@@ -27,6 +27,7 @@
 //! | a path of several legs | [`Leg`], [`Route`], [`Image::route_tick`] |
 //! | another segment in flight, and the peaks of its jerk | [`Image::exchange`], [`Image::peak_abs_jerk`] |
 //! | ticks to keep, or a flight to look at | [`Log`], [`LogView`], [`Record`] |
+//! | margins, to explain who flew | [`looked_back`] |
 //! | bytes of your own | [`calls`]: the C calls as they are, on slices |
 //! | a refusal's number | [`Refusal`] |
 //! | an angle | [`sinf`], [`cosf`] |
@@ -52,6 +53,7 @@ mod mended;
 mod refusal;
 mod route;
 mod setup;
+mod slow;
 mod tick;
 mod words;
 
@@ -63,6 +65,7 @@ pub use mended::Mended;
 pub use refusal::Refusal;
 pub use route::{Leg, Route};
 pub use setup::{AdrcGains, Gains, Governor, GyroFilter, Profile, RecoverableSet, Segment, SetUp};
+pub use slow::looked_back;
 pub use tick::{Answer, BodyRate, Pilot, TickInput, Torque};
 
 /// The length of an image.
@@ -85,6 +88,8 @@ pub const RECORD_BYTES: usize = TICK_BYTES + ANSWER_BYTES;
 pub const LOG_TRAILER_BYTES: usize = 12;
 /// The most records that a log has.
 pub const MOST_RECORDS: usize = 65_535;
+/// The most margins that are looked back through.
+pub const MOST_MARGINS: usize = 65_535;
 /// A log of no record: no count, nothing back, and the length of a record.
 pub const EMPTY_LOG: [u8; LOG_TRAILER_BYTES] = [0, 0, 0, 0, 0, 0, 0, 0, RECORD_BYTES as u8, 0, 0, 0];
 

@@ -1,4 +1,4 @@
-use crate::{FloatFault, ANSWER_BYTES, IMAGE_BYTES, LEG_BYTES, MOST_LEGS, MOST_RECORDS};
+use crate::{FloatFault, ANSWER_BYTES, IMAGE_BYTES, LEG_BYTES, MOST_LEGS, MOST_MARGINS, MOST_RECORDS};
 use crate::{RECORD_BYTES, ROUTE_TRAILER_BYTES, SETUP_BYTES, TICK_BYTES};
 use core::fmt;
 
@@ -40,7 +40,8 @@ pub enum Refusal {
     LegsApart(Option<usize>),
     /// 8: a log's length and its last three words do not go together.
     BrokenLog,
-    /// 9: the buffer has under 108 bytes beyond the log, or the log has 65,535 records.
+    /// 9: the buffer has under 108 bytes beyond the log, or the log has 65,535 records; or there is not a flag for each margin, or more than
+    /// 65,535 of them.
     NoRoom,
     /// 10: the profile of a set-up is neither 0 nor 1.
     WrongProfile,
@@ -137,7 +138,11 @@ impl fmt::Display for Meaning {
             Refusal::BrokenLog => {
                 write!(f, "the log's length, its count, its bytes back and its last word, {RECORD_BYTES}, do not go together")
             }
-            Refusal::NoRoom => write!(f, "the buffer has no room for {RECORD_BYTES} bytes more, or the log has {MOST_RECORDS} records"),
+            Refusal::NoRoom => write!(
+                f,
+                "the buffer has no room for {RECORD_BYTES} bytes more, or the log has {MOST_RECORDS} records; or there is not a flag for each \
+                 margin, or more than {MOST_MARGINS} of them"
+            ),
             Refusal::WrongProfile => f.write_str("the profile is neither 0 nor 1"),
             Refusal::NoRecord => f.write_str("the log has no record at that place"),
             Refusal::RecordLength => write!(f, "the record is not {RECORD_BYTES} bytes long"),

@@ -1,8 +1,8 @@
 //! Any bytes at all: nothing panics, what is written is read back, and the typed calls are the C calls.
 
-use fosavalo::{calls, Answer, Image, Leg, Log, LogView, Profile, Record, Refusal, Route, SetUp, TickInput, EMPTY_LOG};
+use fosavalo::{calls, looked_back, Answer, Image, Leg, Log, LogView, Pilot, Profile, Record, Refusal, Route, SetUp, TickInput, EMPTY_LOG};
 use fosavalo::{ANSWER_BYTES, IMAGE_BYTES, LEG_BYTES, MOST_LEGS, ROUTE_TRAILER_BYTES, SETUP_BYTES, TICK_BYTES};
-use fosavalo::{LOG_TRAILER_BYTES, MOST_RECORDS, RECORD_BYTES};
+use fosavalo::{LOG_TRAILER_BYTES, MOST_MARGINS, MOST_RECORDS, RECORD_BYTES};
 
 /// Bytes that look like anything: random ones, with words of special floats among them.
 struct Bytes(u64);
@@ -281,4 +281,24 @@ fn refusals() {
         assert_eq!(refusal.number(), Some(number));
         assert!(refusal.to_string().contains(&format!("({number}): ")));
     }
+}
+
+/// Any words as margins and thresholds: the typed call is the C call, a pilot for each margin, and too many are refused.
+#[test]
+fn flags_of_any_margins() {
+    let (mut rng, mut seen) = (Bytes(7), [0u32; 2]);
+    for length in (0..400).chain([MOST_MARGINS]) {
+        let mut words = vec![0; 4 * length + 8];
+        rng.fill(&mut words);
+        let (thresholds, margins) = words.split_at(8);
+        let given: Vec<f32> = floats(thresholds).collect();
+        let mut flags = vec![7; length];
+        assert_eq!(calls::flags(margins, given[0], given[1], &mut flags), 0);
+        let typed = looked_back(&floats(margins).collect::<Vec<f32>>(), given[0], given[1]).expect("it is not too long");
+        let pilots = flags.iter().map(|flag| [Pilot::Planner, Pilot::Fallback][usize::from(*flag)]);
+        assert!(pilots.eq(typed));
+        flags.iter().for_each(|flag| seen[usize::from(*flag)] += 1);
+    }
+    assert!(seen.iter().all(|count| *count > 1000), "{seen:?}");
+    assert_eq!(looked_back(&vec![1.0; MOST_MARGINS + 1], 0.5, 1.0), Err(Refusal::NoRoom));
 }

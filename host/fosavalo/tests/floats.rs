@@ -1,7 +1,7 @@
 //! Floating-point environments that the core does not compute in: each is told, and nothing is made or changed.
 #![cfg(target_arch = "x86_64")]
 
-use fosavalo::{calls, FloatFault, GyroFilter, Image, Leg, Refusal, Route, SetUp, TickInput, IMAGE_BYTES};
+use fosavalo::{calls, looked_back, FloatFault, GyroFilter, Image, Leg, Refusal, Route, SetUp, TickInput, IMAGE_BYTES};
 use std::arch::asm;
 
 /// The bits of MXCSR: operands that are subnormal count as zero, results that are become zero, and the direction of rounding.
@@ -102,9 +102,10 @@ fn what_computes_is_refused_there() {
                 image.check().err(),
                 Route::new(&legs).err(),
                 Route::from_bytes(route.as_bytes()).err(),
+                looked_back(&[], 0.5, 1.0).err(),
             ]
         });
-        assert_eq!(said, [refused; 6], "{bits:x}");
+        assert_eq!(said, [refused; 7], "{bits:x}");
         assert_eq!(image, fresh, "nothing is changed");
         // bytes alone are taken: nothing is computed
         let (taken, _) = under(bits, || Image::from_bytes(fresh.as_bytes()));

@@ -1,12 +1,13 @@
 //! `log FILE`: a flight log as CSV, and its picture.
 
-use fly::output::{csv, name, note, print, title};
+use fly::explain::mended;
+use fly::output::{csv, name, note, print, read, title};
 use fly::picture::{Picture, Row};
 use fly::scenario::number;
 use fly::ticks::Ticks;
-use fosavalo::{Image, LogView, SetUp, LOG_TRAILER_BYTES, MOST_RECORDS, RECORD_BYTES};
+use fosavalo::LogView;
 use std::ffi::OsString;
-use std::io::{self, Read, Write};
+use std::io::{self, Write};
 use std::path::{Path, PathBuf};
 use std::process::ExitCode;
 
@@ -60,10 +61,7 @@ fn run(mut words: impl Iterator<Item = OsString>) -> Result<(), String> {
     }
     let file = file.ok_or("which log? as in `make log FILE=flights/pass-shield.log` (log --help)")?;
     let thresholds = match (enter, exit) {
-        (Some(enter), Some(exit)) => {
-            let image = Image::set_up(&SetUp { enter, exit, ..SetUp::falcon_quad() }).map_err(|refusal| refusal.to_string())?;
-            Some((image.enter(), image.exit()))
-        }
+        (Some(enter), Some(exit)) => Some(mended(enter, exit).map_err(|refusal| refusal.to_string())?),
         (None, None) => None,
         _ => return Err("--enter and --exit go together".to_string()),
     };
@@ -73,14 +71,6 @@ fn run(mut words: impl Iterator<Item = OsString>) -> Result<(), String> {
     let ticks = Ticks::of(log);
     print(|to| csv(ticks.iter().map(|tick| tick.seconds).zip(log), to))?;
     draw(&file, &folder, &ticks, thresholds).map(|said| note(&said)).map_err(|error| format!("{}: {error}", folder.display()))
-}
-
-/// The file, but no more of it than tells that it is too long for a log.
-fn read(file: &Path) -> io::Result<Vec<u8>> {
-    let most = MOST_RECORDS * RECORD_BYTES + LOG_TRAILER_BYTES;
-    let mut bytes = Vec::new();
-    std::fs::File::open(file)?.take(most as u64 + 1).read_to_end(&mut bytes)?;
-    Ok(bytes)
 }
 
 fn draw(file: &Path, folder: &Path, ticks: &Ticks, thresholds: Option<(f32, f32)>) -> io::Result<String> {

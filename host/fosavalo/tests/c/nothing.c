@@ -29,6 +29,9 @@ int main(void) {
         fosavalo_log_count(NULL, 0, count, sizeof count),
         fosavalo_log_record(NULL, 0, 0, NULL, 0),
         fosavalo_log_record(NULL, 0, 0, record, sizeof record),
+        fosavalo_flags(NULL, 0, 0.5f, 1.0f, NULL, 0),
+        fosavalo_flags(NULL, 0, 0.5f, 1.0f, count, sizeof count),
+        fosavalo_flags(log, sizeof log, 0.5f, 1.0f, NULL, 0),
     };
     for (size_t k = 0; k < sizeof said / sizeof said[0]; k++) printf("%u ", (unsigned)said[k]);
     puts(memcmp(before, image, sizeof before) ? "changed" : "unchanged");

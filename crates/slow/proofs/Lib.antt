@@ -1,0 +1,5 @@
+pub mod Slow
+pub mod Walk
+pub mod Words
+pub mod Call
+pub mod OneAnswer

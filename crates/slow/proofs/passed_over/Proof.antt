@@ -1,0 +1,51 @@
+-- `slow::passed_over`: what the first i margins say is what all say. Assumes nothing.
+use borrow.Author.Needs.{needs}
+use mathlib.Core.Path.{_≡_, refl, ap, _∙_}
+use Prim.Native.Nat.{_≤_}
+use native.Mathlib.Omega.{arith}
+use Rattle.laws.proofs.Tests.{held}
+use Rattle.words.specs.Words.{floatOf, float}
+use Rattle.slow.specs.Back.{lookBack}
+use Rattle.slow.specs.Entry.{marginsOf}
+use Rattle.slow.proofs.Walk.{goes-on}
+use Rattle.slow.proofs.Words.{in-band-word}
+use Rattle.slow.proofs.passed_over.Statement.{statement}
+use Rattle.slow.proofs.passed_over.Tie as tie
+
+abbrev Inv-loop : tie.InvT-loop
+Inv-loop margins enter exit count lo hi i₀ i = (i ≤ count) × (lookBack enter exit (marginsOf margins) i ≡ lookBack enter exit (marginsOf margins) count)
+
+abbrev μ-loop : tie.MeasureT-loop
+μ-loop margins enter exit count lo hi i₀ i = i
+
+loop-again : tie.Need-loop-again Inv-loop μ-loop
+unfolding float
+loop-again c =
+    let read = c .before .before in
+    let turn = read .before in
+    let hi = turn .before .before .before in
+    let lo = hi .before in
+    let start = lo .before .before in
+    let pre = start .pre in (
+      omega arith,
+      goes-on _ _ (pre .1 .0) (pre .1 .1) _ _ (turn .loop-test .taken) (omega arith) _ (ap floatOf (read .word-at .ensures))
+          (in-band-word _ _ (held (start .good .1 .0 .1)) (held (start .good .1 .1 .0 .1)) _ (omega (arith, lo .bits-of .ensures)) (omega (arith, hi .bits-of2 .ensures)) (omega (arith, hi .bits-of2 .ensures)))
+          ∙ turn .before .loop .inv .1,
+    )
+
+pub passed-over-spec : {M : Type 1} → statement M
+passed-over-spec =
+    tie.close
+    (tie.spec Inv-loop μ-loop
+    (λ c κs. search needs)
+    (λ c κs. search needs)
+    (λ c. (omega arith, refl))
+    (λ c. (omega arith, refl))
+    (λ c. omega arith)
+    (λ c κs. omega arith)
+    (λ c. c .before .before .before .loop .inv)
+    (λ c. c .before .before .before .before .loop .inv)
+    (λ c. omega arith)
+    (λ c. omega arith)
+    loop-again
+    (λ c. c .before .loop .inv))

@@ -1,0 +1,155 @@
+//! A flight explained, and the command `explain`.
+
+use fly::explain::{mended, Cause, Explained};
+use fly::flight::{Flight, Rule};
+use fly::output;
+use fly::pass;
+use fly::scenario::Scenario;
+use fosavalo::{Answer, Log, Pilot, TickInput, ANSWER_BYTES};
+use std::path::PathBuf;
+use std::process::{Command, Output};
+
+/// A log of these margins and flags, a tick each hundredth of a second.
+fn log(margins: &[f32], flags: &[u32]) -> Log {
+    let mut log = Log::new();
+    let input = TickInput { dt: 0.01, ..TickInput::default() };
+    for (margin, flag) in margins.iter().zip(flags) {
+        let mut answer = [0; ANSWER_BYTES];
+        answer[24..28].copy_from_slice(&flag.to_le_bytes());
+        answer[36..40].copy_from_slice(&margin.to_le_bytes());
+        log.append_bytes(&input.to_bytes(), &answer).expect("it fits");
+    }
+    log
+}
+
+fn told(log: &Log, enter: f32, exit: f32) -> (String, String) {
+    let explained = Explained::of(log.view(), enter, exit).expect("no log is refused");
+    let (mut text, mut csv) = (Vec::new(), Vec::new());
+    explained.tell(&mut text).expect("a vector takes all");
+    explained.csv(&mut csv).expect("a vector takes all");
+    (String::from_utf8(text).expect("it is text"), String::from_utf8(csv).expect("it is text"))
+}
+
+const MARGINS: [f32; 8] = [0.0625, 0.125, 0.0625, 0.03125, 0.0078125, f32::NAN, 0.25, f32::INFINITY];
+const FLAGS: [u32; 8] = [1, 0, 1, 2, 1, 1, 0, 1];
+
+/// Every sentence, worked out by hand: enter is 1/64 and exit 1/16.
+#[test]
+fn by_hand() {
+    let (text, csv) = told(&log(&MARGINS, &FLAGS), 0.015625, 0.0625);
+    assert_eq!(
+        text,
+        "The log has 8 records. The planner is released by a margin above 0.0625, and relieved by one below 0.015625 or not finite.
+Record 1, at 0.000 s: the fallback flew. A fresh shield starts so, and no margin was above 0.0625. The margin was 0.0625.
+Records 2 to 4, 0.010 s to 0.030 s: the planner flew. The margin of record 2, 0.125, released it: it is above 0.0625. Margins went from 0.03125 to 0.125.
+Records 5 to 6, 0.040 s to 0.050 s: the fallback flew. The margin of record 5, 0.0078125, engaged it: it is below 0.015625. The margin was 0.0078125, and 1 was not finite.
+Record 7, at 0.060 s: the planner flew. The margin of record 7, 0.25, released it: it is above 0.0625. The margin was 0.25.
+Record 8, at 0.070 s: the fallback flew. The margin of record 8, inf, engaged it: it is not finite. No margin was finite.
+The log's own flags say otherwise at 2 records: 3 to 4.
+"
+    );
+    assert_eq!(
+        csv,
+        "from,to,from_seconds,to_seconds,pilot,cause,margin,least,greatest,not_finite,flags_differ
+1,1,0.000000,0.000000,fallback,start,0.0625,0.0625,0.0625,0,0
+2,4,0.010000,0.030000,planner,above_exit,0.125,0.03125,0.125,0,2
+5,6,0.040000,0.050000,fallback,below_enter,0.0078125,0.0078125,0.0078125,1,0
+7,7,0.060000,0.060000,planner,above_exit,0.25,0.25,0.25,0,0
+8,8,0.070000,0.070000,fallback,not_finite,inf,,,1,0
+"
+    );
+}
+
+#[test]
+fn the_shortest() {
+    assert_eq!(told(&log(&[], &[]), 0.5, 1.0).0, "The log has no record.\n");
+    let (text, _) = told(&log(&[2.0], &[1]), 0.5, 1.0);
+    assert!(text.starts_with("The log has one record. "), "{text}");
+    assert!(text.ends_with("\nThe log's own flag says otherwise at one record: 1.\n"), "{text}");
+    let (text, _) = told(&log(&[2.0], &[0]), 0.5, 1.0);
+    assert!(text.ends_with("\nThe log's own flags say the same at every record.\n"), "{text}");
+    // nothing that is kept is given: 0.1, and twice that
+    assert!(told(&log(&[2.0], &[0]), f32::NAN, -1.0).0.contains("above 0.2, and relieved by one below 0.1 "));
+}
+
+fn flown(scenario: &[u8]) -> (Flight, Scenario) {
+    let scenario = Scenario::read(scenario).expect("it is a scenario");
+    let flight = Flight::of(&scenario.set_up, Rule::Shield, scenario.route.clone(), &scenario.inputs).expect("no set-up is refused");
+    (flight, scenario)
+}
+
+/// The stretches take every record once and in order, and change hands where the shield that flew did: nothing differs.
+#[test]
+fn a_flight_by_the_shield() {
+    for scenario in [
+        &include_bytes!("../scenarios/band.txt")[..],
+        include_bytes!("../scenarios/headings.txt"),
+        include_bytes!("../scenarios/route.txt"),
+    ] {
+        let (flight, scenario) = flown(scenario);
+        let log = output::log(&flight).expect("it fits");
+        let explained = Explained::of(log.view(), scenario.set_up.enter, scenario.set_up.exit).expect("no log is refused");
+        let pilots: Vec<Pilot> = explained.stretches.iter().flat_map(|s| vec![s.pilot; s.to + 1 - s.from]).collect();
+        assert_eq!(pilots, flight.ticks.iter().map(|tick| tick.answer.pilot).collect::<Vec<_>>());
+        assert_eq!(explained.differ, []);
+        let starts: Vec<usize> = explained.stretches.iter().skip(1).map(|s| s.from).collect();
+        assert_eq!(starts, flight.ticks.changes());
+    }
+}
+
+/// The earlier rule hands back within the band: there its flags differ, and nowhere else.
+#[test]
+fn a_flight_by_the_earlier_rule() {
+    let flight = pass::fly(&pass::SHOWN, pass::DRAWN, Rule::Earlier).expect("no pass is refused");
+    let log = output::log(&flight).expect("it fits");
+    let (enter, exit) = (pass::SHOWN.enter, pass::SHOWN.exit);
+    let explained = Explained::of(log.view(), enter, exit).expect("no log is refused");
+    let (low, high) = mended(enter, exit).expect("it is set up");
+    let mut engaged = true;
+    let mut expected = Vec::new();
+    for (at, tick) in flight.ticks.iter().enumerate().take(log.len()) {
+        let Answer { margin, pilot, .. } = tick.answer;
+        engaged = if engaged { !(margin.is_finite() && margin > high) } else { !margin.is_finite() || margin < low };
+        if engaged != (pilot == Pilot::Fallback) {
+            expected.push(at);
+        }
+    }
+    let differ: Vec<usize> = explained.differ.iter().flat_map(|(from, to)| *from..=*to).collect();
+    assert!(differ == expected && !differ.is_empty());
+    assert_eq!(differ.len(), explained.stretches.iter().map(|s| s.differ).sum::<usize>());
+    assert!(explained.stretches.iter().skip(1).all(|s| s.cause != Cause::Start));
+}
+
+fn command(arguments: &[&str], folder: &PathBuf) -> Output {
+    Command::new(checkout::program("explain")).args(arguments).current_dir(folder).output().expect("it runs")
+}
+
+fn said(output: &Output) -> (Option<i32>, String, String) {
+    let text = |bytes: &[u8]| String::from_utf8_lossy(bytes).into_owned();
+    (output.status.code(), text(&output.stdout), text(&output.stderr))
+}
+
+#[test]
+fn the_command() {
+    let folder = checkout::scratch("explains");
+    let log = log(&MARGINS, &FLAGS);
+    std::fs::write(folder.join("flown.log"), log.as_bytes()).expect("it is written");
+    std::fs::write(folder.join("bad.log"), [0; 12]).expect("it is written");
+    let (text, csv) = told(&log, 0.015625, 0.0625);
+    let given = ["flown.log", "--enter", "0.015625", "--exit", "0.0625"];
+    assert_eq!(said(&command(&given, &folder)), (Some(0), text, String::new()));
+    assert_eq!(said(&command(&[&given[..], &["--csv"]].concat(), &folder)), (Some(0), csv, String::new()));
+    let refusal = fosavalo::LogView::from_bytes(&[0; 12]).expect_err("it is no log");
+    for (arguments, what) in [
+        (&["bad.log", "--enter", "1", "--exit", "2"][..], format!("explain: bad.log: {refusal}\n")),
+        (&["missing.log", "--enter", "1", "--exit", "2"], "explain: missing.log: ".to_string()),
+        (&[], "explain: which log?".to_string()),
+        (&["flown.log", "--enter", "1"], "explain: which thresholds?".to_string()),
+        (&["flown.log", "--exit", "one"], "explain: --exit: `one` is no number\n".to_string()),
+        (&["a", "b"], "explain: one log at a time".to_string()),
+        (&["--other"], "explain: `--other` is no option".to_string()),
+    ] {
+        let (code, out, err) = said(&command(arguments, &folder));
+        assert_eq!((code, out.as_str(), err.starts_with(&what)), (Some(2), "", true), "{err}");
+    }
+}

@@ -7,6 +7,8 @@
 #                  with ENTER=0.03 EXIT=0.07 the picture has these thresholds; OUT and INSTALL as above
 # make explain     a flight log in words: who flew from which record to which and which margin made it so, and where the log's own flags differ:
 #                  `make explain FILE=flights/pass-shield.log ENTER=0.03 EXIT=0.07`; with CSV=yes as CSV (docs/FLYING.md)
+# make check       flight logs of whatever box: whether each follows the shield's rule, or its first wrong record and what is wrong with it; files or folders:
+#                  `make check LOGS="flights/pass-shield.log night" ENTER=0.03 EXIT=0.07`; with PROFILE=lost-rotor as flown with a rotor lost (docs/FLYING.md)
 # make choices     the pass with other choices of set, filter and noise: what hangs on them
 # make test        the gate: proofs, must-fail edits, programs, the host's comparisons; its last line is `N passed, 0 failed`.
 #                  What the prover says is kept in gate/
@@ -25,7 +27,7 @@
 # make map         docs/MAP.md and docs/PROMISES.md anew, from the sources
 # make clean       removes all that was built, and no flight
 # make help        these lines
-.PHONY: fly log explain choices test table archives core exhaustive routines ticks answers bench stack dist docs map clean help
+.PHONY: fly log explain check choices test table archives core exhaustive routines ticks answers bench stack dist docs map clean help
 
 CARGO = cargo
 HOST = cd host && $(CARGO)
@@ -43,6 +45,10 @@ log: core
 explain: core
 	@$(CARGO) build --manifest-path host/Cargo.toml --release --offline --quiet --package fly
 	@host/target/release/explain $(if $(FILE),"$(FILE)") $(if $(ENTER),--enter "$(ENTER)") $(if $(EXIT),--exit "$(EXIT)") $(if $(filter yes,$(CSV)),--csv)
+
+check: core
+	@$(CARGO) build --manifest-path host/Cargo.toml --release --offline --quiet --package fly
+	@host/target/release/check $(LOGS) $(if $(ENTER),--enter "$(ENTER)") $(if $(EXIT),--exit "$(EXIT)") $(if $(PROFILE),--profile "$(PROFILE)")
 
 choices: core
 	@$(CARGO) build --manifest-path host/Cargo.toml --release --offline --quiet --package fly

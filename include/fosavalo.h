@@ -19,7 +19,7 @@ extern "C" {
 /* The version of this header; fosavalo_version() is the archive's. The second number is that of the last change request which both have: a request may
  * change what a word means and leave every length. */
 #define FOSAVALO_VERSION_MAJOR 0
-#define FOSAVALO_VERSION_MINOR 9
+#define FOSAVALO_VERSION_MINOR 10
 #define FOSAVALO_VERSION_PATCH 0
 #define FOSAVALO_VERSION_NUMBER ((FOSAVALO_VERSION_MAJOR << 16) + (FOSAVALO_VERSION_MINOR << 8) + FOSAVALO_VERSION_PATCH)
 #define FOSAVALO_VERSION FOSAVALO_TEXT(FOSAVALO_VERSION_MAJOR) "." FOSAVALO_TEXT(FOSAVALO_VERSION_MINOR) "." FOSAVALO_TEXT(FOSAVALO_VERSION_PATCH)
@@ -103,7 +103,7 @@ float fosavalo_cosf(float x);
  * comes after 2. The log's calls and flags tell theirs. */
 #define FOSAVALO_DONE 0                 /* what the call writes is written: the image, at a tick the answer too, what a log's call tells */
 #define FOSAVALO_WRONG_IMAGE_LENGTH 1   /* image_len is not FOSAVALO_IMAGE_BYTES */
-#define FOSAVALO_WRONG_INPUT_LENGTH 2   /* input_len is not FOSAVALO_SETUP_BYTES, at a tick and an append FOSAVALO_TICK_BYTES; segment_len is not FOSAVALO_LEG_BYTES; count_len is not 4 */
+#define FOSAVALO_WRONG_INPUT_LENGTH 2   /* input_len is not FOSAVALO_SETUP_BYTES, at a tick and an append FOSAVALO_TICK_BYTES; segment_len is not FOSAVALO_LEG_BYTES; count_len or verdict_len is not 4 */
 #define FOSAVALO_WRONG_ANSWER_LENGTH 3  /* ticks and append: answer_len is not FOSAVALO_ANSWER_BYTES */
 #define FOSAVALO_BROKEN_IMAGE 4         /* ticks and exchange: no call leaves such an image */
 #define FOSAVALO_WRONG_LEG_COUNT 5      /* route tick only: the count is 0 or above FOSAVALO_MOST_LEGS */
@@ -111,7 +111,7 @@ float fosavalo_cosf(float x);
 #define FOSAVALO_LEGS_APART 7           /* route tick only: a leg does not start where the one before it ends */
 #define FOSAVALO_BROKEN_LOG 8           /* log only: the log's length and its three words do not go together */
 #define FOSAVALO_NO_ROOM 9              /* append: under 108 bytes beyond the log, or FOSAVALO_MOST_RECORDS in it; flags: lengths */
-#define FOSAVALO_WRONG_PROFILE 10       /* set-up only: the profile is neither 0 nor 1 */
+#define FOSAVALO_WRONG_PROFILE 10       /* set-up and the check of a log: the profile is neither 0 nor 1 */
 #define FOSAVALO_NO_RECORD 13           /* record only: the log has no record at that place */
 #define FOSAVALO_WRONG_RECORD_LENGTH 14 /* record only: record_len is not FOSAVALO_RECORD_BYTES */
 
@@ -124,7 +124,7 @@ static inline const char *fosavalo_meaning(uint32_t number) {
         return "the image is not " FOSAVALO_TEXT(FOSAVALO_IMAGE_BYTES) " bytes long";
     case FOSAVALO_WRONG_INPUT_LENGTH:
         return "the input is not " FOSAVALO_TEXT(FOSAVALO_SETUP_BYTES) " bytes long at set-up, " FOSAVALO_TEXT(FOSAVALO_LEG_BYTES)
-               " at an exchange, " FOSAVALO_TEXT(FOSAVALO_TICK_BYTES) " at a tick and in a log, or a log's count is not 4";
+               " at an exchange, " FOSAVALO_TEXT(FOSAVALO_TICK_BYTES) " at a tick and in a log, or what takes a log's count or its verdict is not 4";
     case FOSAVALO_WRONG_ANSWER_LENGTH:
         return "the answer is not " FOSAVALO_TEXT(FOSAVALO_ANSWER_BYTES) " bytes long";
     case FOSAVALO_BROKEN_IMAGE:
@@ -329,6 +329,19 @@ uint32_t fosavalo_log_count(const uint8_t *log, size_t log_len, uint8_t *count, 
  * Returns 0; 14 if record_len is not FOSAVALO_RECORD_BYTES; then 8; then 13 if the place is at or beyond the count. Unless it is 0 no byte is
  * changed; the log never is. Each pointer has to be good for its length, whatever that is, and the two buffers must not overlap. */
 uint32_t fosavalo_log_record(const uint8_t *log, size_t log_len, uint64_t place, uint8_t *record, size_t record_len);
+
+/* Whether a log, of any box that writes this form, is right: one word, little-endian, into the 4 bytes of verdict. It is FOSAVALO_LOG_RIGHT, or else the place of
+ * the first wrong record, counted from 0.
+ *
+ * A record is right if its flag is the one that the margins of the records up to and including it demand of a fresh shield; if that is 0, its command is its
+ * own planner's words, in bits, a word that is not finite made 0 (with FOSAVALO_LOST_ROTOR the third is 0); if it is 1, its command's words are finite. Torque, time and
+ * psi are not looked at. profile, enter and exit are those of the set-up, FOSAVALO_WHOLE or FOSAVALO_LOST_ROTOR and the two as they were given to it: a log does not
+ * tell them. An empty log is right, and so is any log of every tick since a set-up of ours. One that begins in mid-flight need not be.
+ *
+ * Returns 0; 2 if verdict_len is not 4; then 8; then 10. Unless it is 0 no byte is changed; the log never is. Each pointer has to be good for its length,
+ * whatever that is, and the two buffers must not overlap. */
+#define FOSAVALO_LOG_RIGHT 0xffffffffu
+uint32_t fosavalo_log_check(const uint8_t *log, size_t log_len, uint32_t profile, float enter, float exit, uint8_t *verdict, size_t verdict_len);
 
 /* Who flies at each margin of a list, with no latch: for each the list is looked back through for a release with no later engagement, as those do who explain a
  * flight. The margins are words, as a record's last one; enter and exit are mended as at set-up; flags takes a byte for each margin, 1 the fallback and 0

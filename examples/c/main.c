@@ -1,5 +1,5 @@
 /* Asks whether the archive and this thread's floating-point environment are right; sets up an image, ticks it along a slow pass, keeps a log of it and
- * prints who flies; then reads the log back, ticks on a route of two legs, exchanges the segment in flight, makes calls that are refused, and sets up for a lost rotor.
+ * prints who flies; then reads the log back and checks it, ticks on a route of two legs, exchanges the segment in flight, makes calls that are refused, and sets up for a lost rotor.
  *
  *   gcc -std=c11 -Wall -Wextra -Werror -I../../include main.c ../../target/staticlib/libfosavalo.a -o joint && ./joint
  */
@@ -126,6 +126,10 @@ int main(void) {
     for (uint64_t place = 0; fosavalo_log_record(log, log_len, place, record, sizeof record) == FOSAVALO_DONE; place++)
         printf(" %.4f", number(record + FOSAVALO_TICK_BYTES, FOSAVALO_ANSWER_MARGIN));
     puts("");
+    uint8_t verdict[4];
+    refused = fosavalo_log_check(log, log_len, FOSAVALO_WHOLE, setup[FOSAVALO_SETUP_ENTER], setup[FOSAVALO_SETUP_EXIT], verdict, sizeof verdict);
+    if (refused != FOSAVALO_DONE || word(verdict, 0) != FOSAVALO_LOG_RIGHT) return 1;
+    puts("checked as one of another box's: right");
     refused = fosavalo_log_append(log, sizeof log, log_len, input, FOSAVALO_TICK_BYTES, answer, sizeof answer);
     refusal("one more than there is room for", refused);
     if (refused != FOSAVALO_NO_ROOM) return 1;

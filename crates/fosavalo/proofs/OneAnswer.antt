@@ -16,6 +16,7 @@ use Rattle.fosavalo.proofs.fosavalo_log_append
 use Rattle.fosavalo.proofs.fosavalo_log_count
 use Rattle.fosavalo.proofs.fosavalo_log_record
 use Rattle.fosavalo.proofs.fosavalo_flags
+use Rattle.fosavalo.proofs.fosavalo_log_check
 
 pub fosavalo-version-once : OneAnswer fosavalo_version.ended fosavalo_version.Reads.Post
 fosavalo-version-once κs a x y v w p q = (no-second p q, refl)
@@ -68,3 +69,8 @@ pub fosavalo-flags-once : OneAnswer fosavalo_flags.ended fosavalo_flags.Reads.Po
 fosavalo-flags-once κs a x y v w p q =
     let e = no-second p q in
     (ap (λ (f : Left ℕ (List ℕ)). f .outcome) e, both refl (both refl (both refl (both (ap (λ (f : Left ℕ (List ℕ)). f .later) e) refl))))
+
+pub fosavalo-log-check-once : OneAnswer fosavalo_log_check.ended fosavalo_log_check.Reads.Post
+fosavalo-log-check-once κs a x y v w p q =
+    let e = no-second p q in
+    (ap (λ (f : Left ℕ (List ℕ)). f .outcome) e, both refl (both refl (both refl (both refl (both (ap (λ (f : Left ℕ (List ℕ)). f .later) e) refl)))))

@@ -7,13 +7,14 @@ ghost use Rattle.calls.specs.Entry.{tickRefusal, setUpCall, exchangeCall, tickC
 ghost use Rattle.route.specs.Entry.{routeCall};
 ghost use Rattle.log.specs.Entry.{appendCall, countCall, recordCall};
 ghost use Rattle.slow.specs.Entry.{flagsCall};
+ghost use Rattle.audit.specs.Entry.{checkCall};
 
 // The version that this was built as: 65536 times its first number, 256 times its second, and its third.
 #[no_mangle]
 pub extern "C" fn fosavalo_version() -> u32
-    ensures { λ r. ⌜ r ≡ 0x0900 ⌝ }
+    ensures { λ r. ⌜ r ≡ 0x0a00 ⌝ }
 {
-    0x0900
+    0x0a00
 }
 
 // The sine of x, as `relay_math::sinf` has it.
@@ -114,4 +115,18 @@ pub extern "C" fn fosavalo_flags(margins: &[u8], enter: f32, exit: f32, flags: &
     ensures { λ r. ⌜ left r (now (flags .exit)) ≡ numbered (flagsCall (now (margins .entry)) enter exit (now (flags .entry))) ⌝ }
 {
     outcome::number(slow::flags_into(margins, enter, exit, flags))
+}
+
+// The verdict on a log, as a word: the number of the outcome, and the verdict's buffer as `audit::check_into` leaves it.
+#[no_mangle]
+pub extern "C" fn fosavalo_log_check(
+    log: &[u8],
+    profile: u32,
+    enter: f32,
+    exit: f32,
+    verdict: &mut [u8],
+) -> u32
+    ensures { λ r. ⌜ left r (now (verdict .exit)) ≡ numbered (checkCall (now (log .entry)) profile enter exit (now (verdict .entry))) ⌝ }
+{
+    outcome::number(audit::check_into(log, profile, enter, exit, verdict))
 }

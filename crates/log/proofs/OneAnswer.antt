@@ -17,6 +17,9 @@ use Rattle.log.proofs.reader.moved as moved
 use Rattle.log.proofs.entry
 use Rattle.log.proofs.into
 
+pub is-log-once : OneAnswer form.is_log.ended form.is_log.Reads.Post
+is-log-once κs a x y v w p q = (no-second p q, refl)
+
 pub append-once : OneAnswer entry.append.ended entry.append.Reads.Post
 append-once κs a x y v w p q =
     let e = no-second p q in

@@ -111,7 +111,7 @@ module _ (beyond : List ℕ) (appends : List Given) where
   pub reading-back : (k : ℕ) → handedOut log 0 (length kept + k) ≡ kept ++ replicate k []
   reading-back k = rw records-kept at (reader-hands-out log (made .0) k)
 
-kept-all : (h : Held) (appends : List Given) → NoneRefused h appends → keptAlong h appends ≡ recordsOf appends
+pub kept-all : (h : Held) (appends : List Given) → NoneRefused h appends → keptAlong h appends ≡ recordsOf appends
 unfolding NoneRefused keptAlong recordsOf
 kept-all h [] a = refl
 kept-all h (g ∷ more) a = rw (kept-all (afterOne h g) more (a .1), a .0)

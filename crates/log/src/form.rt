@@ -30,7 +30,7 @@ pub(crate) fn record_count(log: &[u8]) -> usize
 }
 
 // The count is tested before it is multiplied: 108 times 2^30 is 0 in 32 bits.
-pub(crate) fn is_log(log: &[u8]) -> bool
+pub fn is_log(log: &[u8]) -> bool
     ensures { λ r. ⌜ r ≡ isLog (now (log .entry)) ⌝ }
 {
     let length = log.len();

@@ -9,6 +9,7 @@ pub use entry::append;
 pub use form::MOST_RECORDS;
 pub use form::RECORD_BYTES;
 pub use form::TRAILER_BYTES;
+pub use form::is_log;
 pub use into::count_into;
 pub use into::record_into;
 pub use reader::Reader;

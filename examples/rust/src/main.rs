@@ -1,5 +1,5 @@
-//! Sets up an image, ticks it along a slow pass, keeps a log of it and prints who flies; then the log read back, the segment exchanged
-//! in flight, two calls that are refused, and a tick with a rotor lost.
+//! Sets up an image, ticks it along a slow pass, keeps a log of it and prints who flies; then the log read back and checked, the segment
+//! exchanged in flight, two calls that are refused, and a tick with a rotor lost.
 //!
 //!   make core && cargo run --offline --manifest-path examples/rust/Cargo.toml
 
@@ -34,6 +34,7 @@ fn main() -> Result<(), Refusal> {
     let flown = LogView::try_from(&file[..])?;
     let margins: Vec<f32> = flown.iter().map(|record| record.answer().margin).collect();
     println!("the log, {} records, has the margins {margins:?}", flown.len());
+    println!("checked as one of another box's: {}", flown.check(Profile::Whole, set_up.enter, set_up.exit)?);
 
     // back home in flight: the time starts again, who flies goes on, and the peaks of the jerk are read off the image
     image.exchange(&Segment { p0: [3.0, 0.0, 0.0], pf: [0.0; 3], ..set_up.segment })?;

@@ -211,7 +211,7 @@ pub fn alike(run: &Run) -> bool {
 }
 
 /// The C calls whose stack is measured, and the Rust's own calls of a tick beside them.
-pub const CALLS: [&str; 12] = [
+pub const CALLS: [&str; 13] = [
     "fosavalo_setup",
     "fosavalo_tick",
     "fosavalo_route_tick",
@@ -222,6 +222,7 @@ pub const CALLS: [&str; 12] = [
     "fosavalo_log_append",
     "fosavalo_log_count",
     "fosavalo_log_record",
+    "fosavalo_log_check",
     "fosavalo_flags",
     "the Rust calls of a tick",
 ];
@@ -267,6 +268,7 @@ fn stacks_on(run: &Run, route: &[u8]) -> Option<[usize; CALLS.len()]> {
                 of(|| faces::log_append(&mut log, TRAILER as u64, input, &answer))?,
                 of(|| faces::log_count(&log, &mut [0; 4]))?,
                 of(|| faces::log_record(&log, 0, &mut record))?,
+                of(|| faces::log_check(&log, 0, 0.03, 0.07, &mut [0; 4]))?,
                 // any words are margins
                 of(|| faces::flags(input, 0.03, 0.07, &mut [0; TICK / 4]))?,
                 of(|| made(&mut theirs, input, &mut answer))?,

@@ -1,6 +1,8 @@
-//! The flight log's calls on logs of different lengths: appending takes the same time on each, and reading a log goes with its length.
+//! The flight log's calls on logs of different lengths: appending takes the same time on each, and reading a log goes with its length. The check of the
+//! longest log beside reading each of its records once.
 
-use compare::joint::bytes::{ANSWER, TICK};
+use compare::audit::{AGILE, COMMAND, FLAG, MARGIN, RIGHT};
+use compare::joint::bytes::{put, ANSWER, TICK};
 use compare::log::{model, ARCHIVE, MOST, RECORD, TRAILER};
 use std::hint::black_box;
 use std::time::Instant;
@@ -67,4 +69,42 @@ fn read(log: &[u8]) -> Option<f64> {
     }
     let taken = start.elapsed().as_nanos() as f64 / (rounds * count) as f64;
     (refused == 0).then_some(taken)
+}
+
+/// Who flies in the logs that are checked, at each place: 0 the planner, 1 the fallback.
+pub const FLOWN: [(&str, fn(usize) -> u32); 2] = [
+    ("hands change every 1000", |at| (at / 1000 % 2) as u32),
+    ("hands change at random", |at| (at as u32).wrapping_mul(0x9e37_79b9).rotate_left(15).wrapping_mul(0x85eb_ca6b) >> 31),
+];
+
+/// Of each, nanoseconds a record: of the check, and of reading them one after another; the least of many tries, all taking turns. None where a call is
+/// refused or a verdict is another.
+pub fn checked() -> Option<[[f64; 2]; FLOWN.len()]> {
+    let (mut least, logs) = ([[f64::INFINITY; 2]; FLOWN.len()], FLOWN.map(|(_, flag)| right(flag)));
+    for _ in 0..TRIES {
+        for (least, log) in least.iter_mut().zip(&logs) {
+            *least = [least[0].min(check(log)?), least[1].min(read(log)?)];
+        }
+    }
+    Some(least)
+}
+
+/// The longest log, of right records with these flags.
+fn right(flag: fn(usize) -> u32) -> Vec<u8> {
+    let mut records = vec![[0; RECORD]; MOST];
+    for (at, record) in records.iter_mut().enumerate() {
+        (0..3).for_each(|k| put(record, AGILE + k, 0x3f00_0000 + (at + k) as u32));
+        (0..3).for_each(|k| put(record, COMMAND + k, 0x3f00_0000 + (at + k) as u32));
+        put(record, FLAG, flag(at));
+        put(record, MARGIN, f32::to_bits(if flag(at) == 0 { 1.5 } else { 0.25 }));
+    }
+    model::written(&records.iter().map(|record| &record[..]).collect::<Vec<_>>())
+}
+
+/// A record of the whole log's check.
+fn check(log: &[u8]) -> Option<f64> {
+    let (mut verdict, start) = ([0; 4], Instant::now());
+    let number = faces::log_check(black_box(log), 0, 0.5, 1.0, black_box(&mut verdict));
+    let taken = start.elapsed().as_nanos() as f64 / MOST as f64;
+    (number == 0 && u32::from_le_bytes(verdict) == RIGHT).then_some(taken)
 }

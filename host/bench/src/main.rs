@@ -85,6 +85,19 @@ fn logs() -> bool {
     good
 }
 
+/// The check of the longest log, beside reading each of its records once.
+fn checks() -> bool {
+    let Some(times) = log::checked() else {
+        println!("log check: a call is refused, or a verdict is wrong");
+        return false;
+    };
+    let mut good = true;
+    for ((flown, _), [ours, read]) in log::FLOWN.into_iter().zip(times) {
+        good &= line(&format!("log check, a record, {flown}"), (ours, read), 3.0);
+    }
+    good
+}
+
 /// The route tick by the legs of the route and the leg flown, beside the Rust's calls on the same legs.
 fn routes() -> bool {
     let Some(times) = route::times(&joint::pass()) else {
@@ -184,6 +197,7 @@ fn main() {
     good &= angles::rows(&mut rng);
     good &= routes();
     good &= logs();
+    good &= checks();
     good &= looked_back();
     if !good {
         std::process::exit(1);

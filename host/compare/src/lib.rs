@@ -1,6 +1,7 @@
 //! Comparisons of the proved routines with what they are to equal.
 
 pub mod answers;
+pub mod audit;
 pub mod counts;
 pub mod exact;
 pub mod generate;

@@ -13,6 +13,7 @@ fn the_same_lengths() {
     assert_eq!((RECORD_BYTES, LOG_TRAILER_BYTES, MOST_RECORDS), (log::RECORD, log::TRAILER, log::MOST));
     assert_eq!(EMPTY_LOG[..], log::model::written(&[]));
     assert_eq!(fosavalo::MOST_MARGINS, compare::slow::MOST);
+    assert_eq!(fosavalo::LOG_RIGHT, compare::audit::RIGHT);
 }
 
 /// Its falcon_quad has relay's gains.

@@ -43,7 +43,9 @@ pub mod geo;
 pub mod pos;
 pub mod traj;
 
-pub use fosavalo::calls::{cosf, exchange, flags, log_append, log_count, log_record, route_tick, setup, sinf, tick, tick_refusal};
+pub use fosavalo::calls::{
+    cosf, exchange, flags, log_append, log_check, log_count, log_record, route_tick, setup, sinf, tick, tick_refusal,
+};
 
 /// Three numbers with no meaning of their own.
 #[repr(C)]

@@ -1,6 +1,7 @@
 //! Flights through the proved core: a slow pass in a closed loop, scenarios from files, what was flown as a table and as CSV.
 
 pub mod aircraft;
+pub mod check;
 pub mod curve;
 pub mod exchange;
 pub mod explain;

@@ -53,7 +53,7 @@ impl std::error::Error for Mistake {}
 type Field = (&'static str, usize, usize);
 
 /// The names of the profiles.
-const PROFILES: [(&str, Profile); 2] = [("whole", Profile::Whole), ("lost-rotor", Profile::LostRotor)];
+pub const PROFILES: [(&str, Profile); 2] = [("whole", Profile::Whole), ("lost-rotor", Profile::LostRotor)];
 
 /// Document 01's words of a set-up.
 const SET_UP: [Field; 23] = [

@@ -58,6 +58,15 @@ mod raw {
         ) -> u32;
         pub fn fosavalo_log_count(log: *const u8, log_len: usize, count: *mut u8, count_len: usize) -> u32;
         pub fn fosavalo_log_record(log: *const u8, log_len: usize, place: u64, record: *mut u8, record_len: usize) -> u32;
+        pub fn fosavalo_log_check(
+            log: *const u8,
+            log_len: usize,
+            profile: u32,
+            enter: f32,
+            exit: f32,
+            verdict: *mut u8,
+            verdict_len: usize,
+        ) -> u32;
         pub fn fosavalo_flags(margins: *const u8, margins_len: usize, enter: f32, exit: f32, flags: *mut u8, flags_len: usize) -> u32;
     }
 }
@@ -222,6 +231,24 @@ pub fn log_count(log: &[u8], count: &mut [u8]) -> u32 {
 pub fn log_record(log: &[u8], place: u64, record: &mut [u8]) -> u32 {
     // SAFETY: as above.
     unsafe { raw::fosavalo_log_record(log.as_ptr(), log.len(), place, record.as_mut_ptr(), record.len()) }
+}
+
+/// Whether every record of a log is right, into four bytes: [`LOG_RIGHT`](crate::LOG_RIGHT), or the place of the first that is not, counted from 0. The profile is
+/// 0 or 1. Gives 0, 2, 8 or 10.
+///
+/// ```
+/// use fosavalo::{calls, EMPTY_LOG, LOG_RIGHT};
+///
+/// let mut verdict = [0; 4];
+/// assert_eq!(calls::log_check(&EMPTY_LOG, 0, 0.5, 1.0, &mut verdict), 0);
+/// assert_eq!(u32::from_le_bytes(verdict), LOG_RIGHT);
+/// assert_eq!(calls::log_check(&EMPTY_LOG, 2, 0.5, 1.0, &mut verdict), 10);
+/// assert_eq!(calls::log_check(&[], 2, 0.5, 1.0, &mut verdict), 8);
+/// ```
+#[inline]
+pub fn log_check(log: &[u8], profile: u32, enter: f32, exit: f32, verdict: &mut [u8]) -> u32 {
+    // SAFETY: as above.
+    unsafe { raw::fosavalo_log_check(log.as_ptr(), log.len(), profile, enter, exit, verdict.as_mut_ptr(), verdict.len()) }
 }
 
 /// Who flies at each margin of a list, by looking back: margins as words in, a byte for each out, 1 the fallback and 0 the planner. Gives 0 or 9.

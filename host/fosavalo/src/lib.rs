@@ -27,6 +27,7 @@
 //! | a path of several legs | [`Leg`], [`Route`], [`Image::route_tick`] |
 //! | another segment in flight, and the peaks of its jerk | [`Image::exchange`], [`Image::peak_abs_jerk`] |
 //! | ticks to keep, or a flight to look at | [`Log`], [`LogView`], [`Record`] |
+//! | a log from another box, to be checked | [`LogView::check`], [`Verdict`] |
 //! | margins, to explain who flew | [`looked_back`] |
 //! | bytes of your own | [`calls`]: the C calls as they are, on slices |
 //! | a refusal's number | [`Refusal`] |
@@ -45,6 +46,7 @@
 
 extern crate alloc;
 
+mod audit;
 pub mod calls;
 mod floats;
 mod image;
@@ -57,6 +59,7 @@ mod slow;
 mod tick;
 mod words;
 
+pub use audit::Verdict;
 pub use calls::{cosf, sinf};
 pub use floats::FloatFault;
 pub use image::Image;
@@ -90,6 +93,8 @@ pub const LOG_TRAILER_BYTES: usize = 12;
 pub const MOST_RECORDS: usize = 65_535;
 /// The most margins that are looked back through.
 pub const MOST_MARGINS: usize = 65_535;
+/// What the check of a log writes where every record is right: no record stands there.
+pub const LOG_RIGHT: u32 = u32::MAX;
 /// A log of no record: no count, nothing back, and the length of a record.
 pub const EMPTY_LOG: [u8; LOG_TRAILER_BYTES] = [0, 0, 0, 0, 0, 0, 0, 0, RECORD_BYTES as u8, 0, 0, 0];
 

@@ -25,7 +25,7 @@ use core::fmt;
 pub enum Refusal {
     /// 1: the image is not 396 bytes long.
     ImageLength,
-    /// 2: the input is not 204 bytes long at set-up, 68 at a tick and in a log; or what takes a log's count is not 4.
+    /// 2: the input is not 204 bytes long at set-up, 68 at a tick and in a log; or what takes a log's count or the verdict on it is not 4.
     InputLength,
     /// 3: the answer is not 40 bytes long.
     AnswerLength,
@@ -43,7 +43,7 @@ pub enum Refusal {
     /// 9: the buffer has under 108 bytes beyond the log, or the log has 65,535 records; or there is not a flag for each margin, or more than
     /// 65,535 of them.
     NoRoom,
-    /// 10: the profile of a set-up is neither 0 nor 1.
+    /// 10: the profile of a set-up, or with which a log is checked, is neither 0 nor 1.
     WrongProfile,
     /// 13: the log has no record at that place.
     NoRecord,
@@ -122,7 +122,7 @@ impl fmt::Display for Meaning {
             Refusal::ImageLength => write!(f, "the image is not {IMAGE_BYTES} bytes long"),
             Refusal::InputLength => write!(
                 f,
-                "the input is not {SETUP_BYTES} bytes long at set-up, {LEG_BYTES} at an exchange, {TICK_BYTES} at a tick and in a log, or a log's count is not 4"
+                "the input is not {SETUP_BYTES} bytes long at set-up, {LEG_BYTES} at an exchange, {TICK_BYTES} at a tick and in a log, or what takes a log's count or its verdict is not 4"
             ),
             Refusal::AnswerLength => write!(f, "the answer is not {ANSWER_BYTES} bytes long"),
             Refusal::BrokenImage => f.write_str("the image is none that set-up, a tick or an exchange leaves"),

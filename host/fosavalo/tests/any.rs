@@ -1,8 +1,8 @@
 //! Any bytes at all: nothing panics, what is written is read back, and the typed calls are the C calls.
 
-use fosavalo::{calls, looked_back, Answer, Image, Leg, Log, LogView, Pilot, Profile, Record, Refusal, Route, SetUp, TickInput, EMPTY_LOG};
+use fosavalo::{calls, looked_back, Answer, Image, Leg, Log, LogView, Pilot, Profile, Record, Refusal, Route, SetUp, TickInput, Verdict};
 use fosavalo::{ANSWER_BYTES, IMAGE_BYTES, LEG_BYTES, MOST_LEGS, ROUTE_TRAILER_BYTES, SETUP_BYTES, TICK_BYTES};
-use fosavalo::{LOG_TRAILER_BYTES, MOST_MARGINS, MOST_RECORDS, RECORD_BYTES};
+use fosavalo::{EMPTY_LOG, LOG_TRAILER_BYTES, MOST_MARGINS, MOST_RECORDS, RECORD_BYTES};
 
 /// Bytes that look like anything: random ones, with words of special floats among them.
 struct Bytes(u64);
@@ -301,4 +301,35 @@ fn flags_of_any_margins() {
     }
     assert!(seen.iter().all(|count| *count > 1000), "{seen:?}");
     assert_eq!(looked_back(&vec![1.0; MOST_MARGINS + 1], 0.5, 1.0), Err(Refusal::NoRoom));
+}
+
+/// A record of any bytes among those of a fallback that never lets go: the typed call is the C call, and says that all is right or names that record.
+#[test]
+fn checks_of_any_record() {
+    let (mut rng, mut right) = (Bytes(8), 0);
+    let mut held = [0; RECORD_BYTES];
+    held[92..96].copy_from_slice(&1u32.to_le_bytes());
+    held[104..].copy_from_slice(&f32::NEG_INFINITY.to_le_bytes());
+    let held = Record::from_bytes(&held).expect("it is as long as a record");
+    for round in 0..4000 {
+        let (before, mut any) = (round % 40, [0; RECORD_BYTES + 8]);
+        rng.fill(&mut any);
+        let (thresholds, any) = any.split_at_mut(8);
+        if round % 4 == 0 {
+            any[92..96].copy_from_slice(&held.as_bytes()[92..96]);
+        }
+        let given: Vec<f32> = floats(thresholds).collect();
+        let mut log = Log::new();
+        let any = Record::from_bytes(any).expect("it is as long as a record");
+        log.try_extend((0..before).map(|_| held).chain([any, held, held])).expect("it fits");
+        for profile in [Profile::Whole, Profile::LostRotor] {
+            let mut verdict = [0; 4];
+            assert_eq!(calls::log_check(log.as_bytes(), profile.word(), given[0], given[1], &mut verdict), 0);
+            let typed = log.check(profile, given[0], given[1]).expect("no log is refused");
+            assert_eq!(typed, Verdict::from_word(u32::from_le_bytes(verdict)));
+            assert!(typed.is_right() || typed == Verdict::WrongAt(before), "{typed}");
+            right += u32::from(typed.is_right());
+        }
+    }
+    assert!((200..7000).contains(&right), "{right}");
 }

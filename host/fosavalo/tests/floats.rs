@@ -1,7 +1,7 @@
 //! Floating-point environments that the core does not compute in: each is told, and nothing is made or changed.
 #![cfg(target_arch = "x86_64")]
 
-use fosavalo::{calls, looked_back, FloatFault, GyroFilter, Image, Leg, Refusal, Route, SetUp, TickInput, IMAGE_BYTES};
+use fosavalo::{calls, looked_back, FloatFault, GyroFilter, Image, Leg, Log, Profile, Refusal, Route, SetUp, TickInput, IMAGE_BYTES};
 use std::arch::asm;
 
 /// The bits of MXCSR: operands that are subnormal count as zero, results that are become zero, and the direction of rounding.
@@ -92,6 +92,7 @@ fn what_computes_is_refused_there() {
     let fresh = Image::set_up(&SetUp::falcon_quad()).expect("the environment is right");
     let legs = [SetUp::falcon_quad().segment; 2];
     let route = Route::new(&legs).expect("the legs meet");
+    let log = Log::new();
     for (bits, fault) in WRONG {
         let (mut image, refused) = (fresh.clone(), Some(Refusal::Floats(fault)));
         let (said, _) = under(bits, || {
@@ -102,10 +103,11 @@ fn what_computes_is_refused_there() {
                 image.check().err(),
                 Route::new(&legs).err(),
                 Route::from_bytes(route.as_bytes()).err(),
+                log.check(Profile::Whole, 0.5, 1.0).err(),
                 looked_back(&[], 0.5, 1.0).err(),
             ]
         });
-        assert_eq!(said, [refused; 7], "{bits:x}");
+        assert_eq!(said, [refused; 8], "{bits:x}");
         assert_eq!(image, fresh, "nothing is changed");
         // bytes alone are taken: nothing is computed
         let (taken, _) = under(bits, || Image::from_bytes(fresh.as_bytes()));

@@ -1,0 +1,49 @@
+-- The flag carried along a list of records, as the shield does: if each is right by it, the verdict is "all right". Assumes nothing.
+use Prim.Native.Nat.{ℕ, zero, suc, _<_}
+use mathlib.Core.Path.{_≡_, refl, sym, ap, _∙_}
+use mathlib.Core.Bool.{Bool, true, false}
+use mathlib.Core.List.{List, [], _∷_}
+use native.Mathlib.Nat.{le-of-suc-le-suc}
+use native.Mathlib.Omega.{arith}
+use lib.Ieee.{Float, lt}
+use lib.ListN.{length, getD, take, length-map}
+use Rattle.latch.specs.Latch.{latch, after}
+use Rattle.latch.proofs.LatchFlies.{flag-from, flag-flies-at}
+use Rattle.joint_tick.specs.declared.profile.Profile.{Profile}
+use Rattle.slow.specs.Back.{lookBack}
+use Rattle.slow.proofs.Slow.{looks-back}
+use Rattle.audit.specs.declared.Verdict.the-variants.{AllRight}
+use Rattle.audit.specs.Right.{marginIn, marginsIn, right, rightAt}
+use Rattle.audit.specs.Verdict.{verdictOf}
+use Rattle.audit.proofs.Said.{verdict-says}
+
+-- each record is right by the latch of its margin, from a flag on
+abbrev pub Carried : Profile → Float → Float → Bool → List (List ℕ) → Type 0
+Carried profile enter exit before [] = Unit
+Carried profile enter exit before (r ∷ rs) = let now = latch enter exit before (marginIn r) in (right profile now r ≡ true) × Carried profile enter exit now rs
+
+carried-at : (profile : Profile) (enter exit : Float) (before : Bool) (rs : List (List ℕ)) → Carried profile enter exit before rs
+    → (i : ℕ) → i < length rs → right profile (after enter exit before (take (suc i) (marginsIn rs))) (getD rs i []) ≡ true
+unfolding after
+carried-at profile enter exit before [] c i h = absurd (omega arith)
+carried-at profile enter exit before (r ∷ rs) c zero h = c .0
+carried-at profile enter exit before (r ∷ rs) c (suc i) h = carried-at profile enter exit (latch enter exit before (marginIn r)) rs (c .1) i (le-of-suc-le-suc h)
+
+same : (a b : Bool) → (a ≡ false → b ≡ false) → (b ≡ false → a ≡ false) → a ≡ b
+same true true f g = refl
+same true false f g = g refl
+same false b f g = sym (f refl)
+
+-- a fresh latch over the margins up to a place says what looking back from there does: both are the user's rule
+looked-back : (enter exit : Float) → lt enter exit ≡ true → (ms : List Float) (i : ℕ) → i < length ms → after enter exit true (take (suc i) ms) ≡ lookBack enter exit ms (suc i)
+looked-back enter exit o ms i h =
+    let e = flag-from enter exit true ms i h in
+    let fast = flag-flies-at enter exit ms i h o in
+    let slow = looks-back enter exit ms i in
+    same _ _ (λ f. slow .1 (fast .0 (e ∙ f))) (λ f. sym e ∙ fast .1 (slow .0 f))
+
+pub carried-right : (profile : Profile) (enter exit : Float) → lt enter exit ≡ true → (rs : List (List ℕ)) → Carried profile enter exit true rs → verdictOf profile enter exit rs ≡ AllRight
+unfolding rightAt
+carried-right profile enter exit o rs c = verdict-says profile enter exit rs AllRight .1 (λ i h.
+    let l : i < length (marginsIn rs) = rw (length-map rs marginIn) h in
+    ap (λ (demanded : Bool). right profile demanded (getD rs i [])) (sym (looked-back enter exit o (marginsIn rs) i l)) ∙ carried-at profile enter exit true rs c i h)

@@ -1,0 +1,6 @@
+pub mod Walk
+pub mod Said
+pub mod Carried
+pub mod Call
+pub mod Figures
+pub mod OneAnswer

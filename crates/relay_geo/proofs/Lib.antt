@@ -7,5 +7,8 @@ pub mod MarginRange
 pub mod SetUp
 pub mod Steps
 pub mod Products
+pub mod Opposites
+pub mod Upto
+pub mod Swapped
 pub mod ZeroQuaternion
 pub mod OneAnswer

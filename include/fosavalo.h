@@ -19,7 +19,7 @@ extern "C" {
 /* The version of this header; fosavalo_version() is the archive's. The second number is that of the last change request which both have: a request may
  * change what a word means and leave every length. */
 #define FOSAVALO_VERSION_MAJOR 0
-#define FOSAVALO_VERSION_MINOR 11
+#define FOSAVALO_VERSION_MINOR 12
 #define FOSAVALO_VERSION_PATCH 0
 #define FOSAVALO_VERSION_NUMBER ((FOSAVALO_VERSION_MAJOR << 16) + (FOSAVALO_VERSION_MINOR << 8) + FOSAVALO_VERSION_PATCH)
 #define FOSAVALO_VERSION FOSAVALO_TEXT(FOSAVALO_VERSION_MAJOR) "." FOSAVALO_TEXT(FOSAVALO_VERSION_MINOR) "." FOSAVALO_TEXT(FOSAVALO_VERSION_PATCH)
@@ -99,8 +99,8 @@ float fosavalo_cosf(float x);
 #define FOSAVALO_MOST_RECORDS 65535
 #define FOSAVALO_MOST_MARGINS 65535
 
-/* What set-up, the exchange and the ticks return. Of 0 to 4 it is the lowest that holds; 5 to 7 come after 4, in the order that the route tick tells; 10
- * comes after 2. The log's calls and flags tell theirs. */
+/* What set-up, the exchange and the ticks return. Of 0 to 4 it is the lowest that holds; 5 to 7 come after 4, in the order that the route tick tells; 10 and
+ * then 11 come after 2. The log's calls and flags tell theirs. */
 #define FOSAVALO_DONE 0                 /* what the call writes is written: the image, at a tick the answer too, what a log's call tells */
 #define FOSAVALO_WRONG_IMAGE_LENGTH 1   /* image_len is not FOSAVALO_IMAGE_BYTES */
 #define FOSAVALO_WRONG_INPUT_LENGTH 2   /* input_len is not FOSAVALO_SETUP_BYTES, at a tick and an append FOSAVALO_TICK_BYTES; segment_len is not FOSAVALO_LEG_BYTES; count_len or verdict_len is not 4 */
@@ -112,6 +112,7 @@ float fosavalo_cosf(float x);
 #define FOSAVALO_BROKEN_LOG 8           /* log only: the log's length and its three words do not go together */
 #define FOSAVALO_NO_ROOM 9              /* append: under 108 bytes beyond the log, or FOSAVALO_MOST_RECORDS in it; flags: lengths */
 #define FOSAVALO_WRONG_PROFILE 10       /* set-up and the check of a log: the profile is neither 0 nor 1 */
+#define FOSAVALO_PASS_THROUGH 11        /* set-up only: the gyro would not be filtered, as with a cut-off of 0 */
 #define FOSAVALO_NO_RECORD 13           /* record only: the log has no record at that place */
 #define FOSAVALO_WRONG_RECORD_LENGTH 14 /* record only: record_len is not FOSAVALO_RECORD_BYTES */
 
@@ -144,6 +145,8 @@ static inline const char *fosavalo_meaning(uint32_t number) {
                FOSAVALO_TEXT(FOSAVALO_MOST_MARGINS) " of them";
     case FOSAVALO_WRONG_PROFILE:
         return "the profile is neither 0 nor 1";
+    case FOSAVALO_PASS_THROUGH:
+        return "the gyro would not be filtered: the cut-off fc has to be above 0 and below half of the sample rate fs";
     case FOSAVALO_NO_RECORD:
         return "the log has no record at that place";
     case FOSAVALO_WRONG_RECORD_LENGTH:
@@ -173,7 +176,7 @@ static inline const char *fosavalo_meaning(uint32_t number) {
 #define FOSAVALO_SETUP_OMEGA_C(axis) (37 + 4 * (axis))
 #define FOSAVALO_SETUP_B0(axis) (38 + 4 * (axis))
 #define FOSAVALO_SETUP_TAU(axis) (39 + 4 * (axis))
-#define FOSAVALO_SETUP_FC 48        /* the gyro's filter, Hz */
+#define FOSAVALO_SETUP_FC 48        /* the gyro's filter, Hz: above 0 and below half of fs, else refused */
 #define FOSAVALO_SETUP_FS 49
 #define FOSAVALO_SETUP_PROFILE 50   /* a whole number: FOSAVALO_WHOLE or FOSAVALO_LOST_ROTOR */
 
@@ -253,9 +256,10 @@ static inline const char *fosavalo_meaning(uint32_t number) {
 
 /* Writes a fresh image, the state that goes from tick to tick; what stood in it is not read.
  *
- * The input is the words FOSAVALO_SETUP_.. Every bit pattern of a number is taken and mended where it is no use.
+ * The input is the words FOSAVALO_SETUP_.. Every bit pattern of a number is taken and mended where it is no use, but for a filter that would be none:
+ * fc has to be above 0 and below half of fs. (An image that was set up otherwise by an earlier release goes on ticking.)
  *
- * Returns 0, 1, 2 or 10. Unless it is 0 no byte is changed; the input never is. Each pointer has to be good for its length, whatever
+ * Returns 0, 1, 2, 10 or 11. Unless it is 0 no byte is changed; the input never is. Each pointer has to be good for its length, whatever
  * that is, and the two buffers must not overlap. */
 uint32_t fosavalo_setup(uint8_t *image, size_t image_len, const uint8_t *input, size_t input_len);
 

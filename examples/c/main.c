@@ -33,8 +33,8 @@ static float number(const uint8_t *bytes, size_t at) {
 
 static void refusal(const char *what, uint32_t number) { printf("%s: refused with %u, %s\n", what, (unsigned)number, fosavalo_meaning(number)); }
 
-/* The words of a set-up: three metres to the north in eight seconds. What is not here is 0: the segment's other ends, fc, so that nothing is filtered, and
- * the profile, which is a whole number. */
+/* The words of a set-up: three metres to the north in eight seconds. What is not here is 0: the segment's other ends, and the profile, which is a whole
+ * number. */
 static const float setup[FOSAVALO_SETUP_BYTES / 4] = {
     [FOSAVALO_SETUP_K_R] = 0.6f, 0.6f, 0.15f,
     [FOSAVALO_SETUP_K_OMEGA] = 0.12f, 0.12f, 0.35f,
@@ -52,7 +52,7 @@ static const float setup[FOSAVALO_SETUP_BYTES / 4] = {
     [FOSAVALO_SETUP_OMEGA_O(0)] = 40, 12, 60, 0.0125f, /* omega_o, omega_c, b0, tau */
     [FOSAVALO_SETUP_OMEGA_O(1)] = 40, 12, 60, 0.0125f,
     [FOSAVALO_SETUP_OMEGA_O(2)] = 30, 3, 18, 0.025f,
-    [FOSAVALO_SETUP_FS] = 1000,
+    [FOSAVALO_SETUP_FC] = 200, 1000, /* the gyro filtered at 200 Hz of 1000 ticks a second */
 };
 
 /* Two legs, there and back. */
@@ -62,9 +62,11 @@ static const float legs[2][LEG_WORDS] = {
     {[FOSAVALO_LEG_P0] = 3, [FOSAVALO_LEG_T] = 8},
 };
 
-/* Roll rates that take the margin above exit, into the band, below enter, into the band again and out at the top. */
+/* Roll rates that take the margin above exit, into the band, below enter, into the band again and out at the top; each for as many ticks as the filter
+ * takes to follow, of which the last is printed. */
 static const float rates[] = {1.8f, 1.0f, 1.75f, 1.8f, 1.9f, 1.8f, 1.75f, 1.0f};
-#define TICKS (sizeof rates / sizeof rates[0])
+#define EACH 8
+#define TICKS (EACH * sizeof rates / sizeof rates[0])
 
 int main(void) {
     uint8_t image[FOSAVALO_IMAGE_BYTES], input[FOSAVALO_SETUP_BYTES], answer[FOSAVALO_ANSWER_BYTES] = {0};
@@ -93,7 +95,7 @@ int main(void) {
     printf("tick    torque                      command                     flag        margin\n");
     for (size_t tick = 0; tick < TICKS; tick++) {
         const float words[FOSAVALO_TICK_BYTES / 4] = {
-            [FOSAVALO_TICK_GYRO] = rates[tick],
+            [FOSAVALO_TICK_GYRO] = rates[tick / EACH],
             [FOSAVALO_TICK_ATTITUDE] = 1, /* level */
             [FOSAVALO_TICK_TRACKING_ERROR] = 0.1f,
             [FOSAVALO_TICK_DT] = 0.001f,
@@ -106,24 +108,25 @@ int main(void) {
             refusal("tick", refused);
             return 1;
         }
-        printf("%4zu ", tick + 1);
-        for (size_t k = 0; k < 3; k++) printf(" %8.4f", number(answer, FOSAVALO_ANSWER_TORQUE + k));
-        printf(" ");
-        for (size_t k = 0; k < 3; k++) printf(" %8.4f", number(answer, FOSAVALO_ANSWER_COMMAND + k));
-        uint32_t flag = word(answer, FOSAVALO_ANSWER_FLAG);
-        printf("  %u %-8s  %7.4f\n", (unsigned)flag, flag ? "fallback" : "planner", number(answer, FOSAVALO_ANSWER_MARGIN));
         refused = fosavalo_log_append(log, sizeof log, log_len, input, FOSAVALO_TICK_BYTES, answer, sizeof answer);
         if (refused != FOSAVALO_DONE) {
             refusal("the log", refused);
             return 1;
         }
         log_len += FOSAVALO_RECORD_BYTES;
+        if ((tick + 1) % EACH != 0) continue;
+        printf("%4zu ", tick + 1);
+        for (size_t k = 0; k < 3; k++) printf(" %8.4f", number(answer, FOSAVALO_ANSWER_TORQUE + k));
+        printf(" ");
+        for (size_t k = 0; k < 3; k++) printf(" %8.4f", number(answer, FOSAVALO_ANSWER_COMMAND + k));
+        uint32_t flag = word(answer, FOSAVALO_ANSWER_FLAG);
+        printf("  %u %-8s  %7.4f\n", (unsigned)flag, flag ? "fallback" : "planner", number(answer, FOSAVALO_ANSWER_MARGIN));
     }
 
     uint8_t count[4], record[FOSAVALO_RECORD_BYTES];
     if (fosavalo_log_count(log, log_len, count, sizeof count) != FOSAVALO_DONE || word(count, 0) != TICKS) return 1;
-    printf("the log, %u records, has the margins", (unsigned)word(count, 0));
-    for (uint64_t place = 0; fosavalo_log_record(log, log_len, place, record, sizeof record) == FOSAVALO_DONE; place++)
+    printf("the log, %u records, has at each eighth the margins", (unsigned)word(count, 0));
+    for (uint64_t place = EACH - 1; fosavalo_log_record(log, log_len, place, record, sizeof record) == FOSAVALO_DONE; place += EACH)
         printf(" %.4f", number(record + FOSAVALO_TICK_BYTES, FOSAVALO_ANSWER_MARGIN));
     puts("");
     uint8_t verdict[4];
@@ -177,6 +180,11 @@ int main(void) {
     refusal("a profile of 2", refused);
     if (refused != FOSAVALO_WRONG_PROFILE || memcmp(before, image, sizeof before) != 0) return 1;
     put_word(input, FOSAVALO_SETUP_PROFILE, FOSAVALO_LOST_ROTOR);
+    put(input, FOSAVALO_SETUP_FC, 0); /* which does not turn the filter off */
+    refused = fosavalo_setup(image, sizeof image, input, sizeof input);
+    refusal("a cut-off of 0", refused);
+    if (refused != FOSAVALO_PASS_THROUGH || memcmp(before, image, sizeof before) != 0) return 1;
+    put(input, FOSAVALO_SETUP_FC, setup[FOSAVALO_SETUP_FC]);
     if (fosavalo_setup(image, sizeof image, input, sizeof input) != FOSAVALO_DONE) return 1;
     const float spinning[FOSAVALO_TICK_BYTES / 4] = {
         [FOSAVALO_TICK_GYRO + 2] = 20,

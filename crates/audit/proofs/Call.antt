@@ -16,8 +16,9 @@ use Rattle.relay_geo.specs.Shield.{mend}
 use Rattle.relay_geo.proofs.SetUp.{enter-below-exit}
 use Rattle.joint_tick.specs.declared.profile.Profile.{Profile}
 use Rattle.joint_tick.specs.Profile.{isProfile, profileOf}
-use Rattle.outcome.specs.declared.Outcome.the-variants.{Done, BrokenLog}
-use Rattle.outcome.specs.Outcomes.{left, Filled}
+use Rattle.outcome.specs.declared.Outcome.the-variants.{Done, BrokenLog, PassThrough}
+use Rattle.outcome.specs.Outcomes.{firstOf, left, Filled}
+use Rattle.outcome.proofs.Tables.{never-given}
 use Rattle.log.specs.Form.{MOST-RECORDS, isLog}
 use Rattle.log.specs.Records.{records}
 use Rattle.log.proofs.Taken.{is-a-log}
@@ -25,7 +26,7 @@ use Rattle.log.proofs.Reading.{records-count}
 use Rattle.audit.specs.declared.Verdict.{Verdict}
 use Rattle.audit.specs.declared.Verdict.the-variants.{AllRight, FirstWrong}
 use Rattle.audit.specs.Verdict.{verdictOf, verdictWord, Says}
-use Rattle.audit.specs.Entry.{verdictOn, checkCall}
+use Rattle.audit.specs.Entry.{verdictOn, checkTable, checkCall}
 use Rattle.audit.proofs.Said.{verdict-says}
 
 -- thresholds as set-up mends them are in order
@@ -86,3 +87,7 @@ module _ (log : List ℕ) (profile : ℕ) (enter exit : Float) (into : List ℕ)
 pub eight-before-ten : (log : List ℕ) (profile : ℕ) (enter exit : Float) (into : List ℕ) → length into ≡ 4 → isLog log ≡ false → checkCall log profile enter exit into ≡ left BrokenLog into
 unfolding checkCall
 eight-before-ten log profile enter exit into h l = rw (h, l)
+
+-- 11 is "at set-up alone" (request Twelve)
+pub no-check-gives-eleven : (log : List ℕ) (profile n : ℕ) → ¬ (firstOf (checkTable log profile n) ≡ PassThrough)
+no-check-gives-eleven log profile n = never-given PassThrough refl (checkTable log profile n) refl

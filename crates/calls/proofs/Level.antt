@@ -2,10 +2,11 @@
 use mathlib.Core.Path.{_≡_, refl, ap, _∙_}
 use mathlib.Core.Bool.{true, false}
 use Prim.Native.Nat.{ℕ}
-use lib.Ieee.{Float, ofBits, add, sub, mul, div, neg, lt, le, eq}
+use lib.Ieee.{Float, ofBits, toBits, round, add, sub, mul, div, neg, lt, le, eq}
 use Rattle.words.specs.Words.{word, float, vec}
 use Rattle.relay_math.specs.F32.{f32, 0·0, 0·5, 1·0, 1·75, isFinite, grains}
 use Rattle.relay_math.specs.Sqrt.{sqrtf}
+use Rattle.relay_math.specs.Steps.{sinf, cosf, sincos, cutSquare, sinPoly, cosPoly, toFloat, fixed, reduceOf, turned, large}
 use Rattle.relay_math.specs.declared.Vec3.{Vec3}
 use Rattle.relay_math.specs.declared.BodyRate.{BodyRate}
 use Rattle.relay_geo.specs.declared.attitude.Attitude.the-variants.{Matrix}
@@ -22,7 +23,7 @@ use Rattle.relay_traj.specs.Quintic.{quintic, ofMended, eval, sampleAt, timeOn}
 use Rattle.relay_traj.specs.Quintic.{mend as mend-leg}
 use Rattle.relay_traj.specs.Segment.{segment, eval3}
 use Rattle.relay_traj.specs.Governor.{advance, gate, gateFactor, clampTo}
-use Rattle.relay_adrc.specs.Biquad.{lowpass, biquadFilter, gyroNew, gyroFilter}
+use Rattle.relay_adrc.specs.Biquad.{filterAt, lowpass, biquadFilter, gyroNew, gyroFilter}
 use Rattle.relay_geo.specs.declared.shield.SimplexShield.{SimplexShield}
 use Rattle.joint_tick.specs.declared.profile.Profile.the-variants.{Whole, LostRotor}
 use Rattle.joint_tick.specs.declared.state.State.{State}
@@ -87,7 +88,7 @@ module _ (profile yaw : ℕ) where
   no-motion = (refl, refl)
 
   no-rate : filtered source s i ≡ record { 0 = zeros }
-  unfolding setUp setupAt inputAt vec float word prepare gyroNew lowpass gyroFilter biquadFilter isFinite lt le ofBits add sub mul
+  unfolding setUp setupAt inputAt vec float word prepare gyroNew lowpass filterAt gyroFilter biquadFilter sinf cosf sincos cutSquare sinPoly cosPoly toFloat fixed reduceOf turned large isFinite lt le ofBits toBits round add sub mul div neg
   no-rate = refl
 
   level-body : quatToRotmat (i .quat) ≡ identity3

@@ -5,8 +5,9 @@ use mathlib.Core.Bool.{Bool, true, false}
 use mathlib.Core.List.{List}
 use Prim.Native.Nat.{ℕ}
 use native.Mathlib.Nat.{suc-ne-zero}
+use lib.Ieee.{lt, le, mul, ofBits}
 use lib.ListN.{length}
-use Rattle.words.specs.Words.{word}
+use Rattle.words.specs.Words.{word, float}
 use Rattle.relay_geo.specs.Shield.{newShield}
 use Rattle.joint_tick.specs.declared.state.State.{State}
 use Rattle.joint_tick.specs.declared.stages.Ticked.{Ticked}
@@ -16,11 +17,11 @@ use Rattle.joint_tick.specs.Tick.{referenceAt, ticked, stateAfter}
 use Rattle.joint_tick.proofs.Shielding.{tick-keeps-flag}
 use Rattle.outcome.specs.declared.Outcome.the-variants.{Done}
 use Rattle.outcome.specs.Outcomes.{left, Filled, lent, Called}
-use Rattle.image.specs.Layout.{COUNT, ENGAGED, SETUP-PROFILE, SETUP-BYTES, INPUT-BYTES}
+use Rattle.image.specs.Layout.{COUNT, ENGAGED, SETUP-PROFILE, INPUT-BYTES}
 use Rattle.image.specs.Image.{stateAt, imageOf}
 use Rattle.image.specs.Inputs.{setupAt, inputAt, answerOf}
 use Rattle.calls.specs.Entry.{setUpRefusal, onSegment, tickFrom, setUpCall, tickCall}
-use Rattle.calls.specs.Ticks.{Accepted}
+use Rattle.calls.specs.Ticks.{SetsUp, Accepted}
 use Rattle.calls.specs.Shams.{Program, Keeps, RefusesSetUps, RefusesTicks, LeavesSetUp, LeavesTicked, blankAnswer, blankImage, levelSetUp, levelInput}
 use Rattle.image.proofs.Decoded.{count-written, engaged-written, decode-encode}
 use Rattle.calls.proofs.Going.{set-up-fits, set-up-never-refused}
@@ -35,13 +36,17 @@ tick image input = ticked (onSegment image) (stateAt image) (inputAt input)
 unfoldable leaves : List ℕ → List ℕ → List ℕ
 leaves image input = imageOf (stateAfter (onSegment image) (stateAt image) (inputAt input))
 
-set-up-accepted : (b : List ℕ) → length b ≡ SETUP-BYTES → isProfile (word b SETUP-PROFILE) ≡ true → setUpCall blankImage b ≡ left Done (imageOf (setUp (setupAt b)))
-unfolding setUpCall setUpRefusal
-set-up-accepted b e p = rw (e, p)
+set-up-accepted : (b : List ℕ) → SetsUp b → setUpCall blankImage b ≡ left Done (imageOf (setUp (setupAt b)))
+unfolding setUpCall
+set-up-accepted b e = rw e
 
 pub level-profile : isProfile (word levelSetUp SETUP-PROFILE) ≡ true
 unfolding isProfile word
 level-profile = refl
+
+pub level-sets-up : SetsUp levelSetUp
+unfolding setUpRefusal isProfile word float lt le mul ofBits
+level-sets-up = refl
 
 tick-accepted : (image input : List ℕ) → Accepted image → length input ≡ INPUT-BYTES
     → tickCall image input blankAnswer ≡ left Done (lent (leaves image input) (answerOf (tick image input .answer)))
@@ -93,7 +98,7 @@ honest = record { setUp = λ image input. refl; tick = λ image input answer. re
 
 module _ (p : Program) (k : Keeps p) where
   sets-up : p .setUp blankImage levelSetUp ≡ left Done fresh
-  sets-up = k .setUp blankImage levelSetUp ∙ set-up-accepted levelSetUp refl level-profile
+  sets-up = k .setUp blankImage levelSetUp ∙ set-up-accepted levelSetUp level-sets-up
 
   ticks : (image input : List ℕ) → Accepted image → length input ≡ INPUT-BYTES
       → p .tick image input blankAnswer ≡ left Done (lent (leaves image input) (answerOf (tick image input .answer)))

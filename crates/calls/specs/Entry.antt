@@ -5,18 +5,19 @@ use mathlib.Core.List.{List, [], _∷_}
 use lib.Dec.{eqb}
 use lib.Ieee.{Float}
 use lib.ListN.{length}
-use Rattle.words.specs.Words.{word}
+use Rattle.words.specs.Words.{word, float}
+use Rattle.relay_adrc.specs.Biquad.{passesThrough}
 use Rattle.joint_tick.specs.declared.stages.Reference.{Reference}
 use Rattle.joint_tick.specs.Profile.{isProfile}
 use Rattle.joint_tick.specs.SetUp.{setUp, exchange}
 use Rattle.joint_tick.specs.Tick.{referenceAt, ticked, stateAfter}
 use Rattle.joint_tick.specs.Good.{good}
-use Rattle.image.specs.Layout.{COUNT, ENGAGED, PROFILE, IMAGE-WORDS, IMAGE-BYTES, SETUP-PROFILE, SETUP-BYTES, LEG-BYTES, INPUT-BYTES, ANSWER-BYTES}
+use Rattle.image.specs.Layout.{COUNT, ENGAGED, PROFILE, IMAGE-WORDS, IMAGE-BYTES, SETUP-FC, SETUP-FS, SETUP-PROFILE, SETUP-BYTES, LEG-BYTES, INPUT-BYTES, ANSWER-BYTES}
 use Rattle.image.specs.Parts.{legAt}
 use Rattle.image.specs.Image.{fixedAt, stateAt, imageOf, peaksStand}
 use Rattle.image.specs.Inputs.{setupAt, inputAt, answerOf}
 use Rattle.outcome.specs.declared.Outcome.{Outcome}
-use Rattle.outcome.specs.declared.Outcome.the-variants.{ImageLength, InputLength, AnswerLength, BrokenImage, BadProfile}
+use Rattle.outcome.specs.declared.Outcome.the-variants.{ImageLength, InputLength, AnswerLength, BrokenImage, BadProfile, PassThrough}
 use Rattle.outcome.specs.Outcomes.{Table, firstOf, differs, leftUnless, Filled, lent, Called}
 
 -- ---- what is refused: the first row that holds, and so the lowest number
@@ -31,6 +32,7 @@ setUpTable imageLen input =
     (differs imageLen IMAGE-BYTES, ImageLength)
     ∷ (differs (length input) SETUP-BYTES, InputLength)
     ∷ (not (isProfile (word input SETUP-PROFILE)), BadProfile)
+    ∷ (passesThrough (float input SETUP-FC) (float input SETUP-FS), PassThrough)
     ∷ []
 
 -- of an exchange, whose image is judged as a tick's is

@@ -1,15 +1,14 @@
 -- Sham builds: programs that look like this one and do nothing of what it is for. Definitions only.
 use Prim.Native.Nat.{ℕ, suc}
 use mathlib.Core.Path.{_≡_}
-use mathlib.Core.Bool.{true}
 use mathlib.Core.List.{List, [], _∷_, _++_}
 use lib.ListN.{length, replicate}
-use Rattle.words.specs.Words.{word, bytesOf}
-use Rattle.joint_tick.specs.Profile.{isProfile}
-use Rattle.image.specs.Layout.{IMAGE-BYTES, ANSWER-BYTES, INPUT-BYTES, SETUP-PROFILE, SETUP-BYTES}
+use Rattle.words.specs.Words.{bytesOf}
+use Rattle.image.specs.Layout.{IMAGE-BYTES, ANSWER-BYTES, INPUT-BYTES}
 use Rattle.outcome.specs.declared.Outcome.the-variants.{Done}
 use Rattle.outcome.specs.Outcomes.{Filled, Called}
 use Rattle.calls.specs.Entry.{setUpCall, tickCall}
+use Rattle.calls.specs.Ticks.{SetsUp}
 
 -- Any program, by what its two calls leave: set-up of an image and an input, a tick of an image, an input and an answer.
 pub record Program : Type 0 where
@@ -61,15 +60,15 @@ answered p image input = p .tick image input blankAnswer .later .answer
 
 -- from set-up: after a first tick and n more, one more tick answers as the first did, whatever its input. An echo does so for every n; one n is enough.
 pub record EchoesAfter (p : Program) (n : ℕ) : Type 0 where
-  pub again : (b first later : List ℕ) → length b ≡ SETUP-BYTES → isProfile (word b SETUP-PROFILE) ≡ true → length first ≡ INPUT-BYTES → length later ≡ INPUT-BYTES →
+  pub again : (b first later : List ℕ) → SetsUp b → length first ≡ INPUT-BYTES → length later ≡ INPUT-BYTES →
       answered p (ran p (p .setUp blankImage b .later) (replicate (suc n) first)) later ≡ answered p (p .setUp blankImage b .later) first
 
 -- ---- a run in which the planner is given control and then loses it
 
--- the set (1, 1, 1.75), enter 0.5, exit 1, the profile by its word; else all zeros
+-- the set (1, 1, 1.75), enter 0.5, exit 1, the gyro filtered at 80 Hz of 1000, the profile by its word; else all zeros
 abbrev pub levelSetUpBy : ℕ → List ℕ
 levelSetUpBy profile =
-    bytesOf (replicate 9 0 ++ 0x3f80_0000 ∷ 0x3f80_0000 ∷ 0x3fe0_0000 ∷ 0x3f00_0000 ∷ 0x3f80_0000 ∷ replicate 36 0 ++ profile ∷ [])
+    bytesOf (replicate 9 0 ++ 0x3f80_0000 ∷ 0x3f80_0000 ∷ 0x3fe0_0000 ∷ 0x3f00_0000 ∷ 0x3f80_0000 ∷ replicate 34 0 ++ 0x42a0_0000 ∷ 0x447a_0000 ∷ profile ∷ [])
 
 abbrev pub levelSetUp : List ℕ
 levelSetUp = levelSetUpBy 0

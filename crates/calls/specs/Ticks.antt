@@ -7,13 +7,16 @@ use lib.Ieee.{Float}
 use Rattle.latch.specs.Latch.{after}
 use Rattle.relay_geo.specs.declared.shield.SimplexShield.{SimplexShield}
 use Rattle.joint_tick.specs.Tick.{shieldOf as shieldOfState}
-use Rattle.image.specs.Layout.{INPUT-BYTES, ANSWER-BYTES}
+use Rattle.image.specs.Layout.{IMAGE-BYTES, INPUT-BYTES, ANSWER-BYTES}
 use Rattle.image.specs.Image.{stateAt}
 use Rattle.outcome.specs.declared.Outcome.the-variants.{Done}
 use Rattle.outcome.specs.Outcomes.{isDone, Called}
-use Rattle.calls.specs.Entry.{tickRefusal}
+use Rattle.calls.specs.Entry.{setUpRefusal, tickRefusal}
 
--- an image that a tick takes
+-- a set-up's input that is not refused, and an image that a tick takes
+abbrev pub SetsUp : List ℕ → Type 0
+SetsUp setup = setUpRefusal IMAGE-BYTES setup ≡ Done
+
 abbrev pub Accepted : List ℕ → Type 0
 Accepted image = tickRefusal image INPUT-BYTES ANSWER-BYTES ≡ Done
 

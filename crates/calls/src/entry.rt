@@ -14,6 +14,8 @@ use image::PROFILE;
 use image::QUINTIC_WORDS;
 use image::SEGMENT;
 use image::SETUP_BYTES;
+use image::SETUP_FC;
+use image::SETUP_FS;
 use image::SETUP_PROFILE;
 use image::T_END;
 use image::fixed_at;
@@ -34,6 +36,7 @@ use joint_tick::Ticked;
 use joint_tick::is_profile;
 use outcome::Outcome;
 use outcome::is_done;
+use relay_adrc::passes_through;
 use words::bits_of;
 use words::float_at;
 use words::word_at;
@@ -152,7 +155,8 @@ pub fn tick_refusal(image: &[u8], input_len: usize, answer_len: usize) -> Outcom
     Outcome::BrokenImage
 }
 
-// A fresh image from 51 words. What the image held before is not read.
+// A fresh image from 51 words. What the image held before is not read. A cut-off that would leave the gyro unfiltered is refused (request Twelve); an
+// image that was set up so before goes on, for no other call asks.
 pub fn setup(image: &mut [u8], input: &[u8]) -> Outcome
     ensures { λ r. ⌜ left r (now (image .exit)) ≡ setUpCall (now (image .entry)) (now (input .entry)) ⌝ }
 {
@@ -164,6 +168,9 @@ pub fn setup(image: &mut [u8], input: &[u8]) -> Outcome
     }
     if !is_profile(word_at(input, SETUP_PROFILE)) {
         return Outcome::BadProfile;
+    }
+    if passes_through(float_at(input, SETUP_FC), float_at(input, SETUP_FS)) {
+        return Outcome::PassThrough;
     }
     let state = joint_tick::set_up(setup_at(input));
     put_state(

@@ -28,6 +28,8 @@ pub use layout::PROFILE;
 pub use layout::QUINTIC_WORDS;
 pub use layout::SEGMENT;
 pub use layout::SETUP_BYTES;
+pub use layout::SETUP_FC;
+pub use layout::SETUP_FS;
 pub use layout::SETUP_PROFILE;
 pub use layout::T_END;
 pub use parts::adrc_gains_at;

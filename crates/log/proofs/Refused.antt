@@ -14,11 +14,11 @@ use Rattle.laws.proofs.Tests.{no}
 use Rattle.words.proofs.Written.{sets-other}
 use Rattle.image.specs.Layout.{INPUT-BYTES, ANSWER-BYTES}
 use Rattle.outcome.specs.declared.Outcome.{Outcome}
-use Rattle.outcome.specs.declared.Outcome.the-variants.{BrokenLog, NoRoom}
+use Rattle.outcome.specs.declared.Outcome.the-variants.{BrokenLog, NoRoom, PassThrough}
 use Rattle.outcome.specs.Outcomes.{number, isDone, firstOf, left, Filled}
-use Rattle.outcome.proofs.Tables.{either, refused-keeps}
+use Rattle.outcome.proofs.Tables.{never-given, refused-keeps, either}
 use Rattle.log.specs.Form.{RECORD-BYTES, TRAILER-BYTES, MOST-RECORDS, trailer, emptyLog, fromEnd, countOf, isLog}
-use Rattle.log.specs.Entry.{appendRefusal, appendCall}
+use Rattle.log.specs.Entry.{appendTable, appendRefusal, appendCall, countTable, recordTable}
 use Rattle.log.proofs.Taken.{Taken, taken}
 
 -- ---- "The reader, on a whole slice, gives 8 alike."
@@ -98,3 +98,12 @@ module _ (buffer : List ℕ) (len : ℕ) (input answer : List ℕ) where
   no-other-byte i h =
       either (λ (l : Filled). getD (l .later) i 0 ≡ getD buffer i 0) (appendRefusal buffer len (length input) (length answer))
       (λ d. sets-other vs buffer (len - TRAILER-BYTES) i (rw (run-ends (taken buffer len (length input) (length answer) d)) h)) (λ d. refl)
+
+-- ---- "11 .. at set-up alone" (request Twelve)
+
+pub no-append-gives-eleven : (buffer : List ℕ) (len inputLen answerLen : ℕ) → ¬ (appendRefusal buffer len inputLen answerLen ≡ PassThrough)
+unfolding appendRefusal
+no-append-gives-eleven buffer len inputLen answerLen = never-given PassThrough refl (appendTable buffer len inputLen answerLen) refl
+
+pub no-reading-gives-eleven : (log : List ℕ) (place n : ℕ) → ¬ (firstOf (countTable log n) ≡ PassThrough) × ¬ (firstOf (recordTable log place n) ≡ PassThrough)
+no-reading-gives-eleven log place n = (never-given PassThrough refl (countTable log n) refl, never-given PassThrough refl (recordTable log place n) refl)

@@ -1,16 +1,16 @@
 -- A table of refusals, whatever its rows: when a call is done, which row wins, and what a refused call leaves. Assumes nothing.
-use mathlib.Core.Path.{_≡_, refl, sym, _∙_}
+use mathlib.Core.Path.{_≡_, refl, sym, ap, _∙_}
 use mathlib.Core.Logic.{_↔_}
 use mathlib.Core.Bool.{Bool, true, false, not, _&&_, cond}
 use mathlib.Core.List.{[], _∷_, _++_}
 use Prim.Native.Nat.{ℕ, zero, suc, _<_, suc-le-suc}
 use native.Mathlib.Nat.{zero-lt-suc}
-use borrow.Author.Tests.{eqb-true, not-true, not-false}
+use borrow.Author.Tests.{eqb-true, eq-eqb, not-true, not-false}
 use lib.ListN.{getD}
 use Rattle.laws.proofs.Tests.{no, both}
 use Rattle.outcome.specs.declared.Outcome.{Outcome}
 use Rattle.outcome.specs.declared.Outcome.the-variants.{Done}
-use Rattle.outcome.specs.Outcomes.{isDone, Table, firstOf, differs, Left, left, leftUnless}
+use Rattle.outcome.specs.Outcomes.{number, isDone, Table, firstOf, differs, Left, left, leftUnless}
 
 -- every row refuses: none says that the call is done
 abbrev pub refuses : Table → Bool
@@ -46,6 +46,18 @@ done-exactly rows r = (done-none rows r, none-done rows)
 -- a length that is not refused
 pub same : (x n : ℕ) → differs x n ≡ false → x ≡ n
 same x n e = eqb-true x n (not-false _ e)
+
+-- ---- an outcome that no row has is not given
+
+abbrev pub without : Outcome → Table → Bool
+without o [] = true
+without o (row ∷ rows) = differs (number (row .1)) (number o) && without o rows
+
+pub never-given : (o : Outcome) → isDone o ≡ false → (rows : Table) → without o rows ≡ true → ¬ (firstOf rows ≡ o)
+never-given o d [] w e = no (sym d ∙ ap isDone (sym e))
+never-given o d ((true, x) ∷ rows) w e =
+    no (ap not (sym (eq-eqb (number o) (number o) refl)) ∙ ap (λ (y : Outcome). differs (number y) (number o)) (sym e) ∙ both (differs (number x) (number o)) (without o rows) w .0)
+never-given o d ((false, x) ∷ rows) w e = never-given o d rows (both (differs (number x) (number o)) (without o rows) w .1) e
 
 -- one table after another
 pub in-turn : (rows more : Table) → refuses rows ≡ true → firstOf (rows ++ more) ≡ cond (isDone (firstOf rows)) (firstOf more) (firstOf rows)

@@ -1,5 +1,5 @@
-// How a call ends. Document 01 numbers the first five, requests One, Two and Six of document 02 the next six. The numbers above 12 are our own: no document
-// gives one to "there is no such record", nor to a wrong buffer for one.
+// How a call ends. Document 01 numbers the first five, requests One, Two, Six and Twelve of document 02 the next seven. The numbers above 12 are our own: no
+// document gives one to "there is no such record", nor to a wrong buffer for one.
 ghost use mathlib.Core.Path.{_≡_};
 ghost use Rattle.outcome.specs.Outcomes.{number, isDone};
 
@@ -15,6 +15,7 @@ pub enum Outcome {
     BrokenLog,
     NoRoom,
     BadProfile,
+    PassThrough,
     NoRecord,
     RecordLength,
 }
@@ -34,6 +35,7 @@ pub fn number(outcome: Outcome) -> u32
         Outcome::BrokenLog => 8,
         Outcome::NoRoom => 9,
         Outcome::BadProfile => 10,
+        Outcome::PassThrough => 11,
         Outcome::NoRecord => 13,
         Outcome::RecordLength => 14,
     }

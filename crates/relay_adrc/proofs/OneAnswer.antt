@@ -31,6 +31,9 @@ adrc-axis-reset-once κs a x y v w p q = (no-second p q, refl)
 pub adrc-axis-set-delivered-fraction-once : OneAnswer axis.AdrcAxis.set_delivered_fraction.ended axis.AdrcAxis.set_delivered_fraction.Reads.Post
 adrc-axis-set-delivered-fraction-once κs a x y v w p q = (no-second p q, refl)
 
+pub passes-through-once : OneAnswer biquad.passes_through.ended biquad.passes_through.Reads.Post
+passes-through-once κs a x y v w p q = (no-second p q, refl)
+
 pub biquad-lowpass-once : OneAnswer biquad.Biquad.lowpass.ended biquad.Biquad.lowpass.Reads.Post
 biquad-lowpass-once κs a x y v w p q = (no-second p q, refl)
 

@@ -28,8 +28,8 @@ pub struct Filtered {
     pub y: f32,
 }
 
-// Whether `lowpass` makes no filter of fc and fs.
-fn passes_through(fc: f32, fs: f32) -> bool
+// Whether `lowpass` makes no filter of fc and fs. Set-up refuses by it (request Twelve).
+pub fn passes_through(fc: f32, fs: f32) -> bool
     ensures { λ r. ⌜ r ≡ passesThrough fc fs ⌝ }
 {
     !(fc > 0.0) || (!(fs > 0.0) || fc >= 0.5 * fs)

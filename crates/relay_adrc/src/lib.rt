@@ -14,6 +14,7 @@ pub use biquad::Biquad;
 pub use biquad::Filtered;
 pub use biquad::GyroFiltered;
 pub use biquad::GyroLpf;
+pub use biquad::passes_through;
 pub use filter::CommandFilter;
 pub use filter::CommandFilter3;
 pub use filter::Stepped;

@@ -5,22 +5,21 @@ use mathlib.Core.List.{List, [], _∷_, _++_}
 use Prim.Native.Nat.{ℕ}
 use lib.Ieee.{Float, lt}
 use lib.ListN.{length}
-use Rattle.words.specs.Words.{word, float}
+use Rattle.words.specs.Words.{float}
 use Rattle.latch.specs.Latch.{latch, after, engagedAfter}
 use Rattle.relay_geo.specs.declared.shield.SimplexShield.{SimplexShield}
 use Rattle.relay_geo.proofs.SetUp.{starts-engaged}
 use Rattle.joint_tick.specs.declared.state.State.{State}
-use Rattle.joint_tick.specs.Profile.{isProfile}
 use Rattle.joint_tick.specs.SetUp.{setUp}
 use Rattle.joint_tick.proofs.Shielding.{tick-latch}
 use Rattle.outcome.specs.declared.Outcome.the-variants.{Done}
 use Rattle.outcome.specs.Outcomes.{left, Called}
-use Rattle.image.specs.Layout.{ENTER, EXIT, IMAGE-BYTES, SETUP-PROFILE, SETUP-BYTES}
+use Rattle.image.specs.Layout.{ENTER, EXIT, IMAGE-BYTES}
 use Rattle.image.specs.Image.{fixedAt, stateAt}
 use Rattle.image.specs.Inputs.{setupAt, inputAt}
 use Rattle.image.proofs.Decoded.{decode-encode}
-use Rattle.calls.specs.Entry.{setUpRefusal, setUpCall}
-use Rattle.calls.specs.Ticks.{Accepted, marginsIf, shieldOf, stepped, Steps}
+use Rattle.calls.specs.Entry.{setUpCall}
+use Rattle.calls.specs.Ticks.{SetsUp, Accepted, marginsIf, shieldOf, stepped, Steps}
 use Rattle.calls.proofs.Going.{set-up-fits, set-up-never-refused, in-order}
 use Rattle.calls.proofs.Steps.{tick-steps, exchange-steps}
 use Rattle.runs.specs.Runs.{Tick, Call, Ticks, Exchanges, leftBy, sourceOn, guided, marginsOf, start, imageAfter, marginsAlong}
@@ -63,9 +62,9 @@ run-steps image (c ∷ calls) a =
 -- ---- from set-up on
 
 -- the image that an accepted set-up leaves is the one that runs start at
-pub set-up-starts : (image setup : List ℕ) → length image ≡ IMAGE-BYTES → length setup ≡ SETUP-BYTES → isProfile (word setup SETUP-PROFILE) ≡ true → setUpCall image setup ≡ left Done (start setup)
-unfolding setUpCall setUpRefusal start
-set-up-starts image setup p q r = rw (p, q, r)
+pub set-up-starts : (image setup : List ℕ) → length image ≡ IMAGE-BYTES → SetsUp setup → setUpCall image setup ≡ left Done (start setup)
+unfolding setUpCall start
+set-up-starts image setup p e = rw (p, e)
 
 module _ (setup : List ℕ) where
   pub start-accepted : Accepted (start setup)

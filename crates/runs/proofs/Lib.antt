@@ -6,3 +6,4 @@ pub mod Kept
 pub mod Exchanged
 pub mod Shams
 pub mod LostRotor
+pub mod Gyro

@@ -9,6 +9,7 @@ use lib.Ieee.Bits.{ofBits-fits}
 use lib.ListN.{length}
 use Rattle.words.specs.Words.{word, float, vec, flag, bits}
 use Rattle.relay_math.specs.F32.{0·0}
+use Rattle.relay_adrc.specs.Biquad.{passesThrough}
 use Rattle.joint_tick.specs.declared.state.State.{State}
 use Rattle.joint_tick.specs.declared.state.TickInput.{TickInput}
 use Rattle.joint_tick.specs.declared.stages.Ticked.{Ticked}
@@ -16,9 +17,10 @@ use Rattle.joint_tick.specs.Profile.{isProfile}
 use Rattle.joint_tick.specs.SetUp.{setUp}
 use Rattle.joint_tick.specs.Tick.{referenceAt, ticked, stateAfter}
 use Rattle.joint_tick.proofs.LostRotor.{headed, heading-unread, third-stands, third-command-zero}
-use Rattle.outcome.specs.declared.Outcome.the-variants.{Done, ImageLength, BrokenImage, BadProfile}
+use Rattle.outcome.specs.declared.Outcome.{Outcome}
+use Rattle.outcome.specs.declared.Outcome.the-variants.{Done, ImageLength, BrokenImage, BadProfile, PassThrough}
 use Rattle.outcome.specs.Outcomes.{leftUnless, lent, Called}
-use Rattle.image.specs.Layout.{COUNT, PROFILE, IMAGE-WORDS, IMAGE-BYTES, SETUP-PROFILE, SETUP-BYTES, YAW, YAW-RATE, INPUT-BYTES, TORQUE, COMMAND, ANSWER-BYTES}
+use Rattle.image.specs.Layout.{COUNT, PROFILE, IMAGE-WORDS, IMAGE-BYTES, SETUP-FC, SETUP-FS, SETUP-PROFILE, SETUP-BYTES, YAW, YAW-RATE, INPUT-BYTES, TORQUE, COMMAND, ANSWER-BYTES}
 use Rattle.image.specs.Parts.{quatAt}
 use Rattle.image.specs.Image.{stateAt, imageOf}
 use Rattle.image.specs.Inputs.{setupAt, inputAt, answerOf}
@@ -98,14 +100,15 @@ planner-flies-unheaded yaw =
 
 -- ---- what is refused
 
--- "10 set-up word 51 not 0 or 1, after 2"
-pub ten-exactly : (input : List ℕ) → length input ≡ SETUP-BYTES → setUpRefusal IMAGE-BYTES input ≡ cond (isProfile (word input SETUP-PROFILE)) Done BadProfile
+-- "10 set-up word 51 not 0 or 1, after 2", and before 11, which proofs/Gyro.antt is about
+pub ten-exactly : (input : List ℕ) → length input ≡ SETUP-BYTES
+    → setUpRefusal IMAGE-BYTES input ≡ cond (isProfile (word input SETUP-PROFILE)) (cond (passesThrough (float input SETUP-FC) (float input SETUP-FS)) PassThrough Done) BadProfile
 unfolding setUpRefusal
-ten-exactly input e = rw e (by (isProfile (word input SETUP-PROFILE)))
+ten-exactly input e = rw e (by (isProfile (word input SETUP-PROFILE)) (cond (passesThrough (float input SETUP-FC) (float input SETUP-FS)) PassThrough Done))
   where
-    by : (b : Bool) → cond (not b) BadProfile Done ≡ cond b Done BadProfile
-    by true = refl
-    by false = refl
+    by : (b : Bool) (o : Outcome) → cond (not b) BadProfile o ≡ cond b o BadProfile
+    by true o = refl
+    by false o = refl
 
 -- "Old images get 1", and 4 in the new length
 pub old-length-refused : (image : List ℕ) (inputLen answerLen : ℕ) → length image ≡ 380 → tickRefusal image inputLen answerLen ≡ ImageLength

@@ -18,7 +18,7 @@ use Rattle.image.specs.Image.{fixedAt, stateAt}
 use Rattle.image.specs.Inputs.{inputAt}
 use Rattle.calls.specs.Entry.{onSegment}
 use Rattle.calls.specs.Shams.{Program, Keeps, AnswersOnly, EchoesAfter, blankAnswer, blankImage, ran, answered, levelSetUp, levelInput, lostInput}
-use Rattle.calls.proofs.Shams.{level-profile, planner-flies}
+use Rattle.calls.proofs.Shams.{level-profile, level-sets-up, planner-flies}
 use Rattle.runs.specs.Runs.{Call, Ticks, flying, leftBy, guided, start, imageAfter, marginsAlong}
 use Rattle.runs.specs.DemandThree.{enterOf, exitOf, flagOf}
 use Rattle.runs.specs.Shams.{plain, KeepsDemandThree}
@@ -110,7 +110,7 @@ module _ (p : Program) (k : KeepsDemandThree p) where
 
   pub not-echoing : (n : ℕ) → ¬ (EchoesAfter p n)
   not-echoing n r =
-      let from : p .setUp blankImage levelSetUp .later ≡ start levelSetUp = ap (λ (l : Filled). l .later) (k .setUp blankImage levelSetUp ∙ set-up-starts blankImage levelSetUp refl refl level-profile) in
-      let again = subst (λ (b : List ℕ). answered p (ran p b (replicate (suc n) levelInput)) lostInput ≡ answered p b levelInput) from (r .again levelSetUp levelInput lostInput refl level-profile refl refl) in
+      let from : p .setUp blankImage levelSetUp .later ≡ start levelSetUp = ap (λ (l : Filled). l .later) (k .setUp blankImage levelSetUp ∙ set-up-starts blankImage levelSetUp refl level-sets-up) in
+      let again = subst (λ (b : List ℕ). answered p (ran p b (replicate (suc n) levelInput)) lostInput ≡ answered p b levelInput) from (r .again levelSetUp levelInput lostInput level-sets-up refl refl) in
       then-no-zero (replicate (suc n) (Ticks (plain levelInput)))
       (ap (λ (b : List ℕ). word (answered p b lostInput) FLAG) (sym (along (suc n) (start levelSetUp))) ∙ ap (λ (b : List ℕ). word b FLAG) again ∙ first-zero)

@@ -3,3 +3,4 @@ pub mod DemandThree
 pub mod Kept
 pub mod Shams
 pub mod LostRotor
+pub mod Gyro

@@ -271,6 +271,11 @@ fn setups() -> Section {
     Section::calls("set-up", 500, rows.collect())
 }
 
+/// The image of any set-up's words: one of an earlier release where the cut-off passes through.
+fn fresh(image: &mut [u8], input: &[u8]) {
+    Flight::set_up(input).write(image);
+}
+
 fn set_up(image: &mut [u8], input: &[u8]) -> u32 {
     model::call(Fault::None, joint::Call::SetUp, &mut Lending { image, input, route: &[], answer: &mut [] })
 }
@@ -291,7 +296,7 @@ fn exchanges() -> Section {
         let mut image = buffer(&mut rng, IMAGE + MORE, &[]);
         let mut input = bits(filled::<SETUP_PROFILE>(kind(n / 4), &set_up_parts(), &mut rng)).to_vec();
         input.push((n % 2) as u32);
-        set_up(&mut image[..IMAGE], &buffer(&mut rng, SETUP, &input));
+        fresh(&mut image[..IMAGE], &buffer(&mut rng, SETUP, &input));
         for _ in 0..rng.below(4) {
             let words = bits(filled::<{ TICK / 4 }>(kind(n / 16), &INPUT, &mut rng));
             let input = buffer(&mut rng, TICK, &words);
@@ -353,7 +358,7 @@ fn run(name: &str, number: u64, ticks: u64, on_routes: bool) -> Vec<Row> {
     let mut image = buffer(&mut rng, IMAGE + MORE, &[]);
     let mut input = buffer(&mut rng, SETUP, &bits(s));
     put(&mut input, SETUP_PROFILE, (number / 8 % 2) as u32);
-    set_up(&mut image[..IMAGE], &input);
+    fresh(&mut image[..IMAGE], &input);
     (0..ticks)
         .map(|t| {
             let kind = if level { Kind::Flight } else { KINDS[(t % 4) as usize] };

@@ -55,7 +55,7 @@ fn the_list_has_every_routine_every_number_and_both_controllers() {
         println!("{name}: {all:?} come {counts:?} times");
         assert!(counts.iter().all(|n| *n >= least) && counts.iter().sum::<usize>() == rows.len(), "{name}: {counts:?}");
     };
-    numbers("set-up", &[0, 1, 2, 10], 6);
+    numbers("set-up", &[0, 1, 2, 10, 11], 6);
     numbers("tick", &[0, 1, 2, 3, 4], 21);
     numbers("route tick", &[0, 1, 2, 3, 4, 5, 6, 7], 10);
     numbers("exchange", &[0, 1, 2, 4], 5);

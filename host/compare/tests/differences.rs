@@ -1,6 +1,7 @@
 //! docs/DIFFERENCES.md, line by line: the input that shows a difference is run through the archive's own calls and through the Rust as published.
 
 use compare::joint::bytes::{float, put, word, ANSWER, IMAGE, SETUP, SETUP_PROFILE, TICK};
+use compare::joint::model::Flight;
 use faces::geo::{Mat3, Quat, RecoverableSet};
 use faces::{adrc, geo, pos, traj, BodyRate, Vec3};
 use oracle::{adrc as rust_adrc, geo as rust_geo, pos as rust_pos, traj as rust_traj};
@@ -105,7 +106,8 @@ fn the_feedforward_has_the_other_sign() {
     both(ours.rate.0 .1, theirs[1], theirs[1].to_bits());
 }
 
-/// Level at heading 0, turning at 2 as commanded: through the archive, and with all of the rate handed to the Rust's own margin.
+/// Level at heading 0, turning at 2 as commanded: through the archive, and with all of the rate handed to the Rust's own margin. The image has no
+/// filter, as earlier releases took it.
 #[test]
 fn a_tick_counts_no_commanded_turning_as_error() {
     let (mut image, mut answer) = ([0; IMAGE], [0; ANSWER]);
@@ -113,7 +115,8 @@ fn a_tick_counts_no_commanded_turning_as_error() {
     [(9, 1.0f32), (10, 1.0), (11, 1.75), (35, 2.0)].iter().for_each(|(at, x)| put(&mut set_up, *at, x.to_bits()));
     let mut input = [0; TICK];
     [(2, 2.0f32), (3, 1.0), (9, 2.0), (10, 0.001)].iter().for_each(|(at, x)| put(&mut input, *at, x.to_bits()));
-    assert_eq!([faces::setup(&mut image, &set_up), faces::tick(&mut image, &input, &mut answer)], [0, 0]);
+    Flight::set_up(&set_up).write(&mut image);
+    assert_eq!(faces::tick(&mut image, &input, &mut answer), 0);
     let set = rust_geo::RecoverableSet::new(1.0, 1.0, 1.75);
     assert_eq!([float(&answer, 9), set.margin(float(&answer, 8), 4.0)], [1.75, 0.0]);
 }
@@ -121,7 +124,8 @@ fn a_tick_counts_no_commanded_turning_as_error() {
 /// One tick of a fresh image at rest with the set (1, 1, 1.75) in this profile: the answer.
 fn at_rest(profile: u32, words: &[(usize, f32)]) -> [u8; ANSWER] {
     let (mut image, mut answer, mut set_up, mut input) = ([0; IMAGE], [0; ANSWER], [0; SETUP], [0; TICK]);
-    [(0, 0.6f32), (1, 0.6), (9, 1.0), (10, 1.0), (11, 1.75), (35, 2.0)].iter().for_each(|(at, x)| put(&mut set_up, *at, x.to_bits()));
+    let own = [(0, 0.6f32), (1, 0.6), (9, 1.0), (10, 1.0), (11, 1.75), (35, 2.0), (48, 80.0), (49, 1000.0)];
+    own.iter().for_each(|(at, x)| put(&mut set_up, *at, x.to_bits()));
     put(&mut set_up, SETUP_PROFILE, profile);
     words.iter().for_each(|(at, x)| put(&mut input, *at, x.to_bits()));
     assert_eq!([faces::setup(&mut image, &set_up), faces::tick(&mut image, &input, &mut answer)], [0, 0]);
@@ -150,9 +154,10 @@ fn with_a_rotor_lost_the_fallback_is_a_rate() {
 /// Nothing of before is taken for an image or a set-up of today.
 #[test]
 fn images_of_before_are_refused() {
-    let mut image = [0; IMAGE];
-    assert_eq!(faces::setup(&mut image, &[0; SETUP]), 0);
-    assert_eq!((faces::setup(&mut image, &[0; 200]), faces::setup(&mut [0; 380], &[0; SETUP])), (2, 1));
+    let (mut image, mut set_up) = ([0; IMAGE], [0; SETUP]);
+    [(48, 80.0f32), (49, 1000.0)].iter().for_each(|(at, x)| put(&mut set_up, *at, x.to_bits()));
+    assert_eq!(faces::setup(&mut image, &set_up), 0);
+    assert_eq!((faces::setup(&mut image, &set_up[..200]), faces::setup(&mut [0; 380], &set_up)), (2, 1));
     let tick = |image: &mut [u8]| faces::tick(image, &[0; TICK], &mut [0; ANSWER]);
     assert_eq!(tick(&mut image.clone()), 0);
     put(&mut image, 0, 95);

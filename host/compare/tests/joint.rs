@@ -3,7 +3,7 @@
 
 use compare::generate::Rng;
 use compare::joint::bytes::{float, put, raw, word, ANSWER, IMAGE, LEG, PEAKS, PROFILE, SETUP, SETUP_PROFILE, TICK, WORDS};
-use compare::joint::fault::{Fault, WRONG, WRONG_ERROR, WRONG_PROFILE};
+use compare::joint::fault::{Fault, WRONG, WRONG_CUT_OFF, WRONG_ERROR, WRONG_PROFILE};
 use compare::joint::guide::PLAIN;
 use compare::joint::lent::Lending;
 use compare::joint::model::{self, Flight, Profile};
@@ -49,7 +49,7 @@ fn covered(seen: &Seen) {
 
 #[test]
 fn what_looks_right_but_is_wrong_is_caught() {
-    let all = [WRONG, WRONG_ERROR, WRONG_PROFILE].concat();
+    let all = [WRONG, WRONG_ERROR, WRONG_PROFILE, WRONG_CUT_OFF].concat();
     let missed: Vec<_> = all.into_iter().filter(|fault| !caught(*fault, runs::GATE, Watch::All, PLAIN)).collect();
     assert!(missed.is_empty(), "not caught within {} ticks: {missed:?}", runs::GATE);
 }
@@ -83,7 +83,7 @@ fn every_length_of_every_buffer() {
     let setups = lengths::setups(&archive).unwrap_or_else(|text| panic!("{text}"));
     let exchanges = lengths::exchanges(&archive).unwrap_or_else(|text| panic!("{text}"));
     let ticks = lengths::ticks(&archive).unwrap_or_else(|text| panic!("{text}"));
-    assert_eq!((setups, exchanges, ticks), (2 * 401 * 401, 2 * 401 * 401, 2 * 401 * 401 * 401));
+    assert_eq!((setups, exchanges, ticks), (4 * 401 * 401, 2 * 401 * 401, 2 * 401 * 401 * 401));
     println!("{setups} set-ups, {exchanges} exchanges and {ticks} ticks, {:.1} s", start.elapsed().as_secs_f32());
 }
 
@@ -106,7 +106,8 @@ fn a_wrong_length_taken_or_a_byte_changed_is_caught() {
     let broken = |call, lent: &mut Lending<'_>| model::call(Fault::BrokenFirst, call, lent);
     assert!(lengths::exchanges(&writes).is_err() && lengths::exchanges(&broken).is_err());
     assert!(lengths::ticks(&longer).is_err() && lengths::ticks(&writes).is_err());
-    assert!(lengths::setups(&writes).is_err() && lengths::setups(&profile).is_err());
+    let through = |call, lent: &mut Lending<'_>| model::call(Fault::ThroughFirst, call, lent);
+    assert!(lengths::setups(&writes).is_err() && lengths::setups(&profile).is_err() && lengths::setups(&through).is_err());
 }
 
 /// What a tick would be refused for, asked beforehand: of good images and damaged ones, at lengths that are right and that are not.
@@ -141,7 +142,8 @@ fn a_tick_tells_beforehand_what_it_would_be_refused_for() {
 const NAN: u32 = 0x7fc0_0000;
 const INFINITY: u32 = 0x7f80_0000;
 
-/// Level at rest for 2 s: gains 1, 2, .. 9, the set (1, 1, 1.75), enter 0.5, exit 1, error 1 to 3, g_min 0.25, no filter.
+/// Level at rest for 2 s: gains 1, 2, .. 9, the set (1, 1, 1.75), enter 0.5, exit 1, error 1 to 3, g_min 0.25, and document 01's filter
+/// whose angle overflows, for its coefficients are plain.
 fn set_up() -> [u8; SETUP] {
     let mut input = [0; SETUP];
     let mut at = 0;
@@ -156,7 +158,7 @@ fn set_up() -> [u8; SETUP] {
     add(&[0.0; 18]);
     add(&[2.0]);
     add(&[[4.0, 2.0, 2.0, 0.0]; 3].concat());
-    add(&[0.0, 1000.0]);
+    add(&[1e38, 3e38]);
     input
 }
 
@@ -173,10 +175,17 @@ fn still() -> [u8; TICK] {
     input
 }
 
-fn image_of(input: &[u8; SETUP]) -> [u8; IMAGE] {
+fn fresh(input: &[u8; SETUP]) -> [u8; IMAGE] {
     let mut image = [0xee; IMAGE];
     assert_eq!(faces::setup(&mut image, input), 0);
     image
+}
+
+/// The same with no filter, as an earlier release would have set it up: so the rates below are what the margin counts.
+fn image_of(input: &[u8; SETUP]) -> [u8; IMAGE] {
+    let through = [0x3f80_0000, 0, 0, 0, 0];
+    let filters = [68, 77, 86].into_iter().flat_map(|axis| (axis..).zip(through));
+    with(fresh(input), &filters.collect::<Vec<_>>())
 }
 
 fn tick(image: &mut [u8; IMAGE], input: &[u8; TICK]) -> [u8; ANSWER] {
@@ -193,7 +202,7 @@ fn with<const N: usize>(mut bytes: [u8; N], words: &[(usize, u32)]) -> [u8; N] {
 
 #[test]
 fn the_image_by_hand() {
-    let image = image_of(&set_up());
+    let image = fresh(&set_up());
     assert_eq!((word(&image, 0), word(&image, 95)), (99, 0));
     assert_eq!(word(&image_of(&lost_rotor()), 95), 1);
     (1..10).for_each(|at| assert_eq!(float(&image, at), at as f32));
@@ -203,9 +212,10 @@ fn the_image_by_hand() {
     let floats: Vec<f32> = (16..95).map(|at| float(&image, at)).collect();
     let axis = [0.0, 0.0, 0.0, 0.0, 0.0, 0.0, 2.0];
     let adrc = [0.0, 0.0, 0.0, 0.0, 1.0, 4.0, 2.0, 2.0, 0.0];
-    let filter = [1.0, 0.0, 0.0, 0.0, 0.0, 0.0, 0.0, 0.0, 0.0];
+    let filter = [0.5, 1.0, 0.5, -0.0, 1.0, 0.0, 0.0, 0.0, 0.0];
     let expected = [vec![0.0, 1.0, 3.0, 0.25], [axis; 3].concat(), [adrc; 3].concat(), [filter; 3].concat()].concat();
     assert_eq!(floats, expected);
+    assert_eq!([71, 80, 89].map(|at| word(&image, at)), [0x8000_0000; 3]);
     assert_eq!([96, 97, 98].map(|at| word(&image, at)), [0; 3]);
 }
 
@@ -388,6 +398,49 @@ fn profiles_by_hand() {
     let old = with(image_of(&set_up()), &[(0, 96)]);
     assert_eq!(faces::tick(&mut old.clone(), &still(), &mut [0; ANSWER]), 4);
     assert_eq!(faces::tick(&mut old[..384].to_vec(), &still(), &mut [0; ANSWER]), 1);
+}
+
+/// "11, after 10, at set-up alone": by hand at and about what decides. Nothing of the image is changed.
+#[test]
+fn cut_offs_by_hand() {
+    let number = |fc: f32, fs: f32, profile: u32, len: usize| {
+        let mut lent = [0xee; IMAGE];
+        let input = with(set_up(), &[(48, fc.to_bits()), (49, fs.to_bits()), (SETUP_PROFILE, profile)]);
+        let number = faces::setup(&mut lent, &input[..len]);
+        assert!((number == 0) == (lent != [0xee; IMAGE]));
+        number
+    };
+    let half = 500.0f32;
+    for (fc, fs, refused) in [
+        (0.0, 1000.0, true),
+        (-0.0, 1000.0, true),
+        (-80.0, 1000.0, true),
+        (f32::NAN, 1000.0, true),
+        (f32::INFINITY, 1000.0, true),
+        (half, 1000.0, true),
+        (half.next_up(), 1000.0, true),
+        (half.next_down(), 1000.0, false),
+        (f32::from_bits(1), 1000.0, false),
+        (80.0, 0.0, true),
+        (80.0, -0.0, true),
+        (80.0, -1000.0, true),
+        (80.0, f32::NAN, true),
+        (80.0, f32::NEG_INFINITY, true),
+        (80.0, f32::INFINITY, false),
+        (f32::MAX, f32::INFINITY, false),
+        (f32::INFINITY, f32::INFINITY, true),
+        (1e38, 3e38, false),
+        // half of the smallest number rounds to 0
+        (f32::from_bits(1), f32::from_bits(1), true),
+        (f32::from_bits(1), f32::from_bits(2), true),
+        (f32::from_bits(1), f32::from_bits(3), false),
+    ] {
+        for profile in [0, 1] {
+            assert_eq!(number(fc, fs, profile, SETUP), if refused { 11 } else { 0 }, "{fc} {fs}");
+        }
+        assert_eq!((number(fc, fs, 2, SETUP), number(fc, fs, 0, SETUP - 1), number(fc, fs, 2, SETUP - 1)), (10, 2, 2), "{fc} {fs}");
+    }
+    assert_eq!(faces::setup(&mut [0; IMAGE - 1], &with(set_up(), &[(48, 0)])), 1);
 }
 
 /// Of the values of word 95 a tick takes two: looked at are the first million, all of at most three bits, and one in 4099.

@@ -92,12 +92,12 @@ fn bytes(legs: &[[f32; WORDS]]) -> Vec<u8> {
     legs.iter().flatten().map(|x| x.to_bits()).chain(trailer).flat_map(u32::to_le_bytes).collect()
 }
 
-/// Gains and set as in flight, thresholds that no margin reaches, no filter, and this segment: the fallback flies, and its command shows the
+/// Gains and set as in flight, thresholds that no margin reaches, and this segment: the fallback flies, and its command shows the
 /// jerk, which no join takes over.
 fn set_up(segment: &[f32; WORDS]) -> [u8; SETUP] {
     let gains = [0.6, 0.6, 0.15, 0.12, 0.12, 0.35, 0.0217, 0.0217, 0.04, 1.0, 1.0, 1.75, 5.0, 9.0, 1.0, 3.0, 0.25];
     let rate = [[40.0, 12.0, 60.0, 0.0]; 3].concat();
-    raw(&[gains.as_slice(), segment, &rate, &[0.0, 1000.0]].concat())
+    raw(&[gains.as_slice(), segment, &rate, &[80.0, 1000.0]].concat())
 }
 
 /// Level and on track, a step that brings a fresh clock to this time.

@@ -26,7 +26,7 @@ pub struct Choice {
     pub set: RecoverableSet,
     pub enter: f32,
     pub exit: f32,
-    /// The gyro filter's cut-off, Hz; 0 for none.
+    /// The gyro filter's cut-off, Hz.
     pub fc: f32,
     /// Deviation of the gyro's noise, rad/s: the sensor's own and the frame's shaking.
     pub gyro_noise: f64,
@@ -48,9 +48,9 @@ pub const CHOICES: [Choice; 9] = [
     SHOWN,
     Choice { name: "exit 0.06", exit: 0.06, ..SHOWN },
     Choice { name: "filter at 120 Hz", fc: 120.0, ..SHOWN },
-    Choice { name: "no filter", fc: 0.0, ..SHOWN },
+    Choice { name: "filter at 400 Hz", fc: 400.0, ..SHOWN },
     Choice { name: "noise 0.03 rad/s", gyro_noise: 0.03, ..SHOWN },
-    Choice { name: "noise 0.03 rad/s, no filter", gyro_noise: 0.03, fc: 0.0, ..SHOWN },
+    Choice { name: "noise 0.03 rad/s, 400 Hz", gyro_noise: 0.03, fc: 400.0, ..SHOWN },
     Choice { name: "noise 0.005 rad/s", gyro_noise: 0.005, ..SHOWN },
     Choice { name: "no noise", gyro_noise: 0.0, ..SHOWN },
     // the attitude's error carries the margin, not the rate: 20 degrees at enter, 14 at exit

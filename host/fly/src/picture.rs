@@ -253,7 +253,9 @@ mod tests {
     /// A tick is painted until the next one, a tenth of a second at most, and the last as long as its own step: pauses and ends stay blank.
     #[test]
     fn what_was_recorded_is_painted_and_nothing_else() {
-        let ticks = flown("enter 0.2\nexit 0.4\ntick 100\ngyro 3 0 0\ntick 100\ndt 0.6\ntick 1\ndt 0.02\ntick 10\ngyro 0 0 0\ntick 5\n");
+        let ticks = flown(
+            "enter 0.2\nexit 0.4\ntick 100\nattitude 0 1 0 0\ntick 100\ndt 0.6\ntick 1\ndt 0.02\ntick 10\nattitude 1 0 0 0\ntick 5\n",
+        );
         let [margin, strip, close, close_strip] = blocks(&ticks);
         near(&strip, &[[0.0, 0.1, PLANNER], [0.1, 0.299, FALLBACK], [0.799, 1.019, FALLBACK], [1.019, 1.119, PLANNER]]);
         // the close-up is about the last change
@@ -296,7 +298,8 @@ mod tests {
     /// Long flights are painted by bits of several ticks: all of the flight, and no more.
     #[test]
     fn by_bits() {
-        let ticks = flown(&("enter 0.2\nexit 0.4\ntick 3200\n".to_string() + &"gyro 3 0 0\ntick 2\ngyro 0 0 0\ntick 2\n".repeat(400)));
+        let ticks =
+            flown(&("enter 0.2\nexit 0.4\ntick 3200\n".to_string() + &"attitude 0 1 0 0\ntick 2\nattitude 1 0 0 0\ntick 2\n".repeat(400)));
         let [_, strip, _, _] = blocks(&ticks);
         near(&strip, &[[0.0, 3.2, PLANNER], [3.2, 4.8, BOTH]]);
     }

@@ -14,7 +14,7 @@
 //!
 //! A number is a decimal, `nan`, `inf`, `-inf`, or `0x` and the bits. docs/FLYING.md has all of it.
 
-use fosavalo::{Leg, Profile, Refusal, Route, SetUp, TickInput, LEG_BYTES, SETUP_BYTES, TICK_BYTES};
+use fosavalo::{GyroFilter, Image, Leg, Profile, Refusal, Route, SetUp, TickInput, LEG_BYTES, SETUP_BYTES, TICK_BYTES};
 use std::fmt;
 
 pub const MOST_TICKS: usize = 1_000_000;
@@ -55,6 +55,9 @@ type Field = (&'static str, usize, usize);
 /// The names of the profiles.
 pub const PROFILES: [(&str, Profile); 2] = [("whole", Profile::Whole), ("lost-rotor", Profile::LostRotor)];
 
+/// Where the cut-off stands; the sample rate follows it.
+const FC: usize = 48;
+
 /// Document 01's words of a set-up.
 const SET_UP: [Field; 23] = [
     ("k_r", 0, 3),
@@ -76,8 +79,8 @@ const SET_UP: [Field; 23] = [
     ("adrc_roll", 36, 4),
     ("adrc_pitch", 40, 4),
     ("adrc_yaw", 44, 4),
-    ("fc", 48, 1),
-    ("fs", 49, 1),
+    ("fc", FC, 1),
+    ("fs", FC + 1, 1),
     // several at once, for a set-up that another program wrote
     ("adrc", 36, 12),
     ("set_up", 0, 50),
@@ -121,6 +124,7 @@ impl Scenario {
         let set_up = SetUp::from_bytes(&bytes_of::<SETUP_BYTES>(&reader.set_up));
         let set_up = set_up.map_err(|refusal| Mistake { line: 0, field: "set-up".to_string(), what: refusal.to_string() })?;
         let set_up = SetUp { profile: reader.profile.map_or(Profile::Whole, |(_, profile)| profile), ..set_up };
+        Reader::filters(&reader.given, &set_up)?;
         Ok(Scenario { set_up, route: reader.route()?, inputs: reader.inputs })
     }
 }
@@ -230,6 +234,19 @@ impl Reader {
             route = Some(made.map_err(mistake)?);
         }
         Ok(route)
+    }
+
+    /// Crews turned the filter off with a cut-off of 0, so the sentence says what to write instead.
+    fn filters(given: &[usize], set_up: &SetUp) -> Result<(), Mistake> {
+        let Err(Refusal::PassThrough) = Image::set_up(set_up) else { return Ok(()) };
+        let line = given.iter().skip(FC).take(2).copied().max().unwrap_or(0);
+        let (GyroFilter { fc, fs }, usual) = (set_up.filter, SetUp::falcon_quad().filter);
+        let what = format!(
+            "with fc {fc} and fs {fs} the gyro would not be filtered, which set-up refuses (11): give an fc above 0 and below half of fs, or leave \
+             both out for {} of {}",
+            usual.fc, usual.fs
+        );
+        Err(Mistake { line, field: "fc".to_string(), what })
     }
 
     /// `tick N`, and fields that go evenly to the numbers that follow.

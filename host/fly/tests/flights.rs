@@ -136,7 +136,7 @@ fn each_flight_keeps_its_rule() {
 /// A margin at which the core's shield with exit one f32 above enter is not the earlier rule: that f32. `strays` finds it.
 #[test]
 fn the_one_number_at_which_they_differ_is_found() {
-    // level, still and unfiltered: the margin is 1.75
+    // level and still: the margin is 1.75
     let set_up = SetUp { enter: 1.75f32.next_down(), ..SetUp::falcon_quad() };
     let flight = Flight::of(&set_up, Rule::Earlier, None, &[TickInput::default()]).expect("no set-up is refused");
     assert_eq!((flight.ticks[0].answer.margin, flight.strays()), (1.75, Some(1)));

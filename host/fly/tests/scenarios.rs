@@ -45,6 +45,16 @@ fn mistakes_name_their_line_and_field() {
         Err("line 2: not UTF-8 text".to_string())
     );
     assert_eq!(mistake("\u{feff}enter 1\r\ntick 1\r\n"), "none");
+    // no filter at all
+    let unfiltered = |line: usize, both: &str| {
+        let what = "the gyro would not be filtered, which set-up refuses (11): give an fc above 0 and below half of fs, or leave both out for 80 of 1000";
+        format!("line {line}: fc: with {both} {what}")
+    };
+    assert_eq!(mistake("enter 1\nfc 0\ntick 1"), unfiltered(2, "fc 0 and fs 1000"));
+    assert_eq!(mistake("fc 100\n\nfs 200\ntick 1"), unfiltered(3, "fc 100 and fs 200"));
+    assert_eq!(mistake("fc nan\ntick 1"), unfiltered(1, "fc NaN and fs 1000"));
+    assert_eq!(mistake(&format!("set_up {}\ntick 1", "0 ".repeat(50))), unfiltered(1, "fc 0 and fs 0"));
+    assert_eq!((mistake("fc 499.9\ntick 1"), mistake("fs inf\ntick 1")), ("none".to_string(), "none".to_string()));
 }
 
 /// Legs make a route, which is flown in place of the segment; ones that do not are a mistake.

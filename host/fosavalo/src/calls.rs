@@ -2,10 +2,10 @@
 //! byte is changed. They do not ask for the floating-point environment ([`FloatFault`](crate::FloatFault)).
 //!
 //! ```
-//! use fosavalo::{calls, Refusal, ANSWER_BYTES, IMAGE_BYTES, SETUP_BYTES, TICK_BYTES};
+//! use fosavalo::{calls, Refusal, SetUp, ANSWER_BYTES, IMAGE_BYTES, TICK_BYTES};
 //!
 //! let mut image = [0; IMAGE_BYTES];
-//! assert_eq!(calls::setup(&mut image, &[0; SETUP_BYTES]), 0);
+//! assert_eq!(calls::setup(&mut image, &SetUp::falcon_quad().to_bytes()), 0);
 //!
 //! // an answer that is a byte short: number 3, and the image is as it was
 //! let before = image;
@@ -107,7 +107,7 @@ pub fn cosf(x: f32) -> f32 {
     unsafe { raw::fosavalo_cosf(x) }
 }
 
-/// Writes a fresh image; what stood in it is not read. Gives 0, 1, 2 or 10.
+/// Writes a fresh image; what stood in it is not read. Gives 0, 1, 2, 10 or 11.
 #[inline]
 pub fn setup(image: &mut [u8], input: &[u8]) -> u32 {
     // SAFETY: each pointer goes with its slice's own length, the function is proved to stay within them, and borrowing keeps
@@ -142,10 +142,10 @@ pub fn tick(image: &mut [u8], input: &[u8], answer: &mut [u8]) -> u32 {
 /// One joint tick toward a route in place of the image's segment. Gives 0 to 7.
 ///
 /// ```
-/// use fosavalo::{calls, ANSWER_BYTES, IMAGE_BYTES, SETUP_BYTES, TICK_BYTES};
+/// use fosavalo::{calls, SetUp, ANSWER_BYTES, IMAGE_BYTES, TICK_BYTES};
 ///
 /// let mut image = [0; IMAGE_BYTES];
-/// calls::setup(&mut image, &[0; SETUP_BYTES]);
+/// calls::setup(&mut image, &SetUp::falcon_quad().to_bytes());
 /// let mut fly = |route: &[u8]| calls::route_tick(&mut image, &[0; TICK_BYTES], route, &mut [0; ANSWER_BYTES]);
 /// assert_eq!(fly(&[0; 7]), 6); // too short for a trailer
 /// assert_eq!(fly(&[0; 8]), 5); // no leg

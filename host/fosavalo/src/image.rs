@@ -6,15 +6,16 @@ use core::fmt;
 /// The state that goes from tick to tick: 396 bytes that may be copied, stored and sent.
 ///
 /// ```
-/// use fosavalo::{BodyRate, Image, Pilot, SetUp, TickInput};
+/// use fosavalo::{Image, Pilot, SetUp, TickInput};
 ///
 /// let mut image = Image::set_up(&SetUp::falcon_quad())?; // enter 0.5, exit 1
-/// let mut fly = |rate| image.tick(&TickInput { gyro: BodyRate([rate, 0.0, 0.0]), ..TickInput::default() }).map(|a| (a.margin, a.pilot));
+/// // tilted, by the sine of half the angle: psi is twice its square, and the margin 1.75 less psi
+/// let mut fly = |x: f32| image.tick(&TickInput { attitude: [(1.0 - x * x).sqrt(), x, 0.0, 0.0], ..TickInput::default() }).map(|a| (a.margin, a.pilot));
 ///
-/// assert_eq!(fly(1.75)?, (0.9375, Pilot::Fallback)); // a fresh shield is engaged, and the band does not release it
-/// assert_eq!(fly(1.0)?, (1.75, Pilot::Planner)); // above exit
-/// assert_eq!(fly(1.75)?, (0.9375, Pilot::Planner)); // in the band nothing changes hands
-/// assert_eq!(fly(1.875)?, (0.484375, Pilot::Fallback)); // below enter
+/// assert_eq!(fly(0.625)?, (0.96875, Pilot::Fallback)); // a fresh shield is engaged, and the band does not release it
+/// assert_eq!(fly(0.5)?, (1.25, Pilot::Planner)); // above exit
+/// assert_eq!(fly(0.625)?, (0.96875, Pilot::Planner)); // in the band nothing changes hands
+/// assert_eq!(fly(0.8125)?, (0.4296875, Pilot::Fallback)); // below enter
 /// # Ok::<(), fosavalo::Refusal>(())
 /// ```
 #[derive(Clone, PartialEq, Eq, Hash)]
@@ -23,7 +24,7 @@ pub struct Image {
 }
 
 impl Image {
-    /// A fresh image. The core refuses no set-up that a [`SetUp`] can say; what it mended, [`SetUp::mended`] tells.
+    /// A fresh image. Of what a [`SetUp`] can say the core refuses a filter that is none, and nothing else; what it mended, [`SetUp::mended`] tells.
     pub fn set_up(set_up: &SetUp) -> Result<Self, Refusal> {
         FloatFault::check()?;
         let mut bytes = [0; IMAGE_BYTES];

@@ -1,4 +1,4 @@
-use crate::{GyroFilter, Segment, SetUp};
+use crate::{Segment, SetUp};
 use core::fmt;
 
 /// A number of a set-up that the core does not keep as it was given. [`SetUp::mended`] tells them.
@@ -30,7 +30,7 @@ impl fmt::Display for Mended {
 impl SetUp {
     /// The set-up as the core keeps it: the image is the same, and nothing of it is mended.
     ///
-    /// Of the thresholds, the segment and the filter, that is; the other numbers are kept as they are, and a tick makes do with those that
+    /// Of the thresholds and the segment, that is; the other numbers are kept as they are, and a tick makes do with those that
     /// are no use ([`AdrcGains::b0`](crate::AdrcGains::b0), [`Governor::g_min`](crate::Governor::g_min)).
     pub fn kept(&self) -> SetUp {
         let finite_above = |x: f32, least: f32, other: f32| if x.is_finite() && x > least { x } else { other };
@@ -39,8 +39,6 @@ impl SetUp {
         let (start, mut end) = (finite(p0), pf);
         end.iter_mut().zip(start).filter(|(pf, _)| !pf.is_finite()).for_each(|(pf, p0)| *pf = p0);
         let enter = finite_above(self.enter, 0.0, 0.1);
-        let GyroFilter { fc, fs } = self.filter;
-        let filters = fc > 0.0 && fs > 0.0 && fc < 0.5 * fs;
         SetUp {
             enter,
             exit: finite_above(self.exit, enter, 2.0 * enter),
@@ -53,13 +51,12 @@ impl SetUp {
                 af: finite(af),
                 t: finite_above(t, 1e-3, 1e-3),
             },
-            filter: GyroFilter { fc: if filters { fc } else { 0.0 }, fs },
             ..*self
         }
     }
 
-    /// What the core mends of this set-up: what was given, what is kept, and why. A filter that passes everything is told as a cut-off of 0.
-    /// A coefficient of the segment that overflows, which becomes 0, is no number of a set-up and not told.
+    /// What the core mends of this set-up: what was given, what is kept, and why. A filter that passes everything is not
+    /// mended but refused. A coefficient of the segment that overflows, which becomes 0, is no number of a set-up and not told.
     ///
     /// ```
     /// use fosavalo::{Image, SetUp};
@@ -94,10 +91,7 @@ impl SetUp {
             ("af", given.af, kept.af),
         ];
         let segment = segment.into_iter().flat_map(move |(field, given, kept)| three(field, given, kept, "it has to be finite"));
-        let others = [
-            one("t", given.t, kept.t, "it has to be finite and above 0.001"),
-            one("fc", from.filter.fc, to.filter.fc, "it has to be above 0 and below half of fs; the gyro is not filtered"),
-        ];
-        thresholds.into_iter().chain(segment).chain(others).filter(|mended| mended.given != mended.kept)
+        let duration = [one("t", given.t, kept.t, "it has to be finite and above 0.001")];
+        thresholds.into_iter().chain(segment).chain(duration).filter(|mended| mended.given != mended.kept)
     }
 }

@@ -3,7 +3,7 @@ use crate::{RECORD_BYTES, ROUTE_TRAILER_BYTES, SETUP_BYTES, TICK_BYTES};
 use core::fmt;
 
 /// Why a call was refused: the documents' number, with its meaning in words. Of 1 to 4 it is the lowest that holds; what is wrong with a
-/// profile, a route or a log comes after these. A refused call changed no byte. One refusal is the crate's own, before the core is called.
+/// profile, a filter, a route or a log comes after these. A refused call changed no byte. One refusal is the crate's own, before the core is called.
 ///
 /// ```
 /// use fosavalo::Refusal;
@@ -45,6 +45,8 @@ pub enum Refusal {
     NoRoom,
     /// 10: the profile of a set-up, or with which a log is checked, is neither 0 nor 1.
     WrongProfile,
+    /// 11: the filter of a set-up would pass the gyro through: [`GyroFilter`](crate::GyroFilter) says which do.
+    PassThrough,
     /// 13: the log has no record at that place.
     NoRecord,
     /// 14: what takes a record is not 108 bytes long.
@@ -78,6 +80,7 @@ impl Refusal {
             8 => Refusal::BrokenLog,
             9 => Refusal::NoRoom,
             10 => Refusal::WrongProfile,
+            11 => Refusal::PassThrough,
             13 => Refusal::NoRecord,
             14 => Refusal::RecordLength,
             other => Refusal::Other(other),
@@ -97,6 +100,7 @@ impl Refusal {
             Refusal::BrokenLog => 8,
             Refusal::NoRoom => 9,
             Refusal::WrongProfile => 10,
+            Refusal::PassThrough => 11,
             Refusal::NoRecord => 13,
             Refusal::RecordLength => 14,
             Refusal::Floats(_) => return None,
@@ -144,6 +148,9 @@ impl fmt::Display for Meaning {
                  margin, or more than {MOST_MARGINS} of them"
             ),
             Refusal::WrongProfile => f.write_str("the profile is neither 0 nor 1"),
+            Refusal::PassThrough => {
+                f.write_str("the gyro would not be filtered: the cut-off fc has to be above 0 and below half of the sample rate fs")
+            }
             Refusal::NoRecord => f.write_str("the log has no record at that place"),
             Refusal::RecordLength => write!(f, "the record is not {RECORD_BYTES} bytes long"),
             Refusal::Floats(fault) => fault.fmt(f),

@@ -88,10 +88,18 @@ pub struct AdrcGains {
     pub tau: f32,
 }
 
-/// The low-pass filter of the gyro. It passes everything unless `fc > 0`, `fs > 0` and `fc < fs / 2`.
+/// The low-pass filter of the gyro. Set-up refuses one that would pass everything: `fc` has to be above 0 and below `fs / 2`.
+///
+/// ```
+/// use fosavalo::{GyroFilter, Image, Refusal, SetUp};
+///
+/// // 0 Hz does not turn the filter off
+/// let off = SetUp { filter: GyroFilter { fc: 0.0, fs: 1000.0 }, ..SetUp::falcon_quad() };
+/// assert_eq!(Image::set_up(&off), Err(Refusal::PassThrough));
+/// ```
 #[derive(Clone, Copy, Debug, PartialEq)]
 pub struct GyroFilter {
-    /// The cut-off, Hz.
+    /// The cut-off, Hz. A gyro that is to be filtered as little as can be wants one just below `fs / 2`.
     pub fc: f32,
     /// Ticks a second.
     pub fs: f32,
@@ -147,7 +155,8 @@ impl Profile {
     }
 }
 
-/// All that a flight is set up with. Every bit pattern of a number is taken; what is no use is mended.
+/// All that a flight is set up with. Every bit pattern of a number is taken, and what is no use is mended; but for a [`GyroFilter`] that is none,
+/// which is refused.
 ///
 /// ```
 /// use fosavalo::{Image, SetUp};
@@ -180,7 +189,7 @@ pub struct SetUp {
 }
 
 impl SetUp {
-    /// relay's own gains for its quadrotor, hovering at the origin: a set of (1, 1, 1.75), enter 0.5, exit 1, no filter, all rotors.
+    /// relay's own gains for its quadrotor, hovering at the origin: a set of (1, 1, 1.75), enter 0.5, exit 1, the gyro filtered at 80 Hz, all rotors.
     pub const fn falcon_quad() -> Self {
         let tilt = AdrcGains { omega_o: 40.0, omega_c: 12.0, b0: 60.0, tau: 0.0125 };
         SetUp {
@@ -191,7 +200,7 @@ impl SetUp {
             governor: Governor { err_lo: 0.2, err_hi: 1.0, g_min: 0.25 },
             segment: Segment { p0: [0.0; 3], v0: [0.0; 3], a0: [0.0; 3], pf: [0.0; 3], vf: [0.0; 3], af: [0.0; 3], t: 1.0 },
             adrc: [tilt, tilt, AdrcGains { omega_o: 30.0, omega_c: 3.0, b0: 18.0, tau: 0.025 }],
-            filter: GyroFilter { fc: 0.0, fs: 1000.0 },
+            filter: GyroFilter { fc: 80.0, fs: 1000.0 },
             profile: Profile::Whole,
         }
     }

@@ -46,7 +46,7 @@ fn words_go_there_and_back() {
 #[test]
 fn the_typed_calls_are_the_c_calls() {
     let mut rng = Bytes(2);
-    let (mut set_up, mut tick) = ([0; SETUP_BYTES], [0; TICK_BYTES]);
+    let (mut set_up, mut tick, mut seen) = ([0; SETUP_BYTES], [0; TICK_BYTES], [0u32; 2]);
     for _ in 0..2_000 {
         rng.fill(&mut set_up);
         let mut bytes = [0xa5; IMAGE_BYTES];
@@ -54,8 +54,14 @@ fn the_typed_calls_are_the_c_calls() {
         assert_eq!((calls::setup(&mut bytes, &set_up), bytes), (10, [0xa5; IMAGE_BYTES]));
         let profile = (rng.next() & 1) as u32;
         set_up[200..].copy_from_slice(&profile.to_le_bytes());
+        // with any filter it is taken or refused with 11, as the typed call has it; then with one that is
+        let number = calls::setup(&mut bytes, &set_up);
+        let typed = SetUp::from_bytes(&set_up).and_then(|s| Image::set_up(&s));
+        assert_eq!(typed.as_ref().err().and_then(|refusal| refusal.number()).unwrap_or(0), number);
+        seen[usize::from(number == 11)] += 1;
+        [80f32, 1000.0].iter().zip(48..).for_each(|(x, at)| set_up[4 * at..4 * at + 4].copy_from_slice(&x.to_le_bytes()));
         assert_eq!(calls::setup(&mut bytes, &set_up), 0);
-        let mut image = SetUp::from_bytes(&set_up).and_then(|s| Image::set_up(&s)).expect("no set-up is refused");
+        let mut image = SetUp::from_bytes(&set_up).and_then(|s| Image::set_up(&s)).expect("its gyro is filtered");
         assert_eq!(image.as_bytes(), &bytes);
         for _ in 0..20 {
             rng.fill(&mut tick);
@@ -68,6 +74,7 @@ fn the_typed_calls_are_the_c_calls() {
             assert_eq!(image.profile().map(Profile::word), Some(profile));
         }
     }
+    assert!(seen.iter().all(|count| *count > 100), "{seen:?}");
 }
 
 fn floats(bytes: &[u8]) -> impl Iterator<Item = f32> + '_ {

@@ -160,6 +160,7 @@ fn lengths_numbers_and_words() {
         ("BROKEN_LOG", Refusal::BrokenLog),
         ("NO_ROOM", Refusal::NoRoom),
         ("WRONG_PROFILE", Refusal::WrongProfile),
+        ("PASS_THROUGH", Refusal::PassThrough),
         ("NO_RECORD", Refusal::NoRecord),
         ("WRONG_RECORD_LENGTH", Refusal::RecordLength),
     ];

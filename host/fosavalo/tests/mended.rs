@@ -1,6 +1,6 @@
 //! What set-up mends, held to the image that the core makes.
 
-use fosavalo::{calls, GyroFilter, Image, Mended, SetUp, IMAGE_BYTES, SETUP_BYTES};
+use fosavalo::{calls, GyroFilter, Image, Mended, Refusal, SetUp, IMAGE_BYTES, SETUP_BYTES};
 
 /// Floats on and next to what mending decides by, and any bits.
 fn float(next: &mut impl FnMut() -> u64) -> f32 {
@@ -19,8 +19,6 @@ fn in_the_image(image: &[u8; IMAGE_BYTES], set_up: &SetUp) {
         let own = [set_up.segment.p0[axis], set_up.segment.v0[axis], set_up.segment.t].map(f32::to_bits);
         assert_eq!([25, 24, 26].map(|at| word(at + 7 * axis)), own);
     }
-    // the filter's b0 is 1 where it passes everything
-    assert_eq!(word(68) == 1f32.to_bits(), set_up.filter.fc == 0.0);
 }
 
 #[test]
@@ -30,11 +28,13 @@ fn of_any_bits() {
         x = x.wrapping_mul(6364136223846793005).wrapping_add(1442695040888963407);
         x ^ (x >> 29)
     };
-    let mut told = [0u32; 3];
+    let mut told = [0u32; 2];
     for _ in 0..100_000 {
         let mut bytes = [0; SETUP_BYTES];
         bytes.chunks_exact_mut(4).for_each(|four| four.copy_from_slice(&float(&mut next).to_le_bytes()));
         bytes[200..].copy_from_slice(&((next() >> 32) as u32 & 1).to_le_bytes());
+        // what it refuses is another test's
+        [80f32, 1000.0].iter().zip(48..).for_each(|(x, at)| bytes[4 * at..4 * at + 4].copy_from_slice(&x.to_le_bytes()));
         let given = SetUp::from_bytes(&bytes).expect("it is a set-up's");
         let kept = given.kept();
         let mut images = [[0; IMAGE_BYTES]; 2];
@@ -45,20 +45,19 @@ fn of_any_bits() {
         // each is told once, and put in its place it is the kept one
         let mended: Vec<Mended> = given.mended().collect();
         let has = |field| mended.iter().any(|mended| mended.field == field) as u32;
-        told = [told[0] + has("exit"), told[1] + has("pf"), told[2] + has("fc")];
+        told = [told[0] + has("exit"), told[1] + has("pf")];
         let names: std::collections::HashSet<_> = mended.iter().map(|mended| (mended.field, mended.axis)).collect();
         assert_eq!(names.len(), mended.len());
         assert!(mended.iter().all(|mended| mended.given != mended.kept && !mended.kept.is_nan()));
         let differ = given.to_bytes().chunks(4).zip(kept.to_bytes().chunks(4)).filter(|(a, b)| a != b).count();
-        // a cut-off of -0.0 is one of 0
-        assert!(differ == mended.len() || differ == mended.len() + 1 && given.filter.fc == 0.0);
+        assert_eq!(differ, mended.len());
     }
     assert!(told.iter().all(|count| *count > 10_000), "{told:?}");
 }
 
 #[test]
 fn in_words() {
-    let mut set_up = SetUp { enter: -1.0, exit: f32::NAN, filter: GyroFilter { fc: 500.0, fs: 1000.0 }, ..SetUp::falcon_quad() };
+    let mut set_up = SetUp { enter: -1.0, exit: f32::NAN, ..SetUp::falcon_quad() };
     set_up.segment.p0[1] = 3.0;
     set_up.segment.pf = [0.0, f32::INFINITY, 0.0];
     set_up.segment.t = 0.0;
@@ -68,10 +67,20 @@ fn in_words() {
         "exit: given NaN, kept 0.2: it has to be finite and above enter",
         "pf[1]: given inf, kept 3: it has to be finite",
         "t: given 0, kept 0.001: it has to be finite and above 0.001",
-        "fc: given 500, kept 0: it has to be above 0 and below half of fs; the gyro is not filtered",
     ];
     assert_eq!(said, expected);
-    let image = Image::set_up(&set_up).expect("no set-up is refused");
+    let image = Image::set_up(&set_up).expect("its gyro is filtered");
     assert_eq!((image.enter(), image.exit()), (0.1, 0.2));
     assert_eq!(SetUp::falcon_quad().mended().count(), 0);
+}
+
+/// A filter that is none is refused and not mended, and the sentence says what to do.
+#[test]
+fn no_filter_is_refused() {
+    for fc in [0.0, -0.0, -80.0, 500.0, f32::NAN, f32::INFINITY] {
+        let set_up = SetUp { filter: GyroFilter { fc, fs: 1000.0 }, ..SetUp::falcon_quad() };
+        assert_eq!((Image::set_up(&set_up), set_up.mended().count()), (Err(Refusal::PassThrough), 0));
+    }
+    let said = "refused (11): the gyro would not be filtered: the cut-off fc has to be above 0 and below half of the sample rate fs";
+    assert_eq!(Refusal::PassThrough.to_string(), said);
 }

@@ -115,6 +115,8 @@ fn run(number: u64, ticks: usize) -> Result<Run, String> {
     let wrong = |what: &str, number: u32| Err(format!("{what} is refused with {number}"));
     match faces::setup(&mut image, &set_up) {
         0 => {}
+        // for its cut-off: an image that an earlier release set up so, whose log is checked as before
+        11 => Flight::set_up(&set_up).write(&mut image),
         number => return wrong("a set-up", number),
     }
     let mut records = Vec::new();

@@ -1,6 +1,7 @@
 //! Every f32: the root, the size and finiteness against the hardware, sine and cosine against document 01 and the true value. And every profile word of an image.
 
 use compare::joint::bytes::{put, ANSWER, IMAGE, PROFILE, SETUP, TICK};
+use compare::joint::model::Flight;
 use compare::numbers;
 use compare::println;
 use compare::threads;
@@ -41,7 +42,7 @@ fn profiles() -> bool {
     let (taken, wrong) = (AtomicU64::new(0), AtomicU64::new(0));
     threads::each(1 << 16, |high| {
         let mut image = [0; IMAGE];
-        faces::setup(&mut image, &[0; SETUP]);
+        Flight::set_up(&[0; SETUP]).write(&mut image);
         let (mut own, mut off) = (0, 0);
         for low in 0..1 << 16 {
             let profile = (high as u32) << 16 | low;

@@ -19,6 +19,9 @@ pub const PROFILE: usize = 95;
 pub const PEAKS: usize = 96;
 pub const SETUP_PROFILE: usize = SETUP / 4 - 1;
 
+/// And a set-up's cut-off; the sample rate follows it.
+pub const SETUP_FC: usize = 48;
+
 /// All NaNs alike. On bits: of a float that is a NaN the optimiser may keep other bits than those asked for, and does.
 #[inline]
 pub fn canonical(x: f32) -> u32 {

@@ -82,6 +82,16 @@ faults! {
         ProfileFirst = "10 before 2";
         OldCount = "word 0 = 96 taken";
     }
+    /// Those of cut-offs that pass through.
+    WRONG_CUT_OFF {
+        AnyCutOff = "any cut-off taken";
+        CutOffZero = "a cut-off of at most 0 alone refused";
+        CutOffPositive = "a cut-off that is not above 0 alone refused";
+        CutOffAboveHalf = "half the sample rate itself taken";
+        OverflowThrough = "an angle that is not finite refused";
+        ThroughFirst = "11 before 10";
+        TickThrough = "an unfiltered image refused at a tick";
+    }
     /// Those of the exchange and of the peaks.
     WRONG_EXCHANGE {
         ExchangeKeepsTime = "an exchange that keeps the time";

@@ -1,7 +1,7 @@
 //! Every length from 0 to 400 of each buffer, all together, between guards: the number, and not a byte changed. And of a route from 0 to a
 //! leg and more beyond the longest.
 
-use super::bytes::{put, raw, ANSWER, IMAGE, LEG, MOST_LEGS, SETUP_PROFILE, TICK, TRAILER};
+use super::bytes::{put, raw, ANSWER, IMAGE, LEG, MOST_LEGS, SETUP_FC, SETUP_PROFILE, TICK, TRAILER};
 use super::fault::Fault;
 use super::lent::{Hands, Lent, Short, LONGEST};
 use super::model::{self, Flight, Profile};
@@ -58,12 +58,17 @@ fn with_image(face: Face, call: Call, image: usize, before: &Hands) -> Result<u6
     Ok(calls)
 }
 
-/// Set-up at every pair of lengths, with a profile and with none; how many calls.
+/// Set-up at every pair of lengths: with a profile and with none, each with a filter and with none; how many calls.
 pub fn setups(face: Face) -> Result<u64, String> {
     let good = beginning(&[], &Pilot::on_a_pass(Profile::Whole, 0).set_up());
-    let mut none = good.clone();
-    put(none.input.bytes_mut(), SETUP_PROFILE, 2);
-    [good, none].iter().flat_map(|before| (0..=LONGEST).map(|image| with_image(face, Call::SetUp, image, before))).sum()
+    let with = |before: &Hands, at: usize, word: u32| {
+        let mut other = before.clone();
+        put(other.input.bytes_mut(), at, word);
+        other
+    };
+    let (none, through) = (with(&good, SETUP_PROFILE, 2), with(&good, SETUP_FC, 0));
+    let both = with(&none, SETUP_FC, 0);
+    [good, none, through, both].iter().flat_map(|before| (0..=LONGEST).map(|image| with_image(face, Call::SetUp, image, before))).sum()
 }
 
 /// A tick at every three lengths, on a good image and on a broken one; how many calls.

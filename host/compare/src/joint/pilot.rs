@@ -1,6 +1,6 @@
 //! What comes in: set-ups, ticks and damage. All of it depends on the run's number alone.
 
-use super::bytes::{canonical, put, raw, word, Take, PEAKS, PROFILE, SETUP, SETUP_PROFILE, TICK, WORDS};
+use super::bytes::{canonical, put, raw, word, Take, PEAKS, PROFILE, SETUP, SETUP_FC, SETUP_PROFILE, TICK, WORDS};
 use super::model::{product, times, Flight, Profile};
 use super::route::Source;
 use crate::generate::{self, Rng};
@@ -123,7 +123,12 @@ pub struct Pilot {
 impl Pilot {
     pub fn new(number: u64) -> Self {
         let profile = if Rng::new("profile", number).flag() { Profile::LostRotor } else { Profile::Whole };
-        Pilot::of(kind(number), profile, number / 8, Rng::new("joint", number))
+        let mut pilot = Pilot::of(kind(number), profile, number / 8, Rng::new("joint", number));
+        let mut rng = Rng::new("cut-off", number);
+        if let (Kind::SetUp, true, Some(both)) = (pilot.kind, rng.flag(), rng.of(&CUT_OFFS)) {
+            pilot.set_up[SETUP_FC..].copy_from_slice(&both);
+        }
+        pilot
     }
 
     /// A pass whose attitude's error carries the margin.
@@ -403,6 +408,31 @@ impl Pilot {
 
 /// Words that are no profile.
 const NO_PROFILES: [u32; 10] = [2, 3, 255, 256, 1 << 16, 1 << 24, 1 << 31, 1 << 31 | 1, f32::to_bits(1.0), u32::MAX];
+
+/// Cut-offs and sample rates at and about what `Biquad::lowpass` decides by: most pass through, and those do not that follow one of their kind which does.
+const CUT_OFFS: [[f32; 2]; 20] = [
+    [0.0, 1000.0],
+    [-0.0, 1000.0],
+    [-80.0, 1000.0],
+    [f32::NAN, 1000.0],
+    [1e-45, 1000.0],
+    [500.0, 1000.0],
+    [500.00003, 1000.0],
+    [499.99997, 1000.0],
+    [f32::INFINITY, 1000.0],
+    [80.0, 0.0],
+    [80.0, -1000.0],
+    [80.0, f32::NAN],
+    [f32::INFINITY, f32::INFINITY],
+    [80.0, f32::INFINITY],
+    [f32::MAX, f32::INFINITY],
+    [1e38, 3e38],
+    // half of the smallest number is 0
+    [1e-45, 1e-45],
+    [1e-45, 4e-45],
+    [1e-45, 6e-45],
+    [1.7014118e38, f32::MAX],
+];
 
 /// Steps that bring a clock to where it stands still, and on to infinity.
 const LONG: [f32; 12] = [0.001, 0.001, 0.5, 4096.0, 32768.0, 1e30, f32::MAX, f32::MAX, f32::INFINITY, f32::NAN, -0.0, 1e-45];

@@ -1,26 +1,44 @@
-//! The documents' tables: which number a call gives. Of 1 to 4 the lowest wins; a set-up's profile comes after them, and what is wrong with a
+//! The documents' tables: which number a call gives. Of 1 to 4 the lowest wins; a set-up's profile and its cut-off come after them, and what is wrong with a
 //! route too, in an order of its own. With a fault, another number.
 
 use super::bytes::{
-    canonical, float, word, Take, ANSWER, EARLIER_LEGS, IMAGE, LEG, MOST_LEGS, PEAKS, PROFILE, SETUP, SETUP_PROFILE, TICK, TRAILER, WORDS,
+    canonical, float, word, Take, ANSWER, EARLIER_LEGS, IMAGE, LEG, MOST_LEGS, PEAKS, PROFILE, SETUP, SETUP_FC, SETUP_PROFILE, TICK,
+    TRAILER, WORDS,
 };
 use super::fault::Fault;
 use super::lent::Lending;
 use super::Call;
+use oracle::adrc::{private, Biquad};
 use oracle::traj::Segment3;
 
 fn of_setup(fault: Fault, image: usize, input: &[u8]) -> u32 {
     let profile = word(input, SETUP_PROFILE) > 1 && fault != Fault::AnySetUp;
+    let through = passes_through(fault, float(input, SETUP_FC), float(input, SETUP_FC + 1));
     if image != IMAGE {
         1
     } else if profile && fault == Fault::ProfileFirst {
         10
     } else if input.len() != SETUP {
         2
-    } else if profile {
+    } else if profile && !(through && fault == Fault::ThroughFirst) {
         10
+    } else if through {
+        11
     } else {
         0
+    }
+}
+
+/// "a cut-off that `Biquad::lowpass` would turn into a pass-through": what the Rust makes of it is one.
+fn passes_through(fault: Fault, fc: f32, fs: f32) -> bool {
+    let through = Biquad::lowpass(fc, fs).words() == private::passthrough().words();
+    match fault {
+        Fault::AnyCutOff => false,
+        Fault::CutOffZero => fc <= 0.0,
+        Fault::CutOffPositive => !(fc > 0.0),
+        Fault::CutOffAboveHalf => through && fc != 0.5 * fs,
+        Fault::OverflowThrough => through || !(2.0 * core::f32::consts::PI * fc / fs).is_finite(),
+        _ => through,
     }
 }
 
@@ -145,6 +163,7 @@ fn broken(fault: Fault, image: &[u8]) -> bool {
         || [26, 33, 40].into_iter().take(ends).any(no_end)
         || (word(image, PROFILE) > 1 && fault != Fault::AnyProfile)
         || peaks_differ(fault, image)
+        || fault == Fault::TickThrough && float(image, 68) == 1.0
 }
 
 /// "a stored peak whose bits differ from the worked-out one's, a worked-out NaN counting as 0x7FC00000"

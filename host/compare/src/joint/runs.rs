@@ -51,8 +51,8 @@ counts! {
     /// What happened in the runs.
     pub struct Seen {
         pub runs: u64,
-        /// Set-ups that were refused, with 1, 2 and 10.
-        pub refused_set_ups: [u64; 3],
+        /// Set-ups that were refused, with 1, 2, 10 and 11. After 11 the run goes on with the image that an earlier release would have set up.
+        pub refused_set_ups: [u64; 4],
         /// Accepted ticks by the profile, of each kind in the order of `KINDS`.
         pub ticks: [[u64; KINDS.len()]; 2],
         pub refused: u64,
@@ -88,6 +88,13 @@ impl Seen {
         self.ticks.as_flattened().iter().sum()
     }
 
+    /// A set-up with this number; 0 is none.
+    fn refuse_set_up(&mut self, number: u32) {
+        if let Some(at) = [1, 2, 10, 11].iter().position(|known| *known == number) {
+            self.refused_set_ups[at] += 1;
+        }
+    }
+
     /// Accepted ticks of passes, by the profile.
     pub fn passes(&self) -> [u64; 2] {
         self.ticks.map(|[passes, ..]| passes)
@@ -99,7 +106,7 @@ impl fmt::Display for Seen {
         let share = |n: u64, of: u64| 100.0 * n as f64 / of.max(1) as f64;
         writeln!(
             f,
-            "{} runs, {} accepted ticks ({} compared with the look-back), {} refused; set-ups refused with 1, 2, 10: {:?}",
+            "{} runs, {} accepted ticks ({} compared with the look-back), {} refused; set-ups refused with 1, 2, 10, 11: {:?}",
             self.runs,
             self.accepted(),
             self.looked_back,
@@ -197,7 +204,7 @@ pub fn run(face: Face, number: u64, watch: Watch, calls: &'static [Call], seen: 
     let before = hands.clone();
     let refused = refusal::of(Fault::None, Call::SetUp, &hands.lend());
     let returned = face(Call::SetUp, &mut hands.lend());
-    seen.refused_set_ups[refused.min(3) as usize - 1] += 1;
+    seen.refuse_set_up(refused);
     if watch == Watch::All && (returned != refused || hands != before) {
         let (expected, found) = ((refused, before.clone()), (returned, hands));
         let what = "a set-up of no profile differs";
@@ -208,9 +215,18 @@ pub fn run(face: Face, number: u64, watch: Watch, calls: &'static [Call], seen: 
 
     let mut flight = Flight::set_up(&set_up);
     let (before, mut expected) = (hands.clone(), hands.clone());
-    flight.write(expected.image.bytes_mut());
+    let refused = refusal::of(Fault::None, Call::SetUp, &hands.lend());
+    seen.refuse_set_up(refused);
+    if refused == 0 {
+        flight.write(expected.image.bytes_mut());
+    }
     let returned = face(Call::SetUp, &mut hands.lend());
-    let wrong = if watch == Watch::All && (returned != 0 || hands != expected) {
+    let differs = watch == Watch::All && (returned != refused || hands != expected);
+    if refused != 0 && !differs {
+        // for its cut-off: an image that was set up so before, by the Rust's constructors
+        [&mut hands, &mut expected].into_iter().for_each(|hands| flight.write(hands.image.bytes_mut()));
+    }
+    let wrong = if differs {
         Some("set-up differs")
     } else if refusal::of_tick(expected.image.bytes(), TICK, ANSWER) != 0 {
         Some("set-up made an image that is refused")
@@ -218,7 +234,7 @@ pub fn run(face: Face, number: u64, watch: Watch, calls: &'static [Call], seen: 
         None
     };
     if let Some(what) = wrong {
-        let (expected, found) = ((0, expected), (returned, hands));
+        let (expected, found) = ((refused, expected), (returned, hands));
         return Some(Parted { run: number, tick: 0, call: Call::SetUp, what, damaged: None, before, expected, found });
     }
     seen.runs += 1;

@@ -30,6 +30,8 @@ int main(void) {
     uint8_t image[FOSAVALO_IMAGE_BYTES], input[FOSAVALO_SETUP_BYTES] = {0};
     const uint8_t enter[4] = {0xc2, 0x16, 0x01, 0x00};
     memcpy(input + 4 * FOSAVALO_SETUP_ENTER, enter, sizeof enter);
+    const float filter[2] = {80, 1000};
+    memcpy(input + 4 * FOSAVALO_SETUP_FC, filter, sizeof filter);
 
     uint32_t first = fosavalo_float_environment();
     uint32_t up = told(FE_UPWARD), down = told(FE_DOWNWARD), zero = told(FE_TOWARDZERO), nearest = told(FE_TONEAREST);

@@ -2,10 +2,13 @@
 #include "fosavalo.h"
 
 #include <stdio.h>
+#include <string.h>
 
 int main(void) {
     uint8_t image[FOSAVALO_IMAGE_BYTES], set_up[FOSAVALO_SETUP_BYTES] = {0}, input[FOSAVALO_TICK_BYTES] = {0}, answer[FOSAVALO_ANSWER_BYTES] = {0};
     uint8_t log[FOSAVALO_LOG_TRAILER_BYTES + FOSAVALO_RECORD_BYTES] = FOSAVALO_EMPTY_LOG, count[4], record[FOSAVALO_RECORD_BYTES];
+    const float filter[2] = {80, 1000};
+    memcpy(set_up + 4 * FOSAVALO_SETUP_FC, filter, sizeof filter);
     if (fosavalo_setup(image, sizeof image, set_up, sizeof set_up) != FOSAVALO_DONE) return 1;
     uint8_t before[FOSAVALO_IMAGE_BYTES];
     memcpy(before, image, sizeof before);

@@ -23,11 +23,30 @@ setup-spec =
       eq-eqb _ _ (w .before .if2 .left),
       eq-eqb _ _ (w .before .before .if1 .left),
     ))
-    (λ c κs. search needs) (λ c κs. search needs) (λ c κs. search needs) (λ c. search needs)
-    (λ c. let u = c .before .before .before .before in let f = u .before .before in let p = f .before in let w = p .before in simp (
+    (λ c κs. search needs) (λ c κs. search needs) (λ c κs. search needs)
+    (λ c. let t = c .before in let s = t .before in let r = s .before in let f = r .before in let p = f .before in let w = p .before in simp (
+      ← r .float-at .ensures,
+      ← s .float-at2 .ensures,
+      ← t .passes-through .ensures,
+      c .if4 .taken,
+      ← w .word-at .ensures,
+      ← p .is-profile .ensures,
+      not-false (p .is-profile .result) (f .if3 .left),
+      eq-eqb _ _ (w .before .if2 .left),
+      eq-eqb _ _ (w .before .before .if1 .left),
+    ))
+    (λ c κs. search needs) (λ c κs. search needs)
+    (λ c κs. c .before .before .before .before .before .before .before .before .before .before .before .if1 .left)
+    (λ c. search needs)
+    (λ c. let u = c .before .before .before .before in let h = u .before .before in let t = h .before in let s = t .before in let r = s .before in
+    let f = r .before in let p = f .before in let w = p .before in simp (
       c .before .before .put-state .ensures,
       u .set-up .ensures,
       ← u .before .setup-at .ensures,
+      ← r .float-at .ensures,
+      ← s .float-at2 .ensures,
+      ← t .passes-through .ensures,
+      h .if4 .left,
       ← w .word-at .ensures,
       ← p .is-profile .ensures,
       not-false (p .is-profile .result) (f .if3 .left),

@@ -1,5 +1,5 @@
 # make fly         prove and build the core, then fly a slow pass above a stage: a table, logs and a picture, our shield beside the earlier rule;
-#                  a pass of three legs on a route, one whose segment is exchanged, a curved pass, and one in which a rotor stops.
+#                  a pass of three legs on a route, one whose segment is exchanged, a curved pass, one in which a rotor stops, and one from an operator's desk.
 #                  The files go to flights/, which nothing here removes
 #                  `make fly SCENARIO=my.txt` flies that file instead (docs/FLYING.md); OUT=folder has the files elsewhere;
 #                  INSTALL=no installs nothing for the picture
@@ -20,10 +20,11 @@
 # make answers     makes the oracle's stored answers again, which the program `replay` runs (docs/ORACLE.md)
 # make bench       times, as ratios to the other side in one run; `make bench BEFORE=../old/libfosavalo.a` has an earlier archive's tick beside ours
 # make stack       the stack that each C call takes, painted and looked at on the compiled archive
-# make core        proves the core and builds its archive, target/staticlib/libfosavalo.a; where nothing changed, nothing is proved
-# make archives    that, and the archive of the test face
+# make core        proves the core and the desk above it and builds their archives, target/staticlib/libfosavalo.a and libfosavalo_desk.a; where nothing
+#                  changed, nothing is proved
+# make archives    these, and the archive of the test face
 # make dist        what a simulator links without the toolchain, in dist/ and there as a tar: archive, header, fosavalo.pc, licence, checksums
-# make docs        the safe crate's pages, host/target/doc/fosavalo/index.html
+# make docs        the safe crates' pages, host/target/doc/fosavalo/index.html and fosavalo_desk beside it
 # make map         docs/MAP.md and docs/PROMISES.md anew, from the sources
 # make clean       removes all that was built, and no flight
 # make help        these lines
@@ -58,7 +59,7 @@ test:
 	@tools/gate
 
 core:
-	@tools/archives fosavalo
+	@tools/archives fosavalo fosavalo_desk
 
 archives:
 	@tools/archives
@@ -88,7 +89,7 @@ dist: core
 	@tools/dist
 
 docs: core
-	@$(HOST) doc --release --offline --no-deps --package fosavalo
+	@$(HOST) doc --release --offline --no-deps --package fosavalo --package fosavalo-desk
 
 map:
 	@$(HOST) run --release --offline --quiet --bin map

@@ -19,7 +19,7 @@ extern "C" {
 /* The version of this header; fosavalo_version() is the archive's. The second number is that of the last change request which both have: a request may
  * change what a word means and leave every length. */
 #define FOSAVALO_VERSION_MAJOR 0
-#define FOSAVALO_VERSION_MINOR 12
+#define FOSAVALO_VERSION_MINOR 13
 #define FOSAVALO_VERSION_PATCH 0
 #define FOSAVALO_VERSION_NUMBER ((FOSAVALO_VERSION_MAJOR << 16) + (FOSAVALO_VERSION_MINOR << 8) + FOSAVALO_VERSION_PATCH)
 #define FOSAVALO_VERSION FOSAVALO_TEXT(FOSAVALO_VERSION_MAJOR) "." FOSAVALO_TEXT(FOSAVALO_VERSION_MINOR) "." FOSAVALO_TEXT(FOSAVALO_VERSION_PATCH)

@@ -1,4 +1,5 @@
 pub mod Flown
+pub mod Asked
 pub mod Going
 pub mod Steps
 pub mod Level

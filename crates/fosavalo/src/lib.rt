@@ -12,9 +12,9 @@ ghost use Rattle.audit.specs.Entry.{checkCall};
 // The version that this was built as: 65536 times its first number, 256 times its second, and its third.
 #[no_mangle]
 pub extern "C" fn fosavalo_version() -> u32
-    ensures { λ r. ⌜ r ≡ 0x0c00 ⌝ }
+    ensures { λ r. ⌜ r ≡ 0x0d00 ⌝ }
 {
-    0x0c00
+    0x0d00
 }
 
 // The sine of x, as `relay_math::sinf` has it.

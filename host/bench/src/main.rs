@@ -2,6 +2,7 @@
 //! `make stack`: the stack that each of the core's calls takes.
 
 mod angles;
+mod desk;
 mod joint;
 mod log;
 mod route;
@@ -125,6 +126,23 @@ fn looked_back() -> bool {
     within
 }
 
+/// The desk tick, and its stack: the least of visits that are seconds apart.
+fn desks(visits: &[Option<desk::Times>]) -> bool {
+    let Some(visits) = visits.iter().copied().collect::<Option<Vec<_>>>() else {
+        println!("desk tick: a call is refused, or the sides answer differently");
+        return false;
+    };
+    let never = (f64::INFINITY, f64::INFINITY);
+    let times = visits.iter().fold(never, |least, (now, _)| (least.0.min(now.0), least.1.min(now.1)));
+    let depth = visits.iter().filter_map(|(_, depth)| *depth).max();
+    let within = line("desk tick, against a plain tick of what it flies", times, desk::BAR);
+    let shallow = depth.map(|depth| {
+        println!("{:48} {depth:6} B   (the bar is {} B)", "  .. and the stack that one takes", stack::BAR);
+        depth <= stack::BAR
+    });
+    within && shallow.unwrap_or(true)
+}
+
 /// The stack of each call, the most over a slow pass, one with random headings and one with a rotor lost.
 fn stacks() -> bool {
     let runs = [joint::pass(), joint::headings(), joint::lost_rotor()];
@@ -194,10 +212,15 @@ fn main() {
         visit();
     }
     good &= line("root, against the hardware's", least, 2.5);
+    let pass = joint::pass();
+    let mut desk = vec![desk::times(&pass)];
     good &= angles::rows(&mut rng);
+    desk.push(desk::times(&pass));
     good &= routes();
     good &= logs();
     good &= checks();
+    desk.push(desk::times(&pass));
+    good &= desks(&desk);
     good &= looked_back();
     if !good {
         std::process::exit(1);

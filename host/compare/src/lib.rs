@@ -3,7 +3,9 @@
 pub mod answers;
 pub mod audit;
 pub mod counts;
+pub mod desk;
 pub mod exact;
+pub mod faults;
 pub mod generate;
 pub mod joint;
 pub mod log;

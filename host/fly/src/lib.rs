@@ -3,6 +3,7 @@
 pub mod aircraft;
 pub mod check;
 pub mod curve;
+pub mod desk;
 pub mod exchange;
 pub mod explain;
 pub mod flight;

@@ -1,9 +1,9 @@
-//! `fly`: the slow pass above a stage, a pass of three legs, one whose segment is exchanged, a curved one, and one in which a rotor stops. `fly SCENARIO`: a flight from a file. Both print a table and write what was flown.
+//! `fly`: the slow pass above a stage, a pass of three legs, one whose segment is exchanged, a curved one, one in which a rotor stops, and one flown from a desk. `fly SCENARIO`: a flight from a file. Both print a table and write what was flown.
 
 use fly::flight::Flight;
 use fly::scenario::{self, Scenario};
 use fly::table::{choices, passes, table, Pair};
-use fly::{curve, exchange, legs, output, pass, rotor};
+use fly::{curve, desk, exchange, legs, output, pass, rotor};
 use fosavalo::{LEG_BYTES, TICK_BYTES};
 use std::io::Write;
 use std::path::{Path, PathBuf};
@@ -23,7 +23,7 @@ fly --choices
 
 Without a scenario: the slow pass above a stage in a closed loop, five seeds, our shield and the earlier rule side by side;
 then a pass of three legs on a route, one whose segment is exchanged in flight, a curved one by the margin of today and
-by document 01's, and one in which a rotor stops. With one: the flight of that file.
+by document 01's, one in which a rotor stops, and one flown from an operator's desk. With one: the flight of that file.
 
   --out FOLDER   where the files go, `{FOLDER}` if it is not given: NAME-shield.csv and NAME-earlier.csv with every tick,
                  NAME-shield.log and NAME-earlier.log, and where gnuplot is there NAME.svg and NAME.png, drawn from
@@ -90,6 +90,9 @@ fn run() -> Result<(), String> {
         say(&format!("\n{}\n", said.join("\n")))?;
         say(&format!("\n{}", rotor::table().map_err(|refusal| refusal.to_string())?))?;
         let said = rotor::write(&folder).map_err(|error| format!("{}: {error}", folder.display()))?;
+        say(&format!("\n{}\n", said.join("\n")))?;
+        say(&format!("\n{}", desk::table().map_err(|refusal| refusal.to_string())?))?;
+        let said = desk::write(&folder).map_err(|error| format!("{}: {error}", folder.display()))?;
         say(&format!("\n{}\n", said.join("\n")))?;
     }
     Ok(())

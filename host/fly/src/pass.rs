@@ -179,22 +179,30 @@ impl Air {
         heading: &Heading,
         rate: impl FnOnce(Quat, V3) -> V3,
     ) -> Result<Answer, Refusal> {
+        self.tick_by(reference, heading, rate, |input| flight.tick(image, input))
+    }
+
+    /// The same by any call that takes the input and answers.
+    pub fn tick_by<E>(
+        &mut self,
+        reference: &Reference,
+        heading: &Heading,
+        rate: impl FnOnce(Quat, V3) -> V3,
+        call: impl FnOnce(TickInput) -> Result<Answer, E>,
+    ) -> Result<Answer, E> {
         let (dt, single) = (f64::from(DT), |v: V3| v.map(|x| x as f32));
         let sensed = self.aircraft.sense(self.gyro_noise, dt, &mut self.noise);
         let wanted = Planner::wanted(self.aircraft.position, self.aircraft.velocity, reference);
-        self.last = flight.tick(
-            image,
-            TickInput {
-                gyro: BodyRate(single(sensed.gyro)),
-                attitude: sensed.attitude.map(|x| x as f32),
-                tracking_error: norm(sub(self.aircraft.position, reference.position)) as f32,
-                yaw: heading.yaw as f32,
-                yaw_rate: heading.turn as f32,
-                dt: DT,
-                planner: BodyRate(single(rate(sensed.attitude, wanted))),
-                delivered: self.delivered,
-            },
-        )?;
+        self.last = call(TickInput {
+            gyro: BodyRate(single(sensed.gyro)),
+            attitude: sensed.attitude.map(|x| x as f32),
+            tracking_error: norm(sub(self.aircraft.position, reference.position)) as f32,
+            yaw: heading.yaw as f32,
+            yaw_rate: heading.turn as f32,
+            dt: DT,
+            planner: BodyRate(single(rate(sensed.attitude, wanted))),
+            delivered: self.delivered,
+        })?;
         let (torque, thrust) = (self.last.torque.0.map(f64::from), self.aircraft.thrust_for(wanted[2]));
         self.delivered = single(self.aircraft.fly(torque, thrust, dt));
         Ok(self.last)

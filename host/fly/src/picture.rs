@@ -40,10 +40,7 @@ impl Picture<'_> {
             std::fs::write(row.file(stem), points(row.ticks, close))?;
         }
         let settings = self.settings(stem, close);
-        Ok(match draw(&settings, "svg").and_then(|()| draw(&settings, "png")) {
-            Ok(()) => format!("the picture: {0}.svg, {0}.png", stem.display()),
-            Err(what) => format!("no picture: {what}"),
-        })
+        Ok(drawn(stem, &settings, include_str!("../picture.gp")))
     }
 
     /// What `picture.gp` is told.
@@ -67,7 +64,6 @@ impl Picture<'_> {
                 }
             },
         };
-        let quoted = |text: &str| format!("'{}'", text.replace('\'', "''"));
         let list = |items: Vec<String>| items.join(", ");
         let count = self.rows.len();
         let files = self.rows.iter().map(|row| quoted(&row.file(stem).to_string_lossy())).collect();
@@ -203,14 +199,27 @@ fn per_bit(ticks: &Ticks) -> usize {
     ticks.len().div_ceil(BITS).max(1)
 }
 
+/// A text as gnuplot reads it.
+pub fn quoted(text: &str) -> String {
+    format!("'{}'", text.replace('\'', "''"))
+}
+
+/// Draws STEM.svg and STEM.png by a script that is told these settings; what came of it.
+pub fn drawn(stem: &Path, settings: &str, script: &str) -> String {
+    match draw(settings, script, "svg").and_then(|()| draw(settings, script, "png")) {
+        Ok(()) => format!("the picture: {0}.svg, {0}.png", stem.display()),
+        Err(what) => format!("no picture: {what}"),
+    }
+}
+
 /// Has gnuplot draw it.
-fn draw(settings: &str, terminal: &str) -> Result<(), String> {
+fn draw(settings: &str, script: &str, terminal: &str) -> Result<(), String> {
     let gnuplot = Command::new("gnuplot").arg("-").stdin(Stdio::piped()).stdout(Stdio::null()).stderr(Stdio::piped()).spawn();
     let mut gnuplot = gnuplot.map_err(|error| match error.kind() {
         io::ErrorKind::NotFound => "gnuplot is missing (Debian: apt-get install gnuplot-nox)".to_string(),
         _ => format!("gnuplot: {error}"),
     })?;
-    let script = format!("terminal = '{terminal}'\n{settings}{}", include_str!("../picture.gp"));
+    let script = format!("terminal = '{terminal}'\n{settings}{script}");
     if let Some(mut stdin) = gnuplot.stdin.take() {
         // where gnuplot stops early its own words say why
         let _ = stdin.write_all(script.as_bytes());

@@ -2,7 +2,7 @@
 
 use fly::flight::{Flight, Rule, RULES};
 use fly::table::{choices, passes, table};
-use fly::{curve, exchange, legs, output, pass, rotor};
+use fly::{curve, desk, exchange, legs, output, pass, rotor};
 use fosavalo::{BodyRate, GyroFilter, Image, Leg, Pilot, Profile, Route, SetUp, TickInput};
 
 #[test]
@@ -67,6 +67,31 @@ fn the_legs_in_pieces() {
     assert_eq!(pieces.len(), fosavalo::MOST_LEGS);
     let (same, cut) = (apart(&whole, &psi(&pieces)), apart(&whole, &psi(&pieces[..8])));
     assert!(same < 1e-5 && cut > 1e-3, "{same}, {cut}");
+}
+
+/// And of the pass from a desk: every value and rate within its limit, at a cable that is out too; and the log keeps what was flown, so that plain ticks of its inputs
+/// answer the same.
+#[test]
+fn the_desk() {
+    let now = desk::table().expect("no pass is refused");
+    assert_eq!(now, include_str!("desk.txt"), "\n{now}");
+    let desk::ByDesk { flight, moved } = desk::fly(&pass::SHOWN, pass::DRAWN).expect("no pass is refused");
+    assert_eq!(flight.strays(), None);
+    let limits = [desk::SET_UP.heading, desk::SET_UP.turn, desk::SET_UP.zoom];
+    for (tick, moved) in flight.ticks.iter().zip(&moved) {
+        assert_eq!((tick.input.yaw, tick.input.yaw_rate), (moved.values[0], moved.values[1]));
+        for (stick, limit) in limits.iter().enumerate() {
+            assert!(moved.values[stick].abs() <= limit.max_mag && moved.rates[stick].abs() <= limit.max_rate, "at {} s", tick.seconds);
+        }
+    }
+    // the script goes where the limits matter
+    let at = |of: &dyn Fn(&desk::Moved) -> bool| moved.iter().filter(|moved| of(moved)).count();
+    assert!(at(&|moved| moved.values[0] == 0.5) > 1_000 && at(&|moved| moved.rates[0].abs() == 0.12) > 1_000);
+    assert_eq!(at(&|moved| moved.sticks.heading.is_nan()), 3_000);
+
+    let inputs: Vec<TickInput> = flight.ticks.iter().map(|tick| tick.input).collect();
+    let plain = Flight::of(&pass::set_up(&pass::SHOWN), Rule::Shield, None, &inputs).expect("no pass is refused");
+    assert!(flight.ticks.iter().zip(plain.ticks.iter()).all(|(desk, plain)| desk.answer == plain.answer));
 }
 
 /// And of the curved pass: what is flown is never taken from the planner, and document 01's margin would take it.

@@ -1,0 +1,6 @@
+pub mod Flown
+pub mod Read
+pub mod Calls
+pub mod Held
+pub mod Written
+pub mod OneAnswer

@@ -1,0 +1,18 @@
+use borrow.Author.Needs.{needs}
+use Rattle.desk.specs.Filters.{filterAt}
+use Rattle.desk.proofs.filters.filter_at.Statement.{statement}
+use Rattle.desk.proofs.filters.filter_at.Tie as tie
+
+pub filter-at-spec : {M : Type 1} → statement M
+unfolding filterAt
+filter-at-spec =
+    tie.close (tie.spec
+    (λ c κs. search needs) (λ c. search needs) (λ c κs. search needs) (λ c. search needs) (λ c κs. search needs) (λ c. search needs)
+    (λ c κs. search needs) (λ c. search needs) (λ c κs. search needs)
+    (λ c. simp (
+      c .float-at5 .ensures,
+      c .before .float-at4 .ensures,
+      c .before .before .float-at3 .ensures,
+      c .before .before .before .float-at2 .ensures,
+      c .before .before .before .before .float-at .ensures,
+    )))

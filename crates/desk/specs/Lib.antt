@@ -1,0 +1,3 @@
+pub mod Filters
+pub mod Entry
+pub mod Runs

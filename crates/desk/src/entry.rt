@@ -1,0 +1,106 @@
+// Set-up, the centre button and the desk tick on lent bytes. Nothing is asked of the caller; a refused call changes no byte of any buffer.
+use crate::filters::DESK_BYTES;
+use crate::filters::DESK_SETUP_BYTES;
+use crate::filters::STICKS_BYTES;
+use crate::filters::centred;
+use crate::filters::desk_at;
+use crate::filters::put_desk;
+use crate::filters::set_up;
+use crate::filters::step;
+use calls::tick_refusal;
+use outcome::Outcome;
+use outcome::is_done;
+use words::float_at;
+use words::put_float;
+use words::vec_at;
+ghost use mathlib.Core.Path.{_≡_};
+ghost use lib.ListN.{length};
+ghost use Rattle.image.specs.Layout.{INPUT-BYTES};
+ghost use Rattle.outcome.specs.Outcomes.{left};
+ghost use Rattle.desk.specs.Entry.{deskNumber, deskSetUpCall, centreCall, withHeading, lentToDesk, deskTickCall};
+
+// The tick input's words of the heading and its rate, and of dt (crate `image`'s layout).
+const YAW: usize = 8;
+
+const YAW_RATE: usize = 9;
+
+const DT: usize = 10;
+
+// How a call on a desk ends. The core's outcome is handed on as it is; the two of the desk's own come before it.
+pub enum DeskOutcome {
+    DeskLength, // the desk's state
+    SticksLength, // what is said of the sticks: their set-up, or where they stand
+    Core(Outcome),
+}
+
+// The number of an outcome: the core's own, and 15 and 16, which are ours, since no document gives one.
+pub fn desk_number(outcome: DeskOutcome) -> u32
+    ensures { λ r. ⌜ r ≡ deskNumber outcome ⌝ }
+{
+    match outcome {
+        DeskOutcome::DeskLength => 15,
+        DeskOutcome::SticksLength => 16,
+        DeskOutcome::Core(o) => outcome::number(o),
+    }
+}
+
+// A fresh desk from 9 words. What it held before is not read.
+pub fn setup(desk: &mut [u8], input: &[u8]) -> DeskOutcome
+    ensures { λ r. ⌜ left r (now (desk .exit)) ≡ deskSetUpCall (now (desk .entry)) (now (input .entry)) ⌝ }
+{
+    if desk.len() != DESK_BYTES {
+        return DeskOutcome::DeskLength;
+    }
+    if input.len() != DESK_SETUP_BYTES {
+        return DeskOutcome::SticksLength;
+    }
+    put_desk(desk, set_up(input));
+    DeskOutcome::Core(Outcome::Done)
+}
+
+// The centre button: it resets the filters and steps none.
+pub fn centre(desk: &mut [u8]) -> DeskOutcome
+    ensures { λ r. ⌜ left r (now (desk .exit)) ≡ centreCall (now (desk .entry)) ⌝ }
+{
+    if desk.len() != DESK_BYTES {
+        return DeskOutcome::DeskLength;
+    }
+    put_desk(desk, centred(desk_at(desk)));
+    DeskOutcome::Core(Outcome::Done)
+}
+
+fn put_heading(input: &mut [u8], heading: f32, turn: f32)
+    requires { ⌜ length (now input) ≡ INPUT-BYTES ⌝ }
+    ensures { λ _. ⌜ now (input .exit) ≡ withHeading (now (input .entry)) heading turn ⌝ }
+{
+    put_float(input, YAW, heading);
+    put_float(input, YAW_RATE, turn);
+}
+
+// A desk tick. Whether the core refuses hangs on the lengths and the image alone, so it is asked before anything is written.
+pub fn tick(
+    desk: &mut [u8],
+    sticks: &[u8],
+    image: &mut [u8],
+    input: &mut [u8],
+    answer: &mut [u8],
+) -> DeskOutcome
+    ensures { λ r. ⌜ left r (lentToDesk (now (desk .exit)) (now (image .exit)) (now (input .exit)) (now (answer .exit))) ≡ deskTickCall (now (desk .entry)) (now (sticks .entry)) (now (image .entry)) (now (input .entry)) (now (answer .entry)) ⌝ }
+{
+    if desk.len() != DESK_BYTES {
+        return DeskOutcome::DeskLength;
+    }
+    if sticks.len() != STICKS_BYTES {
+        return DeskOutcome::SticksLength;
+    }
+    let refusal = tick_refusal(image, input.len(), answer.len());
+    if !is_done(refusal) {
+        return DeskOutcome::Core(refusal);
+    }
+    let moved = step(desk_at(desk), vec_at(sticks, 0), float_at(input, DT));
+    let heading = moved.heading;
+    let turn = moved.turn;
+    put_desk(desk, moved);
+    put_heading(input, heading.y, turn.y);
+    DeskOutcome::Core(calls::tick(image, input, answer))
+}

@@ -1,0 +1,43 @@
+-- The user's third demand over runs by the desk. Assumes nothing.
+use mathlib.Core.Path.{_≡_, refl, sym, ap, subst, _∙_}
+use mathlib.Core.Bool.{true}
+use mathlib.Core.List.{List, [], _∷_, _++_}
+use Prim.Native.Nat.{ℕ}
+use lib.ListN.{length}
+use Rattle.latch.specs.Latch.{Flies}
+use Rattle.image.specs.Layout.{INPUT-BYTES, ANSWER-BYTES}
+use Rattle.outcome.specs.Outcomes.{isDone, Called}
+use Rattle.calls.specs.Ticks.{Accepted}
+use Rattle.runs.specs.Runs.{flying, tickOf, guided, start, imageAfter, marginsAlong, Right}
+use Rattle.runs.specs.DemandThree.{enterOf, exitOf, Shows}
+use Rattle.runs.proofs.Going.{ran}
+use Rattle.runs.proofs.DemandThree.{demand-three}
+use Rattle.desk.specs.Filters.{DESK-BYTES, STICKS-BYTES}
+use Rattle.desk.specs.Entry.{deskNumber, deskDone}
+use Rattle.desk.proofs.Calls.{tick-accepted, input-length, is-core-tick}
+use Rattle.desk_runs.specs.Runs.{Held, held, Given, AnyCall, deskTick, heldAfter, flownTick, coreAlong}
+use Rattle.desk_runs.proofs.Seen.{core-sees, desk-size}
+
+-- Demand 3 as crate `runs` has it, of a tick by the desk: for any desk of the right length, any bytes given to the core's set-up, any calls since (desk ticks, the
+-- button, calls on the core alone; refused ones among them), and now a desk tick of right lengths. It is accepted, and what it answers is the answer of the core's tick
+-- of the input that it left.
+pub demand-three-by-desk : (desk setup : List ℕ) (calls : List AnyCall) (g : Given)
+    → length desk ≡ DESK-BYTES → length (g .sticks) ≡ STICKS-BYTES → length (g .input) ≡ INPUT-BYTES → length (g .answer) ≡ ANSWER-BYTES
+    → let h = heldAfter (held desk (start setup)) calls in
+    let t = flownTick h g in
+    let margins = marginsAlong (start setup) (coreAlong (held desk (start setup)) calls) ++ guided (h .image) t .margin ∷ [] in
+    (deskNumber (deskTick h g .outcome) ≡ 0) × (deskTick h g .later .answer ≡ tickOf (h .image) t .later .answer) × Shows (Flies (enterOf setup) (exitOf setup) margins) (h .image) t
+unfolding flying
+demand-three-by-desk desk setup calls g p q i a =
+    let first = held desk (start setup) in
+    let h = heldAfter first calls in
+    let t = flownTick h g in
+    let before = coreAlong first calls in
+    let e = core-sees first calls in
+    let accepted : Accepted (h .image) = subst Accepted (sym e) (ran setup before .accepted) in
+    let done = tick-accepted (h .desk) (g .sticks) (h .image) (g .input) (g .answer) (desk-size first calls p) q i a accepted in
+    let right : Right t = (input-length (h .desk) (g .sticks) (h .image) (g .input) (g .answer) ∙ i, a, tt) in (
+      ap deskNumber done,
+      sym (ap (λ (c : Called). c .later .answer) (is-core-tick (h .desk) (g .sticks) (h .image) (g .input) (g .answer) (ap deskDone done))),
+      subst (λ (image : List ℕ). Shows (Flies (enterOf setup) (exitOf setup) (marginsAlong (start setup) before ++ guided image t .margin ∷ [])) image t) (sym e) (demand-three setup before t right),
+    )

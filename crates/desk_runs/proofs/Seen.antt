@@ -1,0 +1,71 @@
+-- A run with a desk is, for the core, a run of its own calls, and for the desk one of the desk's. Assumes nothing.
+use mathlib.Core.Path.{_≡_, refl, sym, ap, _∙_}
+use mathlib.Core.Bool.{Bool, true, false, cond}
+use mathlib.Core.List.{List, [], _∷_, _++_}
+use Prim.Native.Nat.{ℕ}
+use lib.ListN.{length}
+use Rattle.outcome.specs.Outcomes.{Called}
+use Rattle.runs.specs.Runs.{Call, flying, leftBy, imageAfter}
+use Rattle.runs.specs.Runs.{Ticks as CoreTicks}
+use Rattle.relay_adrc.proofs.Limits.{Limit}
+use Rattle.relay_adrc.proofs.Limits.{Held as Within}
+use Rattle.desk.specs.Entry.{deskDone, LentToDesk}
+use Rattle.desk.specs.Filters.{DESK-BYTES, deskAt}
+use Rattle.desk.specs.Runs.{Stick, filterOf, magLimit, rateLimit, DeskCall, deskBy, deskAfter, deskStart}
+use Rattle.desk.proofs.Calls.{refused-changes-nothing, is-core-tick}
+use Rattle.desk.proofs.Held.{size-kept, sticks-held}
+use Rattle.desk_runs.specs.Runs.{Held, held, AnyCall, ByDesk, Button, OnCore, deskTick, heldBy, heldAfter, flownTick, coreCalls, coreAlong, deskCalls, deskAlong}
+
+-- ---- the core
+
+image-by : (h : Held) (c : AnyCall) → heldBy h c .image ≡ imageAfter (h .image) (coreCalls h c)
+unfolding heldBy coreCalls imageAfter leftBy flying
+image-by h (OnCore c) = refl
+image-by h Button = refl
+image-by h (ByDesk g) = go (deskDone (deskTick h g .outcome)) refl
+  where
+    go : (t : Bool) → deskDone (deskTick h g .outcome) ≡ t → deskTick h g .later .image ≡ imageAfter (h .image) (cond t (CoreTicks (flownTick h g) ∷ []) [])
+    go true e = sym (ap (λ (c : Called). c .later .image) (is-core-tick (h .desk) (g .sticks) (h .image) (g .input) (g .answer) e))
+    go false e = ap (λ (l : LentToDesk). l .image) (refused-changes-nothing (h .desk) (g .sticks) (h .image) (g .input) (g .answer) e)
+
+after-append : (image : List ℕ) (a b : List Call) → imageAfter (imageAfter image a) b ≡ imageAfter image (a ++ b)
+unfolding imageAfter
+after-append image [] b = refl
+after-append image (c ∷ a) b = after-append (leftBy image c) a b
+
+pub core-sees : (h : Held) (calls : List AnyCall) → heldAfter h calls .image ≡ imageAfter (h .image) (coreAlong h calls)
+unfolding heldAfter coreAlong imageAfter
+core-sees h [] = refl
+core-sees h (c ∷ calls) =
+    core-sees (heldBy h c) calls
+    ∙ ap (λ (image : List ℕ). imageAfter image (coreAlong (heldBy h c) calls)) (image-by h c)
+    ∙ after-append (h .image) (coreCalls h c) (coreAlong (heldBy h c) calls)
+
+-- ---- the desk
+
+desk-by : (h : Held) (c : AnyCall) → heldBy h c .desk ≡ deskAfter (h .desk) (deskCalls h c)
+unfolding heldBy deskCalls deskAfter deskBy
+desk-by h (OnCore c) = refl
+desk-by h Button = refl
+desk-by h (ByDesk g) = refl
+
+desk-append : (desk : List ℕ) (a b : List DeskCall) → deskAfter (deskAfter desk a) b ≡ deskAfter desk (a ++ b)
+unfolding deskAfter
+desk-append desk [] b = refl
+desk-append desk (c ∷ a) b = desk-append (deskBy desk c) a b
+
+pub desk-sees : (h : Held) (calls : List AnyCall) → heldAfter h calls .desk ≡ deskAfter (h .desk) (deskAlong h calls)
+unfolding heldAfter deskAlong deskAfter
+desk-sees h [] = refl
+desk-sees h (c ∷ calls) =
+    desk-sees (heldBy h c) calls
+    ∙ ap (λ (desk : List ℕ). deskAfter desk (deskAlong (heldBy h c) calls)) (desk-by h c)
+    ∙ desk-append (h .desk) (deskCalls h c) (deskAlong (heldBy h c) calls)
+
+pub desk-size : (h : Held) (calls : List AnyCall) → length (h .desk) ≡ DESK-BYTES → length (heldAfter h calls .desk) ≡ DESK-BYTES
+desk-size h calls p = ap length (desk-sees h calls) ∙ size-kept (h .desk) (deskAlong h calls) p
+
+-- so the sticks' limits hold over these runs too
+pub sticks-held-along : (s : Stick) (setup image : List ℕ) (calls : List AnyCall) → Limit (magLimit s setup) → Limit (rateLimit s setup)
+    → Within (filterOf s (deskAt (heldAfter (held (deskStart setup) image) calls .desk)))
+sticks-held-along s setup image calls m r = rw (desk-sees (held (deskStart setup) image) calls) (sticks-held s setup (deskAlong (held (deskStart setup) image) calls) m r)

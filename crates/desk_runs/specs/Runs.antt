@@ -1,0 +1,69 @@
+-- A run with a desk beside the core: the desk and the image are handed back each time as the last call left them. Definitions only.
+use mathlib.Core.Bool.{cond}
+use mathlib.Core.List.{List, [], _∷_, _++_}
+use Prim.Native.Nat.{ℕ}
+use Rattle.outcome.specs.Outcomes.{Left}
+use Rattle.runs.specs.Runs.{Segment, Tick, Call, leftBy}
+use Rattle.runs.specs.Runs.{Ticks as CoreTicks}
+use Rattle.desk.specs.declared.entry.DeskOutcome.{DeskOutcome}
+use Rattle.desk.specs.Entry.{deskDone, centreCall, LentToDesk, deskTickCall}
+use Rattle.desk.specs.Runs.{DeskCall, Ticks, Centres}
+
+pub record Held : Type 0 where
+  pub desk : List ℕ
+  pub image : List ℕ
+
+abbrev pub held : List ℕ → List ℕ → Held
+held desk image = record { desk = desk; image = image }
+
+-- what a desk tick is given beside them: any bytes of any length
+pub record Given : Type 0 where
+  pub sticks : List ℕ
+  pub input : List ℕ
+  pub answer : List ℕ
+
+abbrev pub deskTick : Held → Given → Left DeskOutcome LentToDesk
+deskTick h g = deskTickCall (h .desk) (g .sticks) (h .image) (g .input) (g .answer)
+
+-- A call: a desk tick, the centre button, or one on the core alone, of any kind that crate `runs` has.
+pub data AnyCall : Type 0 where
+  ByDesk : Given → AnyCall
+  Button : AnyCall
+  OnCore : Call → AnyCall
+
+unfoldable pub heldBy : Held → AnyCall → Held
+heldBy h (ByDesk g) = let l = deskTick h g .later in held (l .desk) (l .image)
+heldBy h Button = held (centreCall (h .desk) .later) (h .image)
+heldBy h (OnCore c) = held (h .desk) (leftBy (h .image) c)
+
+unfoldable pub heldAfter : Held → List AnyCall → Held
+unfolding heldBy
+heldAfter h [] = h
+heldAfter h (c ∷ calls) = heldAfter (heldBy h c) calls
+
+-- ---- what the core sees: an accepted desk tick is a tick on the image's segment, of the input as the desk left it
+
+abbrev pub flownTick : Held → Given → Tick
+flownTick h g = record { course = Segment; input = deskTick h g .later .input; answer = g .answer }
+
+unfoldable pub coreCalls : Held → AnyCall → List Call
+coreCalls h (ByDesk g) = cond (deskDone (deskTick h g .outcome)) (CoreTicks (flownTick h g) ∷ []) []
+coreCalls h Button = []
+coreCalls h (OnCore c) = c ∷ []
+
+unfoldable pub coreAlong : Held → List AnyCall → List Call
+unfolding heldBy coreCalls
+coreAlong h [] = []
+coreAlong h (c ∷ calls) = coreCalls h c ++ coreAlong (heldBy h c) calls
+
+-- ---- what the desk sees
+
+unfoldable pub deskCalls : Held → AnyCall → List DeskCall
+deskCalls h (ByDesk g) = Ticks record { sticks = g .sticks; image = h .image; input = g .input; answer = g .answer } ∷ []
+deskCalls h Button = Centres ∷ []
+deskCalls h (OnCore c) = []
+
+unfoldable pub deskAlong : Held → List AnyCall → List DeskCall
+unfolding heldBy deskCalls
+deskAlong h [] = []
+deskAlong h (c ∷ calls) = deskCalls h c ++ deskAlong (heldBy h c) calls

@@ -1,0 +1,89 @@
+//! The desk tick beside the core's own tick of the input that the desk flies.
+
+use super::joint::Run;
+use super::stack;
+use compare::desk::{DESK, DESK_SETUP, STICKS};
+use compare::joint::bytes::{put, ANSWER, TICK};
+use fosavalo_desk::calls;
+use std::hint::black_box;
+use std::time::Instant;
+
+/// How many plain ticks a desk tick may take.
+pub const BAR: f64 = 1.25;
+
+const TRIES: usize = 201;
+
+type Sticks = [u8; STICKS];
+type Input = [u8; TICK];
+
+/// Each stick with limits that it now and then reaches.
+fn set_up() -> Option<[u8; DESK]> {
+    let (mut desk, mut given) = ([0; DESK], [0; DESK_SETUP]);
+    (0..3).for_each(|stick| [2.0f32, 1.0, 0.5].iter().enumerate().for_each(|(k, x)| put(&mut given, 3 * stick + k, x.to_bits())));
+    (calls::setup(&mut desk, &given) == 0).then_some(desk)
+}
+
+/// Sticks that go to and fro.
+fn sticks(tick: usize) -> Sticks {
+    let mut sticks = [0; STICKS];
+    (0..3).for_each(|stick| put(&mut sticks, stick, (1.5 * (tick as f32 / (200.0 + 100.0 * stick as f32)).sin()).to_bits()));
+    sticks
+}
+
+/// Nanoseconds of a desk tick and of a plain one on the same inputs, the least of many tries in turn; and the desk tick's stack, where it can be measured.
+pub type Times = ((f64, f64), Option<usize>);
+
+/// None where a call is refused or the two answer differently.
+pub fn times(run: &Run) -> Option<Times> {
+    let desk = set_up()?;
+    let moved: Vec<Sticks> = (0..run.inputs.len()).map(sticks).collect();
+    let flown = flown(run, desk, &moved)?;
+    let mut least = (f64::INFINITY, f64::INFINITY);
+    for _ in 0..TRIES {
+        // the input is written: the same words each time, so that it need not be copied
+        let (mut held, mut image, mut inputs, mut answer) = (desk, run.start, flown.clone(), [0; ANSWER]);
+        let start = Instant::now();
+        for (input, sticks) in inputs.iter_mut().zip(black_box(&moved)) {
+            black_box(calls::tick(&mut held, sticks, &mut image, input, &mut answer));
+            black_box(&answer);
+        }
+        least.0 = least.0.min(start.elapsed().as_nanos() as f64 / flown.len() as f64);
+        let (mut image, start) = (run.start, Instant::now());
+        for input in black_box(&flown) {
+            black_box(faces::tick(&mut image, input, &mut answer));
+            black_box(&answer);
+        }
+        least.1 = least.1.min(start.elapsed().as_nanos() as f64 / flown.len() as f64);
+    }
+    let (mut held, mut image, mut input, mut answer) = (desk, run.start, *flown.first()?, [0; ANSWER]);
+    let depth = stack::depth(&mut || {
+        black_box(calls::tick(&mut held, &sticks(1), &mut image, &mut input, &mut answer));
+    });
+    Some((least, depth))
+}
+
+/// The inputs as the desk flies them, each beside a plain tick of it.
+fn flown(run: &Run, mut desk: [u8; DESK], moved: &[Sticks]) -> Option<Vec<Input>> {
+    let [mut image, mut plain] = [run.start; 2];
+    let each = |(input, sticks): (&Input, &Sticks)| {
+        let (mut flown, mut answers) = (*input, [[0; ANSWER]; 2]);
+        let number = calls::tick(&mut desk, sticks, &mut image, &mut flown, &mut answers[0]);
+        let same = number == 0 && faces::tick(&mut plain, &flown, &mut answers[1]) == 0 && image == plain && answers[0] == answers[1];
+        same.then_some(flown)
+    };
+    run.inputs.iter().zip(moved).map(each).collect()
+}
+
+#[cfg(test)]
+mod tests {
+    use super::*;
+
+    #[test]
+    fn both_tick_alike_and_the_heading_moves() {
+        let run = crate::joint::pass();
+        let moved: Vec<Sticks> = (0..run.inputs.len()).map(sticks).collect();
+        let flown = flown(&run, set_up().expect("it is set up"), &moved).expect("both answer alike");
+        let headings: std::collections::BTreeSet<&[u8]> = flown.iter().map(|input| &input[32..40]).collect();
+        assert!(headings.len() > 1_000, "{} headings", headings.len());
+    }
+}

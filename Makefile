@@ -1,5 +1,6 @@
 # make fly         prove and build the core, then fly a slow pass above a stage: a table, logs and a picture, our shield beside the earlier rule;
-#                  a pass of three legs on a route, one whose segment is exchanged, a curved pass, one in which a rotor stops, and one from an operator's desk.
+#                  a pass of three legs on a route, one whose segment is exchanged, a loop flown three times, a curved pass, one in which a rotor stops, and one
+#                  from an operator's desk.
 #                  The files go to flights/, which nothing here removes
 #                  `make fly SCENARIO=my.txt` flies that file instead (docs/FLYING.md); OUT=folder has the files elsewhere;
 #                  INSTALL=no installs nothing for the picture
@@ -9,6 +10,8 @@
 #                  `make explain FILE=flights/pass-shield.log ENTER=0.03 EXIT=0.07`; with CSV=yes as CSV (docs/FLYING.md)
 # make check       flight logs of whatever box: whether each follows the shield's rule, or its first wrong record and what is wrong with it; files or folders:
 #                  `make check LOGS="flights/pass-shield.log night" ENTER=0.03 EXIT=0.07`; with PROFILE=lost-rotor as flown with a rotor lost (docs/FLYING.md)
+# make expand      a pattern of legs and repeats, as text: its legs as they are flown, and the bytes of both, in flights/:
+#                  `make expand FILE=host/fly/scenarios/loop.txt` (docs/FLYING.md); OUT as above
 # make choices     the pass with other choices of set, filter and noise: what hangs on them
 # make test        the gate: proofs, must-fail edits, programs, the host's comparisons; its last line is `N passed, 0 failed`.
 #                  What the prover says is kept in gate/
@@ -28,7 +31,7 @@
 # make map         docs/MAP.md and docs/PROMISES.md anew, from the sources
 # make clean       removes all that was built, and no flight
 # make help        these lines
-.PHONY: fly log explain check choices test table archives core exhaustive routines ticks answers bench stack dist docs map clean help
+.PHONY: fly log explain check expand choices test table archives core exhaustive routines ticks answers bench stack dist docs map clean help
 
 CARGO = cargo
 HOST = cd host && $(CARGO)
@@ -50,6 +53,10 @@ explain: core
 check: core
 	@$(CARGO) build --manifest-path host/Cargo.toml --release --offline --quiet --package fly
 	@host/target/release/check $(LOGS) $(if $(ENTER),--enter "$(ENTER)") $(if $(EXIT),--exit "$(EXIT)") $(if $(PROFILE),--profile "$(PROFILE)")
+
+expand: core
+	@$(CARGO) build --manifest-path host/Cargo.toml --release --offline --quiet --package fly
+	@host/target/release/expand $(if $(FILE),"$(FILE)") $(if $(OUT),--out "$(OUT)")
 
 choices: core
 	@$(CARGO) build --manifest-path host/Cargo.toml --release --offline --quiet --package fly

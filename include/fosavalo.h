@@ -19,7 +19,7 @@ extern "C" {
 /* The version of this header; fosavalo_version() is the archive's. The second number is that of the last change request which both have: a request may
  * change what a word means and leave every length. */
 #define FOSAVALO_VERSION_MAJOR 0
-#define FOSAVALO_VERSION_MINOR 13
+#define FOSAVALO_VERSION_MINOR 14
 #define FOSAVALO_VERSION_PATCH 0
 #define FOSAVALO_VERSION_NUMBER ((FOSAVALO_VERSION_MAJOR << 16) + (FOSAVALO_VERSION_MINOR << 8) + FOSAVALO_VERSION_PATCH)
 #define FOSAVALO_VERSION FOSAVALO_TEXT(FOSAVALO_VERSION_MAJOR) "." FOSAVALO_TEXT(FOSAVALO_VERSION_MINOR) "." FOSAVALO_TEXT(FOSAVALO_VERSION_PATCH)
@@ -98,21 +98,23 @@ float fosavalo_cosf(float x);
 #define FOSAVALO_LOG_TRAILER_BYTES 12
 #define FOSAVALO_MOST_RECORDS 65535
 #define FOSAVALO_MOST_MARGINS 65535
+#define FOSAVALO_DEEPEST_REPEAT 4
 
 /* What set-up, the exchange and the ticks return. Of 0 to 4 it is the lowest that holds; 5 to 7 come after 4, in the order that the route tick tells; 10 and
- * then 11 come after 2. The log's calls and flags tell theirs. */
+ * then 11 come after 2. The log's calls, flags and expand tell theirs. */
 #define FOSAVALO_DONE 0                 /* what the call writes is written: the image, at a tick the answer too, what a log's call tells */
 #define FOSAVALO_WRONG_IMAGE_LENGTH 1   /* image_len is not FOSAVALO_IMAGE_BYTES */
-#define FOSAVALO_WRONG_INPUT_LENGTH 2   /* input_len is not FOSAVALO_SETUP_BYTES, at a tick and an append FOSAVALO_TICK_BYTES; segment_len is not FOSAVALO_LEG_BYTES; count_len or verdict_len is not 4 */
+#define FOSAVALO_WRONG_INPUT_LENGTH 2   /* input_len is not FOSAVALO_SETUP_BYTES, at a tick and an append FOSAVALO_TICK_BYTES; segment_len is not FOSAVALO_LEG_BYTES; count_len, verdict_len or written_len is not 4 */
 #define FOSAVALO_WRONG_ANSWER_LENGTH 3  /* ticks and append: answer_len is not FOSAVALO_ANSWER_BYTES */
 #define FOSAVALO_BROKEN_IMAGE 4         /* ticks and exchange: no call leaves such an image */
-#define FOSAVALO_WRONG_LEG_COUNT 5      /* route tick only: the count is 0 or above FOSAVALO_MOST_LEGS */
+#define FOSAVALO_WRONG_LEG_COUNT 5      /* route tick: the count is 0 or above FOSAVALO_MOST_LEGS; expand: so is the number of legs flown */
 #define FOSAVALO_WRONG_ROUTE_LENGTH 6   /* route tick only: under 8 bytes, or the bytes back or the length do not go with the count */
-#define FOSAVALO_LEGS_APART 7           /* route tick only: a leg does not start where the one before it ends */
+#define FOSAVALO_LEGS_APART 7           /* route tick and expand: a leg does not start where the one before it ends */
 #define FOSAVALO_BROKEN_LOG 8           /* log only: the log's length and its three words do not go together */
-#define FOSAVALO_NO_ROOM 9              /* append: under 108 bytes beyond the log, or FOSAVALO_MOST_RECORDS in it; flags: lengths */
+#define FOSAVALO_NO_ROOM 9              /* append: under 108 bytes beyond the log, or FOSAVALO_MOST_RECORDS in it; flags: lengths; expand: the route is longer than its buffer */
 #define FOSAVALO_WRONG_PROFILE 10       /* set-up and the check of a log: the profile is neither 0 nor 1 */
 #define FOSAVALO_PASS_THROUGH 11        /* set-up only: the gyro would not be filtered, as with a cut-off of 0 */
+#define FOSAVALO_BROKEN_PATTERN 12      /* expand only: a bad tag, count, depth or length anywhere in the pattern */
 #define FOSAVALO_NO_RECORD 13           /* record only: the log has no record at that place */
 #define FOSAVALO_WRONG_RECORD_LENGTH 14 /* record only: record_len is not FOSAVALO_RECORD_BYTES */
 
@@ -125,7 +127,7 @@ static inline const char *fosavalo_meaning(uint32_t number) {
         return "the image is not " FOSAVALO_TEXT(FOSAVALO_IMAGE_BYTES) " bytes long";
     case FOSAVALO_WRONG_INPUT_LENGTH:
         return "the input is not " FOSAVALO_TEXT(FOSAVALO_SETUP_BYTES) " bytes long at set-up, " FOSAVALO_TEXT(FOSAVALO_LEG_BYTES)
-               " at an exchange, " FOSAVALO_TEXT(FOSAVALO_TICK_BYTES) " at a tick and in a log, or what takes a log's count or its verdict is not 4";
+               " at an exchange, " FOSAVALO_TEXT(FOSAVALO_TICK_BYTES) " at a tick and in a log, or what takes a log's count, its verdict or a route's length is not 4";
     case FOSAVALO_WRONG_ANSWER_LENGTH:
         return "the answer is not " FOSAVALO_TEXT(FOSAVALO_ANSWER_BYTES) " bytes long";
     case FOSAVALO_BROKEN_IMAGE:
@@ -142,11 +144,13 @@ static inline const char *fosavalo_meaning(uint32_t number) {
     case FOSAVALO_NO_ROOM:
         return "the buffer has no room for " FOSAVALO_TEXT(FOSAVALO_RECORD_BYTES) " bytes more, or the log has "
                FOSAVALO_TEXT(FOSAVALO_MOST_RECORDS) " records; or there is not a flag for each margin, or more than "
-               FOSAVALO_TEXT(FOSAVALO_MOST_MARGINS) " of them";
+               FOSAVALO_TEXT(FOSAVALO_MOST_MARGINS) " of them; or a pattern's route does not fit its buffer";
     case FOSAVALO_WRONG_PROFILE:
         return "the profile is neither 0 nor 1";
     case FOSAVALO_PASS_THROUGH:
         return "the gyro would not be filtered: the cut-off fc has to be above 0 and below half of the sample rate fs";
+    case FOSAVALO_BROKEN_PATTERN:
+        return "the pattern has a tag, a count, a depth or a length that none has";
     case FOSAVALO_NO_RECORD:
         return "the log has no record at that place";
     case FOSAVALO_WRONG_RECORD_LENGTH:
@@ -355,6 +359,16 @@ uint32_t fosavalo_log_check(const uint8_t *log, size_t log_len, uint32_t profile
  * Returns 0; or 9 if flags_len is above FOSAVALO_MOST_MARGINS or margins_len is not four times flags_len, and then no flag is written. An empty list
  * is 0. Each pointer has to be good for its length, whatever that is, and the two buffers must not overlap. */
 uint32_t fosavalo_flags(const uint8_t *margins, size_t margins_len, float enter, float exit, uint8_t *flags, size_t flags_len);
+
+/* A pattern's legs in flown order, as a route. A pattern is items one after another, perhaps none: a leg is a byte 0 and a leg's 76 bytes; a repeat is a byte 1, a
+ * count of 1 to 9, two bytes, the least first, of how many bytes it holds, and those bytes, a pattern again. Repeats stand inside repeats at most
+ * FOSAVALO_DEEPEST_REPEAT deep. The route takes the first bytes of its buffer, and the bytes after it stay; its length is written as one word, little-endian,
+ * into the 4 bytes of written. A route tick takes what is written. The time goes with the pattern's length, whatever its counts.
+ *
+ * Returns 0; 2 if written_len is not 4; then 12; then 5 if no leg or more than FOSAVALO_MOST_LEGS are flown; then 9 if the route is longer than its buffer; then
+ * 7 if two legs that are flown one after the other do not meet, also from one round of a repeat to the next. Unless it is 0 no byte is changed; the
+ * pattern never is. Each pointer has to be good for its length, whatever that is, and the three buffers must not overlap. */
+uint32_t fosavalo_pattern_expand(const uint8_t *pattern, size_t pattern_len, uint8_t *route, size_t route_len, uint8_t *written, size_t written_len);
 
 #ifdef __cplusplus
 }

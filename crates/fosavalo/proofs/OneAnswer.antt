@@ -3,6 +3,7 @@ use mathlib.Core.Path.{refl, ap}
 use mathlib.Core.List.{List}
 use Prim.Native.Nat.{ℕ}
 use Rattle.outcome.specs.Outcomes.{Left, Lent}
+use Rattle.pattern.specs.Entry.{Buffers}
 use Rattle.laws.proofs.Determined.{OneAnswer, no-second, both}
 use Rattle.fosavalo.proofs.fosavalo_version
 use Rattle.fosavalo.proofs.fosavalo_sinf
@@ -17,6 +18,7 @@ use Rattle.fosavalo.proofs.fosavalo_log_count
 use Rattle.fosavalo.proofs.fosavalo_log_record
 use Rattle.fosavalo.proofs.fosavalo_flags
 use Rattle.fosavalo.proofs.fosavalo_log_check
+use Rattle.fosavalo.proofs.fosavalo_pattern_expand
 
 pub fosavalo-version-once : OneAnswer fosavalo_version.ended fosavalo_version.Reads.Post
 fosavalo-version-once κs a x y v w p q = (no-second p q, refl)
@@ -74,3 +76,8 @@ pub fosavalo-log-check-once : OneAnswer fosavalo_log_check.ended fosavalo_log_ch
 fosavalo-log-check-once κs a x y v w p q =
     let e = no-second p q in
     (ap (λ (f : Left ℕ (List ℕ)). f .outcome) e, both refl (both refl (both refl (both refl (both (ap (λ (f : Left ℕ (List ℕ)). f .later) e) refl)))))
+
+pub fosavalo-pattern-expand-once : OneAnswer fosavalo_pattern_expand.ended fosavalo_pattern_expand.Reads.Post
+fosavalo-pattern-expand-once κs a x y v w p q =
+    let e = no-second p q in
+    (ap (λ (c : Left ℕ Buffers). c .outcome) e, both refl (both (ap (λ (c : Left ℕ Buffers). c .later .route) e) (both (ap (λ (c : Left ℕ Buffers). c .later .written) e) refl)))

@@ -8,13 +8,14 @@ ghost use Rattle.route.specs.Entry.{routeCall};
 ghost use Rattle.log.specs.Entry.{appendCall, countCall, recordCall};
 ghost use Rattle.slow.specs.Entry.{flagsCall};
 ghost use Rattle.audit.specs.Entry.{checkCall};
+ghost use Rattle.pattern.specs.Entry.{buffers, expandCall};
 
 // The version that this was built as: 65536 times its first number, 256 times its second, and its third.
 #[no_mangle]
 pub extern "C" fn fosavalo_version() -> u32
-    ensures { λ r. ⌜ r ≡ 0x0d00 ⌝ }
+    ensures { λ r. ⌜ r ≡ 0x0e00 ⌝ }
 {
-    0x0d00
+    0x0e00
 }
 
 // The sine of x, as `relay_math::sinf` has it.
@@ -129,4 +130,16 @@ pub extern "C" fn fosavalo_log_check(
     ensures { λ r. ⌜ left r (now (verdict .exit)) ≡ numbered (checkCall (now (log .entry)) profile enter exit (now (verdict .entry))) ⌝ }
 {
     outcome::number(audit::check_into(log, profile, enter, exit, verdict))
+}
+
+// A pattern expanded into a route: the number of the outcome, and the route's and the length's buffers as `pattern::expand_into` leaves them.
+#[no_mangle]
+pub extern "C" fn fosavalo_pattern_expand(
+    pattern: &[u8],
+    route: &mut [u8],
+    written: &mut [u8],
+) -> u32
+    ensures { λ r. ⌜ left r (buffers (now (route .exit)) (now (written .exit))) ≡ numbered (expandCall (now (pattern .entry)) (now (route .entry)) (now (written .entry))) ⌝ }
+{
+    outcome::number(pattern::expand_into(pattern, route, written))
 }

@@ -4,7 +4,7 @@ use mathlib.Core.Bool.{Bool, not, cond}
 use mathlib.Core.List.{List, [], _∷_}
 use lib.Dec.{eqb}
 use Rattle.outcome.specs.declared.Outcome.{Outcome}
-use Rattle.outcome.specs.declared.Outcome.the-variants.{Done, ImageLength, InputLength, AnswerLength, BrokenImage, LegCount, RouteLength, LegsApart, BrokenLog, NoRoom, BadProfile, PassThrough, NoRecord, RecordLength}
+use Rattle.outcome.specs.declared.Outcome.the-variants.{Done, ImageLength, InputLength, AnswerLength, BrokenImage, LegCount, RouteLength, LegsApart, BrokenLog, NoRoom, BadProfile, PassThrough, BadPattern, NoRecord, RecordLength}
 
 abbrev pub number : Outcome → ℕ
 number Done = 0
@@ -19,6 +19,7 @@ number BrokenLog = 8
 number NoRoom = 9
 number BadProfile = 10
 number PassThrough = 11
+number BadPattern = 12
 number NoRecord = 13
 number RecordLength = 14
 

@@ -9,16 +9,15 @@ ghost use Prim.Native.Nat.{_+_, _-_, _*_, _≤_};
 ghost use lib.Ieee.{eq};
 ghost use lib.ListN.{length};
 ghost use Rattle.words.specs.Words.{floatOf, vec};
-ghost use Rattle.image.specs.Layout.{LEG-WORDS};
 ghost use Rattle.image.specs.Parts.{legAt};
 ghost use Rattle.route.specs.Form.{LEG-BYTES, TRAILER-BYTES, countOf, backOf, vecsMeet, legsMeet, allMeet, formRefusal};
 
 // The limit: everything but the check is over any count.
-const MOST_LEGS: usize = 32;
+pub const MOST_LEGS: usize = 32;
 
-const LEG_BYTES: usize = 4 * LEG_WORDS;
+pub const LEG_BYTES: usize = 4 * LEG_WORDS;
 
-const TRAILER_BYTES: usize = 8;
+pub const TRAILER_BYTES: usize = 8;
 
 // The trailer is the last 8 bytes, whatever the length.
 pub(crate) fn leg_count(route: &[u8]) -> usize
@@ -50,13 +49,13 @@ fn words_meet(w: u32, x: u32) -> bool
 }
 
 // The vectors whose first words are these.
-fn vecs_meet(route: &[u8], j: usize, k: usize) -> bool
-    requires { ⌜ (4 * j + 12 ≤ length (now route)) × (4 * k + 12 ≤ length (now route)) ⌝ }
-    ensures { λ r. ⌜ r ≡ vecsMeet (vec (now (route .entry)) j) (vec (now (route .entry)) k) ⌝ }
+fn vecs_meet(a: &[u8], j: usize, b: &[u8], k: usize) -> bool
+    requires { ⌜ (4 * j + 12 ≤ length (now a)) × (4 * k + 12 ≤ length (now b)) ⌝ }
+    ensures { λ r. ⌜ r ≡ vecsMeet (vec (now (a .entry)) j) (vec (now (b .entry)) k) ⌝ }
 {
-    if words_meet(word_at(route, j), word_at(route, k)) {
-        if words_meet(word_at(route, j + 1), word_at(route, k + 1)) {
-            words_meet(word_at(route, j + 2), word_at(route, k + 2))
+    if words_meet(word_at(a, j), word_at(b, k)) {
+        if words_meet(word_at(a, j + 1), word_at(b, k + 1)) {
+            words_meet(word_at(a, j + 2), word_at(b, k + 2))
         } else {
             false
         }
@@ -65,16 +64,14 @@ fn vecs_meet(route: &[u8], j: usize, k: usize) -> bool
     }
 }
 
-// Whether leg i meets the one before it.
-fn legs_meet(route: &[u8], i: usize) -> bool
-    requires { ⌜ (1 ≤ i) × (LEG-BYTES * (i + 1) ≤ length (now route)) ⌝ }
-    ensures { λ r. ⌜ r ≡ legsMeet (legAt (now (route .entry)) (LEG-WORDS * (i - 1))) (legAt (now (route .entry)) (LEG-WORDS * i)) ⌝ }
+// The legs whose first words are these. They may stand in different bytes: a pattern's are not a route's.
+pub fn legs_meet(earlier: &[u8], j: usize, later: &[u8], k: usize) -> bool
+    requires { ⌜ (4 * j + LEG-BYTES ≤ length (now earlier)) × (4 * k + LEG-BYTES ≤ length (now later)) ⌝ }
+    ensures { λ r. ⌜ r ≡ legsMeet (legAt (now (earlier .entry)) j) (legAt (now (later .entry)) k) ⌝ }
 {
-    let earlier = LEG_WORDS * (i - 1);
-    let later = LEG_WORDS * i;
-    if vecs_meet(route, later, earlier + 9) {
-        if vecs_meet(route, later + 3, earlier + 12) {
-            vecs_meet(route, later + 6, earlier + 15)
+    if vecs_meet(later, k, earlier, j + 9) {
+        if vecs_meet(later, k + 3, earlier, j + 12) {
+            vecs_meet(later, k + 6, earlier, j + 15)
         } else {
             false
         }
@@ -90,7 +87,7 @@ fn all_meet(route: &[u8], count: usize) -> bool
 {
     let mut i = 1;
     while i < count {
-        if !legs_meet(route, i) {
+        if !legs_meet(route, LEG_WORDS * (i - 1), route, LEG_WORDS * i) {
             return false;
         }
         i += 1;

@@ -1,7 +1,7 @@
 //! The joint tick on bytes: ours through the C call, theirs as the Rust's own calls in document 01's order.
 //! Their side reads the same input and writes the same answer; it looks at no length and at nothing of row 4, which is its gain.
 
-use super::stack;
+use super::{pattern, stack};
 use compare::generate::Rng;
 use compare::joint::bytes::{put, ANSWER, IMAGE, MOST_LEGS, SETUP, TICK};
 use compare::joint::guide::{Guide, MIXED};
@@ -211,7 +211,7 @@ pub fn alike(run: &Run) -> bool {
 }
 
 /// The C calls whose stack is measured, and the Rust's own calls of a tick beside them.
-pub const CALLS: [&str; 13] = [
+pub const CALLS: [&str; 14] = [
     "fosavalo_setup",
     "fosavalo_tick",
     "fosavalo_route_tick",
@@ -224,6 +224,7 @@ pub const CALLS: [&str; 13] = [
     "fosavalo_log_record",
     "fosavalo_log_check",
     "fosavalo_flags",
+    "fosavalo_pattern_expand",
     "the Rust calls of a tick",
 ];
 /// Where in `CALLS` the tick stands, the route tick, and the Rust's.
@@ -233,7 +234,7 @@ const ROUTED: usize = 2;
 pub const RUST: usize = CALLS.len() - 1;
 
 /// The stack that each of `CALLS` takes, the most over some ticks of a run, on a thread of its own. None where it can't be measured. The
-/// route has the most legs.
+/// route has the most legs, the pattern a million items.
 pub fn stacks(run: &Run) -> Option<[usize; CALLS.len()]> {
     stacks_on(run, &route(MOST_LEGS))
 }
@@ -254,6 +255,8 @@ fn stacks_on(run: &Run, route: &[u8]) -> Option<[usize; CALLS.len()]> {
         let leg = &run.set_up[4 * 17..4 * 36];
         let mut answer = [0; ANSWER];
         let (mut log, mut record) = ([0; TRAILER + RECORD], [0; RECORD]);
+        // once: it takes as long as thousands of ticks, and no tick changes it
+        let expanded = pattern::stack(pattern::MANY)?;
         run.inputs.iter().take(256).try_fold([0; CALLS.len()], |most, input| {
             let yaw = f32::from_le_bytes(input[32..36].try_into().ok()?);
             log[..TRAILER].copy_from_slice(&model::written(&[]));
@@ -271,6 +274,7 @@ fn stacks_on(run: &Run, route: &[u8]) -> Option<[usize; CALLS.len()]> {
                 of(|| faces::log_check(&log, 0, 0.03, 0.07, &mut [0; 4]))?,
                 // any words are margins
                 of(|| faces::flags(input, 0.03, 0.07, &mut [0; TICK / 4]))?,
+                expanded,
                 of(|| made(&mut theirs, input, &mut answer))?,
             ];
             Some(std::array::from_fn(|k| most[k].max(here[k])))
@@ -309,6 +313,13 @@ mod tests {
         let run = pass();
         let [one, most] = [1, MOST_LEGS].map(|legs| stacks_on(&run, &route(legs)).expect("measured on this machine"));
         assert_eq!(one[ROUTED], most[ROUTED]);
+    }
+
+    /// Nor with the items of a pattern.
+    #[test]
+    fn no_stack_grows_with_the_items() {
+        let [few, many] = [1, pattern::MANY].map(|items| pattern::stack(items).expect("measured on this machine"));
+        assert_eq!(few, many);
     }
 
     #[test]

@@ -5,12 +5,14 @@ mod angles;
 mod desk;
 mod joint;
 mod log;
+mod pattern;
 mod route;
 mod slow;
 mod stack;
 
 use compare::println;
 use std::hint::black_box;
+use std::process::ExitCode;
 use std::time::Instant;
 
 /// The other side's calls, kept out of line as ours are.
@@ -143,6 +145,22 @@ fn desks(visits: &[Option<desk::Times>]) -> bool {
     within && shallow.unwrap_or(true)
 }
 
+/// The patterns that would take longest if a body were walked as often as it is flown.
+fn patterns() -> bool {
+    let Some([alone, beside, about]) = pattern::times() else {
+        println!("pattern: another number is said");
+        return false;
+    };
+    let within = alone.max(beside) <= pattern::BAR;
+    println!(
+        "{:48} alone: {alone:5.3} ms  between legs: {beside:5.3} ms  ({} the bar of {} ms)  about a leg flown 27 times: {about:5.3} ms  (no bar)",
+        "pattern, 16,381 empty repeats in three of 9",
+        if within { "within" } else { "OVER" },
+        pattern::BAR
+    );
+    within
+}
+
 /// The stack of each call, the most over a slow pass, one with random headings and one with a rotor lost.
 fn stacks() -> bool {
     let runs = [joint::pass(), joint::headings(), joint::lost_rotor()];
@@ -166,10 +184,30 @@ fn stacks() -> bool {
     good
 }
 
-fn main() {
-    if std::env::args().nth(1).as_deref() == Some("stack") {
-        std::process::exit(i32::from(!stacks()));
-    }
+const USAGE: &str = "bench          times, as ratios to the other side in one run; ends with 1 where one is over its bar
+bench stack    the stack that each C call takes
+bench --help   this";
+
+fn main() -> ExitCode {
+    let words: Vec<String> = std::env::args_os().skip(1).map(|word| word.to_string_lossy().into_owned()).collect();
+    let words: Vec<&str> = words.iter().map(String::as_str).collect();
+    let good = match words[..] {
+        [] => all(),
+        ["stack"] => stacks(),
+        ["--help" | "-h"] => {
+            println!("{USAGE}");
+            true
+        }
+        _ => {
+            eprintln!("bench: `{}` is nothing that it measures (bench --help)", words.join(" "));
+            return ExitCode::from(2);
+        }
+    };
+    ExitCode::from(u8::from(!good))
+}
+
+/// Every row; whether each is within its bar.
+fn all() -> bool {
     let mut rng = Rng(1);
     let positive: Vec<f32> = (0..CALLS).map(|_| (rng.next() * 1000.0) as f32).collect();
     // Three visits, with the ticks between them: what disturbs the machine for a second or two meets one of them only.
@@ -222,7 +260,6 @@ fn main() {
     desk.push(desk::times(&pass));
     good &= desks(&desk);
     good &= looked_back();
-    if !good {
-        std::process::exit(1);
-    }
+    good &= patterns();
+    good
 }

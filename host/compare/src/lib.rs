@@ -10,6 +10,7 @@ pub mod generate;
 pub mod joint;
 pub mod log;
 pub mod numbers;
+pub mod pattern;
 pub mod progress;
 pub mod routine;
 pub mod runs;

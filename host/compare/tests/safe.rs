@@ -14,6 +14,7 @@ fn the_same_lengths() {
     assert_eq!(EMPTY_LOG[..], log::model::written(&[]));
     assert_eq!(fosavalo::MOST_MARGINS, compare::slow::MOST);
     assert_eq!(fosavalo::LOG_RIGHT, compare::audit::RIGHT);
+    assert_eq!((fosavalo::DEEPEST_REPEAT, fosavalo::MOST_LEGS), (compare::pattern::DEEP, bytes::MOST_LEGS));
 }
 
 /// Its falcon_quad has relay's gains.

@@ -24,7 +24,7 @@ pub fn legs() -> Vec<Leg> {
 }
 
 /// Which leg, counted from 0, is flown at a time, and how long it has been: as the core has it.
-fn flown(legs: &[Leg], time: f32) -> (usize, f32) {
+pub fn flown(legs: &[Leg], time: f32) -> (usize, f32) {
     let mut from = 0.0;
     for (at, leg) in legs.iter().enumerate() {
         if time < from + leg.t {

@@ -1,9 +1,9 @@
-//! `fly`: the slow pass above a stage, a pass of three legs, one whose segment is exchanged, a curved one, one in which a rotor stops, and one flown from a desk. `fly SCENARIO`: a flight from a file. Both print a table and write what was flown.
+//! `fly`: the slow pass above a stage, a pass of three legs, one whose segment is exchanged, a loop flown three times, a curved pass, one in which a rotor stops, and one flown from a desk. `fly SCENARIO`: a flight from a file. Both print a table and write what was flown.
 
 use fly::flight::Flight;
 use fly::scenario::{self, Scenario};
 use fly::table::{choices, passes, table, Pair};
-use fly::{curve, desk, exchange, legs, output, pass, rotor};
+use fly::{curve, desk, exchange, legs, output, pass, rotor, thrice};
 use fosavalo::{LEG_BYTES, TICK_BYTES};
 use std::io::Write;
 use std::path::{Path, PathBuf};
@@ -22,8 +22,9 @@ fn usage() -> String {
 fly --choices
 
 Without a scenario: the slow pass above a stage in a closed loop, five seeds, our shield and the earlier rule side by side;
-then a pass of three legs on a route, one whose segment is exchanged in flight, a curved one by the margin of today and
-by document 01's, one in which a rotor stops, and one flown from an operator's desk. With one: the flight of that file.
+then a pass of three legs on a route, one whose segment is exchanged in flight, a loop flown three times by a pattern, a
+curved pass by the margin of today and by document 01's, one in which a rotor stops, and one flown from an operator's
+desk. With one: the flight of that file.
 
   --out FOLDER   where the files go, `{FOLDER}` if it is not given: NAME-shield.csv and NAME-earlier.csv with every tick,
                  NAME-shield.log and NAME-earlier.log, and where gnuplot is there NAME.svg and NAME.png, drawn from
@@ -37,6 +38,7 @@ of the input, which hold until they are given again:{input}
 and
   profile NAME   `whole`, as it is if this is not given, or `lost-rotor`; of the set-up
   leg NUMBERS    a leg of a route in place of the segment, {leg} numbers: p0 v0 a0 pf vf af t; before the first tick
+  repeat N {{ .. }}  legs and repeats of them that are flown N times, 1 to 9; four deep at most
   tick N         N ticks; `tick N FIELD NUMBERS ..` leads these fields of the input evenly to these numbers
   row NUMBERS    one tick, all {row} numbers of the input
 A number is a decimal, nan, inf, -inf, or 0x and the bits. What is not given is as in SetUp::falcon_quad and
@@ -85,6 +87,9 @@ fn run() -> Result<(), String> {
     if scenario.is_none() {
         say(&format!("\n{}", legs::table().map_err(|refusal| refusal.to_string())?))?;
         say(&format!("\n{}", exchange::table().map_err(|refusal| refusal.to_string())?))?;
+        say(&format!("\n{}", thrice::table()?))?;
+        let said = thrice::write(&folder).map_err(|error| format!("{}: {error}", folder.display()))?;
+        say(&format!("\n{}\n", said.join("\n")))?;
         say(&format!("\n{}", curve::table().map_err(|refusal| refusal.to_string())?))?;
         let said = curve::write(&folder).map_err(|error| format!("{}: {error}", folder.display()))?;
         say(&format!("\n{}\n", said.join("\n")))?;

@@ -9,11 +9,12 @@
 //! row 0 0 0  1 0 0 0  0 0 0 0.001  0 0 0  1 1 1     # one tick, all seventeen numbers
 //! ```
 //!
-//! Lines `leg` with nineteen numbers, before the first tick, make a route that is flown in place of the segment. A line `profile lost-rotor` there has
-//! the flight set up for a lost rotor.
+//! Lines `leg` with nineteen numbers, before the first tick, make a route that is flown in place of the segment; `repeat 3 { … }` about some of them has
+//! these flown three times. A line `profile lost-rotor` there has the flight set up for a lost rotor.
 //!
 //! A number is a decimal, `nan`, `inf`, `-inf`, or `0x` and the bits. docs/FLYING.md has all of it.
 
+use crate::pattern::{self, Draft, Expanded};
 use fosavalo::{GyroFilter, Image, Leg, Profile, Refusal, Route, SetUp, TickInput, LEG_BYTES, SETUP_BYTES, TICK_BYTES};
 use std::fmt;
 
@@ -105,18 +106,8 @@ fn find(fields: &[Field], name: &str) -> Option<Field> {
 impl Scenario {
     /// Never panics: any bytes are a scenario or a mistake.
     pub fn read(bytes: &[u8]) -> Result<Self, Mistake> {
-        let text = std::str::from_utf8(bytes).map_err(|error| {
-            let line = bytes.iter().take(error.valid_up_to()).filter(|byte| **byte == b'\n').count() + 1;
-            Mistake { line, field: String::new(), what: "not UTF-8 text".to_string() }
-        })?;
-        let mut reader = Reader::new();
-        for (at, line) in text.trim_start_matches('\u{feff}').lines().enumerate() {
-            let (words, _) = line.split_once('#').unwrap_or((line, ""));
-            let words: Vec<&str> = words.split_whitespace().collect();
-            if let [name, rest @ ..] = words.as_slice() {
-                reader.line(at + 1, name, rest).map_err(|(field, what)| Mistake { line: at + 1, field, what })?;
-            }
-        }
+        let reader = Reader::of(bytes)?;
+        let route = reader.pattern.finish()?.map(|expanded| expanded.route);
         if reader.inputs.is_empty() {
             let what = "no ticks: a scenario has at least one line that begins with `tick` or `row`".to_string();
             return Err(Mistake { line: 0, field: String::new(), what });
@@ -125,8 +116,15 @@ impl Scenario {
         let set_up = set_up.map_err(|refusal| Mistake { line: 0, field: "set-up".to_string(), what: refusal.to_string() })?;
         let set_up = SetUp { profile: reader.profile.map_or(Profile::Whole, |(_, profile)| profile), ..set_up };
         Reader::filters(&reader.given, &set_up)?;
-        Ok(Scenario { set_up, route: reader.route()?, inputs: reader.inputs })
+        Ok(Scenario { set_up, route, inputs: reader.inputs })
     }
+}
+
+/// The pattern of a file, which may be a scenario and need not: legs and repeats, with ticks or without.
+pub fn pattern(bytes: &[u8]) -> Result<Expanded, Mistake> {
+    let none =
+        || Mistake { line: 0, field: String::new(), what: "no legs: a pattern has lines that begin with `leg` or `repeat`".to_string() };
+    Reader::of(bytes)?.pattern.finish()?.ok_or_else(none)
 }
 
 struct Reader {
@@ -135,17 +133,15 @@ struct Reader {
     given: Vec<usize>,
     /// And the profile, with its line.
     profile: Option<(usize, Profile)>,
-    legs: Vec<Leg>,
-    /// The line of each leg.
-    leg_lines: Vec<usize>,
+    pattern: Draft,
     input: Vec<f32>,
     inputs: Vec<TickInput>,
 }
 
 /// A field's name and what is wrong with it.
-type Wrong = (String, String);
+pub type Wrong = (String, String);
 
-fn wrong<T>(field: &str, what: impl Into<String>) -> Result<T, Wrong> {
+pub fn wrong<T>(field: &str, what: impl Into<String>) -> Result<T, Wrong> {
     Err((field.to_string(), what.into()))
 }
 
@@ -155,14 +151,42 @@ impl Reader {
             set_up: floats(&SetUp::falcon_quad().to_bytes()),
             given: vec![0; SETUP_BYTES / 4],
             profile: None,
-            legs: Vec::new(),
-            leg_lines: Vec::new(),
+            pattern: Draft::new(),
             input: floats(&TickInput::default().to_bytes()),
             inputs: Vec::new(),
         }
     }
 
+    /// All lines of a file.
+    fn of(bytes: &[u8]) -> Result<Self, Mistake> {
+        let text = std::str::from_utf8(bytes).map_err(|error| {
+            let line = bytes.iter().take(error.valid_up_to()).filter(|byte| **byte == b'\n').count() + 1;
+            Mistake { line, field: String::new(), what: "not UTF-8 text".to_string() }
+        })?;
+        let mut reader = Reader::new();
+        for (at, line) in text.trim_start_matches('\u{feff}').lines().enumerate() {
+            let (words, _) = line.split_once('#').unwrap_or((line, ""));
+            // a brace is a word of its own
+            let words = words.replace('{', " { ").replace('}', " } ");
+            let words: Vec<&str> = words.split_whitespace().collect();
+            let mut rest = words.as_slice();
+            while let [name, more @ ..] = rest {
+                let (own, others) = more.split_at(pattern::own(name, more));
+                reader.line(at + 1, name, own).map_err(|(field, what)| Mistake { line: at + 1, field, what })?;
+                rest = others;
+            }
+        }
+        Ok(reader)
+    }
+
     fn line(&mut self, line: usize, name: &str, rest: &[&str]) -> Result<(), Wrong> {
+        let of_pattern = ["leg", "repeat", "}"].contains(&name);
+        if let (Some(repeat), false) = (self.pattern.inside(), of_pattern) {
+            return wrong(name, format!("stands inside the repeat of line {repeat}, which holds legs and repeats"));
+        }
+        if of_pattern && !self.inputs.is_empty() {
+            return wrong(name, "stands before the first tick");
+        }
         if let Some(field) = find(&SET_UP, name) {
             return self.set_up(line, field, rest);
         }
@@ -175,13 +199,15 @@ impl Reader {
             "tick" => self.ticks(rest),
             "profile" => self.profile(line, rest),
             "leg" => self.leg(line, rest),
+            "repeat" => self.pattern.open(line, rest),
+            "}" => self.pattern.close(),
             "row" => {
                 let field = ("row", 0, TICK_BYTES / 4);
                 let numbers = numbers(field, rest)?;
                 put(&mut self.input, field, &numbers);
                 self.tick()
             }
-            _ => wrong(name, format!("no such field; there are {}, profile, leg, tick and row", names())),
+            _ => wrong(name, format!("no such field; there are {}, profile, leg, repeat, tick and row", names())),
         }
     }
 
@@ -214,26 +240,11 @@ impl Reader {
     }
 
     fn leg(&mut self, line: usize, rest: &[&str]) -> Result<(), Wrong> {
-        if !self.inputs.is_empty() {
-            return wrong("leg", "stands before the first tick");
-        }
         let n = numbers(("leg", 0, LEG_BYTES / 4), rest)?;
         let three = |at: usize| std::array::from_fn(|k| n.get(at + k).copied().unwrap_or(0.0));
         let t = n.last().copied().unwrap_or(0.0);
-        self.legs.push(Leg { p0: three(0), v0: three(3), a0: three(6), pf: three(9), vf: three(12), af: three(15), t });
-        self.leg_lines.push(line);
+        self.pattern.leg(line, Leg { p0: three(0), v0: three(3), a0: three(6), pf: three(9), vf: three(12), af: three(15), t });
         Ok(())
-    }
-
-    /// The route of all legs, if there are any; a mistake is the first leg's with which they are no route.
-    fn route(&self) -> Result<Option<Route>, Mistake> {
-        let mut route = None;
-        for (line, count) in self.leg_lines.iter().zip(1..) {
-            let made = Route::new(self.legs.get(..count).unwrap_or_default());
-            let mistake = |refusal: Refusal| Mistake { line: *line, field: format!("leg {count}"), what: refusal.to_string() };
-            route = Some(made.map_err(mistake)?);
-        }
-        Ok(route)
     }
 
     /// Crews turned the filter off with a cut-off of 0, so the sentence says what to write instead.

@@ -76,7 +76,7 @@ fn help() {
     assert_eq!((code, err.as_str()), (Some(0), ""));
     let fields = fields().concat();
     let named = fields.iter().map(|(name, count)| format!("{name} {count}"));
-    for word in ["--out FOLDER", "--choices", "--help", "profile NAME", "leg NUMBERS", "tick N", "row NUMBERS"]
+    for word in ["--out FOLDER", "--choices", "--help", "profile NAME", "leg NUMBERS", "repeat N { .. }", "tick N", "row NUMBERS"]
         .map(String::from)
         .into_iter()
         .chain(named)

@@ -2,7 +2,7 @@
 
 use fly::flight::{Flight, Rule, RULES};
 use fly::table::{choices, passes, table};
-use fly::{curve, desk, exchange, legs, output, pass, rotor};
+use fly::{curve, desk, exchange, legs, output, pass, rotor, thrice};
 use fosavalo::{BodyRate, GyroFilter, Image, Leg, Pilot, Profile, Route, SetUp, TickInput};
 
 #[test]
@@ -92,6 +92,30 @@ fn the_desk() {
     let inputs: Vec<TickInput> = flight.ticks.iter().map(|tick| tick.input).collect();
     let plain = Flight::of(&pass::set_up(&pass::SHOWN), Rule::Shield, None, &inputs).expect("no pass is refused");
     assert!(flight.ticks.iter().zip(plain.ticks.iter()).all(|(desk, plain)| desk.answer == plain.answer));
+}
+
+/// And of the loop that is flown three times: each round is four legs, the same ones, and takes its eight seconds; and the aircraft is where the loop is.
+#[test]
+fn the_loop() {
+    let now = thrice::table().expect("the pattern is one");
+    assert_eq!(now, include_str!("thrice.txt"), "\n{now}");
+    for seed in pass::SEEDS {
+        let flown = thrice::fly(seed).expect("the pattern is one");
+        assert_eq!((flown.flight.strays(), flown.places.len()), (None, flown.flight.ticks.len()));
+        assert_eq!(flown.rounds, [0, 1, 1, 1, 1, 2, 2, 2, 2, 3, 3, 3, 3, 4]);
+        assert!(flown.legs[1..5] == flown.legs[5..9] && flown.legs[1..5] == flown.legs[9..13] && flown.legs[0] != flown.legs[4]);
+        for round in 1..=3 {
+            let part = flown.part(round);
+            assert!((7_900..8_100).contains(&part.ticks) && part.furthest < 0.3, "round {round} of seed {seed}");
+        }
+        // half way round, at the far corner, two metres from where it began on either axis
+        for (k, tick) in
+            flown.flight.ticks.iter().enumerate().filter(|(_, tick)| [6.0, 14.0, 22.0].iter().any(|t| (tick.answer.time - t).abs() < 5e-4))
+        {
+            let [north, east, _] = flown.places[k];
+            assert!(north.abs() < 0.3 && (east - 2.0).abs() < 0.3, "{north}, {east} at {}", tick.answer.time);
+        }
+    }
 }
 
 /// And of the curved pass: what is flown is never taken from the planner, and document 01's margin would take it.

@@ -1,7 +1,7 @@
 //! Scenarios: what is read, and what is said of a bad one.
 
 use fly::flight::{Flight, Rule};
-use fly::scenario::{fields, Scenario, MOST_TICKS};
+use fly::scenario::{fields, pattern, Scenario, MOST_TICKS};
 use fosavalo::{Pilot, Profile};
 
 fn mistake(text: &str) -> String {
@@ -76,6 +76,73 @@ fn legs() {
     assert_eq!(mistake(&("tick 1\n".to_string() + &leg("0", "0"))), "line 2: leg: stands before the first tick");
 }
 
+/// A leg of half a second along the first axis.
+fn leg(from: &str, to: &str) -> String {
+    format!("leg {from} 0 0  0 0 0  0 0 0   {to} 0 0  0 0 0  0 0 0   0.5")
+}
+
+/// Repeats make the route that their legs make when they are written out, on lines of their own or not.
+#[test]
+fn repeats() {
+    let route = |text: &str| Scenario::read(format!("{text}\ntick 1\n").as_bytes()).expect("it is a scenario").route.expect("it has legs");
+    let (out, there, back, home) = (leg("0", "1"), leg("1", "2"), leg("2", "1"), leg("1", "0"));
+    let written_out = [&out, &there, &back, &there, &back, &there, &back, &home].map(|leg| leg.clone() + "\n").concat();
+    for text in [
+        format!("{out}\nrepeat 3 {{\n{there}\n{back}\n}}\n{home}"),
+        format!("{out} repeat 3 {{ {there} {back} }} {home}"),
+        format!("{out}\nrepeat 3{{{there}\n{back}}}{home} # all of it"),
+        format!("{out} repeat 1 {{ repeat 1 {{ repeat 1 {{ repeat 3 {{ {there} {back} }} }} }} }} repeat 9 {{ }} {home}"),
+        format!("{out}\nrepeat 1 {{ {there} {back} }}\nrepeat 2 {{\nrepeat 9 {{}}\n{there} {back} }}\n{home}"),
+    ] {
+        assert_eq!(route(&text), route(&written_out), "{text}");
+    }
+    let one = include_bytes!("../scenarios/loop.txt");
+    let other = Scenario::read(include_bytes!("../scenarios/rounds.txt")).expect("it is a scenario");
+    assert_eq!(Scenario::read(one).expect("it is a scenario").route, other.route);
+    let expanded = pattern(one).expect("it is a pattern");
+    assert!(expanded.legs.iter().map(|placed| placed.leg).eq(expanded.route.legs()));
+    assert_eq!(expanded.legs.iter().map(|placed| placed.line).collect::<Vec<_>>(), [6, 8, 9, 10, 11, 8, 9, 10, 11, 8, 9, 10, 11, 13]);
+    assert_eq!((expanded.seconds(), expanded.pattern.as_bytes().len(), expanded.route.len()), (28.0, 6 * 77 + 4, 14));
+}
+
+/// And what is wrong with one, by line and field.
+#[test]
+fn repeats_that_are_none() {
+    let stay = leg("0", "0");
+    for (count, word) in [("0", "0"), ("10", "10"), ("-1", "-1"), ("x", "x"), ("3.0", "3.0")] {
+        let said = format!("line 2: repeat: `{word}` is no count: a repeat is flown 1 to 9 times");
+        assert_eq!(mistake(&format!("{stay}\nrepeat {count} {{ {stay} }}\ntick 1")), said);
+    }
+    for text in ["repeat {\n}", "repeat 3\n{\n}", "repeat\n", "repeat 3 3 {\n}"] {
+        assert_eq!(mistake(text), "line 1: repeat: wants a count and a brace, as in `repeat 3 {`");
+    }
+    assert_eq!(mistake(&format!("repeat 2 {{\n{stay}\n}}\n}}\ntick 1")), "line 4: }: closes nothing");
+    assert_eq!(mistake(&format!("repeat 2 {{\nrepeat 3 {{ {stay}\n}}\n")), "line 1: repeat: has no `}`");
+    assert_eq!(mistake("\nrepeat 2 {\nrepeat 3 {\n"), "line 3: repeat: has no `}`");
+    let five = "repeat 1 {\n".repeat(5);
+    assert_eq!(mistake(&format!("{five}{stay}")), "line 5: repeat: stands inside 4 others, and so deep they may stand");
+    assert_eq!(mistake("repeat 2 {\nleg 1 2 3 }\ntick 1"), "line 2: leg: takes 19 numbers, here are 3");
+    for field in ["tick 5", "dt 0.1", "enter 1", "row", "profile whole", "Leg"] {
+        let name = field.split(' ').next().unwrap_or_default();
+        let said = format!("line 4: {name}: stands inside the repeat of line 2, which holds legs and repeats");
+        assert_eq!(mistake(&format!("\nrepeat 2 {{\n{stay}\n{field} }}\n")), said);
+    }
+    assert_eq!(mistake(&format!("tick 1\nrepeat 2 {{ {stay} }}")), "line 2: repeat: stands before the first tick");
+    assert_eq!(mistake("tick 1\n}"), "line 2: }: stands before the first tick");
+    // what the core refuses is told of the leg: of the round after, of the 33rd, of none
+    let (out, back) = (leg("0", "1"), leg("1", "2"));
+    let apart = format!("{stay}\nrepeat 3 {{\n{out}\n{back}\n}}\ntick 1");
+    assert_eq!(mistake(&apart), "line 3: leg 4: refused (7): leg 4 of the route does not start where leg 3 ends, in line 4");
+    let many = format!("repeat 3 {{\n{stay}\n{stay}\nrepeat 9 {{ {stay} }}\n}}\ntick 1");
+    assert_eq!(mistake(&many), "line 4: leg 33: refused (5): a route has 1 to 32 legs");
+    assert_eq!(mistake("\nrepeat 9 { repeat 9 {} }\ntick 1"), "line 2: repeat: refused (5): a route has 1 to 32 legs");
+    // 851 legs are the most that a repeat holds, and the form comes before the count
+    let long = |legs: usize| mistake(&format!("repeat 1 {{\n{}}}\ntick 1", format!("{stay}\n").repeat(legs)));
+    assert_eq!(long(851), "line 34: leg 33: refused (5): a route has 1 to 32 legs");
+    assert_eq!(long(852), "line 854: }: the repeat of line 1 holds 65604 bytes, and the most are 65535");
+    assert_eq!(pattern(b"enter 0.5\n").map(|_| ()).map_err(|mistake| mistake.line), Err(0));
+}
+
 #[test]
 fn what_is_read() {
     let text = "enter 0x3f000000\nfc 80\nadrc_pitch 1 2 3 4\nyaw nan\ntick 2\nyaw 1\ntick 4 yaw 2 gyro 4 0 0 # evenly\n\
@@ -121,20 +188,21 @@ fn any_bytes() {
         &include_bytes!("../scenarios/headings.txt")[..],
         include_bytes!("../scenarios/route.txt"),
         include_bytes!("../scenarios/rotor.txt"),
+        include_bytes!("../scenarios/loop.txt"),
     ];
     let mut x = 1u64;
     let mut random = || {
         x = x.wrapping_mul(6364136223846793005).wrapping_add(1442695040888963407);
         (x >> 33) as usize
     };
-    for round in 0..3000 {
-        let mut bytes = whole[round % 3].to_vec();
+    for round in 0..4000 {
+        let mut bytes = whole[round % 4].to_vec();
         for _ in 0..1 + round % 5 {
             let at = random() % bytes.len();
             match random() % 3 {
                 0 => bytes[at] = random() as u8,
                 1 => drop(bytes.drain(at..(at + random() % 20).min(bytes.len()))),
-                _ => bytes.insert(at, b" \n#xn.-+e09"[random() % 11]),
+                _ => bytes.insert(at, b" \n#xn.-+e09{}"[random() % 13]),
             }
         }
         if let Ok(scenario) = Scenario::read(&bytes) {

@@ -67,6 +67,14 @@ mod raw {
             verdict: *mut u8,
             verdict_len: usize,
         ) -> u32;
+        pub fn fosavalo_pattern_expand(
+            pattern: *const u8,
+            pattern_len: usize,
+            route: *mut u8,
+            route_len: usize,
+            written: *mut u8,
+            written_len: usize,
+        ) -> u32;
         pub fn fosavalo_flags(margins: *const u8, margins_len: usize, enter: f32, exit: f32, flags: *mut u8, flags_len: usize) -> u32;
     }
 }
@@ -264,4 +272,30 @@ pub fn log_check(log: &[u8], profile: u32, enter: f32, exit: f32, verdict: &mut 
 pub fn flags(margins: &[u8], enter: f32, exit: f32, flags: &mut [u8]) -> u32 {
     // SAFETY: as above.
     unsafe { raw::fosavalo_flags(margins.as_ptr(), margins.len(), enter, exit, flags.as_mut_ptr(), flags.len()) }
+}
+
+/// Expands a pattern: its legs in the order in which they are flown, as a route in the first bytes of the buffer, whose other bytes stay; the route's
+/// length, as a word, into four bytes. Gives 0, 2, 12, 5, 9 or 7, the first of these that holds.
+///
+/// ```
+/// use fosavalo::calls;
+///
+/// // three times a leg of zeros, which meets itself
+/// let pattern = [&[1, 3, 77, 0], &[0; 77][..]].concat();
+/// let (mut route, mut written) = ([0xa5; 240], [0; 4]);
+/// assert_eq!(calls::pattern_expand(&pattern, &mut route, &mut written), 0);
+/// assert_eq!(u32::from_le_bytes(written), 3 * 76 + 8);
+/// assert_eq!(route[236..], [0xa5; 4]);
+///
+/// assert_eq!(calls::pattern_expand(&pattern[1..], &mut route, &mut written), 12);
+/// assert_eq!(calls::pattern_expand(&[], &mut route, &mut written), 5);
+/// assert_eq!(calls::pattern_expand(&pattern, &mut route[..235], &mut written), 9);
+/// ```
+#[inline]
+pub fn pattern_expand(pattern: &[u8], route: &mut [u8], written: &mut [u8]) -> u32 {
+    let (route_len, written_len) = (route.len(), written.len());
+    // SAFETY: as above.
+    unsafe {
+        raw::fosavalo_pattern_expand(pattern.as_ptr(), pattern.len(), route.as_mut_ptr(), route_len, written.as_mut_ptr(), written_len)
+    }
 }

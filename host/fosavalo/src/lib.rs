@@ -25,6 +25,7 @@
 //! | numbers | [`SetUp`], [`Image::set_up`], [`TickInput`], [`Image::tick`], [`Answer`] |
 //! | an aircraft that has lost a rotor | [`Profile::LostRotor`] |
 //! | a path of several legs | [`Leg`], [`Route`], [`Image::route_tick`] |
+//! | loops that are flown several times | [`Pattern`], [`Pattern::expand`] |
 //! | another segment in flight, and the peaks of its jerk | [`Image::exchange`], [`Image::peak_abs_jerk`] |
 //! | ticks to keep, or a flight to look at | [`Log`], [`LogView`], [`Record`] |
 //! | a log from another box, to be checked | [`LogView::check`], [`Verdict`] |
@@ -37,7 +38,7 @@
 //! are refused in any other ([`FloatFault`]). What set-up mends of the numbers that it is given, [`SetUp::mended`] tells.
 //!
 //! Words are little-endian, floats as their bits; `include/fosavalo.h` is the same face for C. The crate has no dependency but
-//! `libfosavalo.a`, which `make core` builds, and needs no `std`, but `alloc` for a [`Log`].
+//! `libfosavalo.a`, which `make core` builds, and needs no `std`, but `alloc` for a [`Log`] and a [`Pattern`].
 
 #![no_std]
 #![warn(missing_docs)]
@@ -52,6 +53,7 @@ mod floats;
 mod image;
 mod log;
 mod mended;
+mod pattern;
 mod refusal;
 mod route;
 mod setup;
@@ -65,6 +67,7 @@ pub use floats::FloatFault;
 pub use image::Image;
 pub use log::{Log, LogView, Record, Records};
 pub use mended::Mended;
+pub use pattern::Pattern;
 pub use refusal::Refusal;
 pub use route::{Leg, Route};
 pub use setup::{AdrcGains, Gains, Governor, GyroFilter, Profile, RecoverableSet, Segment, SetUp};
@@ -95,6 +98,8 @@ pub const MOST_RECORDS: usize = 65_535;
 pub const MOST_MARGINS: usize = 65_535;
 /// What the check of a log writes where every record is right: no record stands there.
 pub const LOG_RIGHT: u32 = u32::MAX;
+/// How deep the repeats of a pattern stand inside each other at most.
+pub const DEEPEST_REPEAT: usize = 4;
 /// A log of no record: no count, nothing back, and the length of a record.
 pub const EMPTY_LOG: [u8; LOG_TRAILER_BYTES] = [0, 0, 0, 0, 0, 0, 0, 0, RECORD_BYTES as u8, 0, 0, 0];
 
@@ -111,7 +116,7 @@ macro_rules! try_from_bytes {
     };
 }
 
-try_from_bytes!(Image, SetUp, TickInput, Answer, Route, Log, Record);
+try_from_bytes!(Image, SetUp, TickInput, Answer, Route, Pattern, Log, Record);
 
 impl<'a> TryFrom<&'a [u8]> for LogView<'a> {
     type Error = Refusal;

@@ -25,7 +25,7 @@ use core::fmt;
 pub enum Refusal {
     /// 1: the image is not 396 bytes long.
     ImageLength,
-    /// 2: the input is not 204 bytes long at set-up, 68 at a tick and in a log; or what takes a log's count or the verdict on it is not 4.
+    /// 2: the input is not 204 bytes long at set-up, 68 at a tick and in a log; or what takes a log's count, the verdict on it or a route's length is not 4.
     InputLength,
     /// 3: the answer is not 40 bytes long.
     AnswerLength,
@@ -41,12 +41,14 @@ pub enum Refusal {
     /// 8: a log's length and its last three words do not go together.
     BrokenLog,
     /// 9: the buffer has under 108 bytes beyond the log, or the log has 65,535 records; or there is not a flag for each margin, or more than
-    /// 65,535 of them.
+    /// 65,535 of them; or a pattern's route does not fit its buffer.
     NoRoom,
     /// 10: the profile of a set-up, or with which a log is checked, is neither 0 nor 1.
     WrongProfile,
     /// 11: the filter of a set-up would pass the gyro through: [`GyroFilter`](crate::GyroFilter) says which do.
     PassThrough,
+    /// 12: a pattern has a tag that is neither 0 nor 1, a count that is not 1 to 9, repeats more than four deep, or a length that does not go with its items.
+    BrokenPattern,
     /// 13: the log has no record at that place.
     NoRecord,
     /// 14: what takes a record is not 108 bytes long.
@@ -81,6 +83,7 @@ impl Refusal {
             9 => Refusal::NoRoom,
             10 => Refusal::WrongProfile,
             11 => Refusal::PassThrough,
+            12 => Refusal::BrokenPattern,
             13 => Refusal::NoRecord,
             14 => Refusal::RecordLength,
             other => Refusal::Other(other),
@@ -101,6 +104,7 @@ impl Refusal {
             Refusal::NoRoom => 9,
             Refusal::WrongProfile => 10,
             Refusal::PassThrough => 11,
+            Refusal::BrokenPattern => 12,
             Refusal::NoRecord => 13,
             Refusal::RecordLength => 14,
             Refusal::Floats(_) => return None,
@@ -126,7 +130,7 @@ impl fmt::Display for Meaning {
             Refusal::ImageLength => write!(f, "the image is not {IMAGE_BYTES} bytes long"),
             Refusal::InputLength => write!(
                 f,
-                "the input is not {SETUP_BYTES} bytes long at set-up, {LEG_BYTES} at an exchange, {TICK_BYTES} at a tick and in a log, or what takes a log's count or its verdict is not 4"
+                "the input is not {SETUP_BYTES} bytes long at set-up, {LEG_BYTES} at an exchange, {TICK_BYTES} at a tick and in a log, or what takes a log's count, its verdict or a route's length is not 4"
             ),
             Refusal::AnswerLength => write!(f, "the answer is not {ANSWER_BYTES} bytes long"),
             Refusal::BrokenImage => f.write_str("the image is none that set-up, a tick or an exchange leaves"),
@@ -145,12 +149,13 @@ impl fmt::Display for Meaning {
             Refusal::NoRoom => write!(
                 f,
                 "the buffer has no room for {RECORD_BYTES} bytes more, or the log has {MOST_RECORDS} records; or there is not a flag for each \
-                 margin, or more than {MOST_MARGINS} of them"
+                 margin, or more than {MOST_MARGINS} of them; or a pattern's route does not fit its buffer"
             ),
             Refusal::WrongProfile => f.write_str("the profile is neither 0 nor 1"),
             Refusal::PassThrough => {
                 f.write_str("the gyro would not be filtered: the cut-off fc has to be above 0 and below half of the sample rate fs")
             }
+            Refusal::BrokenPattern => f.write_str("the pattern has a tag, a count, a depth or a length that none has"),
             Refusal::NoRecord => f.write_str("the log has no record at that place"),
             Refusal::RecordLength => write!(f, "the record is not {RECORD_BYTES} bytes long"),
             Refusal::Floats(fault) => fault.fmt(f),

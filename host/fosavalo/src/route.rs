@@ -72,6 +72,24 @@ impl Route {
         Ok(route)
     }
 
+    /// From a pattern's bytes: its legs in the order in which they are flown. Refused where these bytes are no [`Pattern`](crate::Pattern), where it has no
+    /// leg or more than 32, and where two do not meet; which, is not told.
+    ///
+    /// ```
+    /// use fosavalo::{Refusal, Route};
+    ///
+    /// let twice = [&[1, 2, 77, 0], &[0; 77][..]].concat();
+    /// assert_eq!(Route::expand(&twice)?.len(), 2);
+    /// assert_eq!(Route::expand(&twice[..80]), Err(Refusal::BrokenPattern));
+    /// # Ok::<(), Refusal>(())
+    /// ```
+    pub fn expand(pattern: &[u8]) -> Result<Self, Refusal> {
+        FloatFault::check()?;
+        let (mut bytes, mut written) = ([0; LONGEST], [0; 4]);
+        Refusal::check(calls::pattern_expand(pattern, &mut bytes, &mut written))?;
+        Ok(Route { bytes, len: u32::from_le_bytes(written) as usize })
+    }
+
     /// The bytes: 19 words a leg, then the count and how many bytes back the first leg starts.
     pub fn as_bytes(&self) -> &[u8] {
         self.bytes.get(..self.len).unwrap_or_default()

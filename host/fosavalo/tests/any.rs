@@ -1,6 +1,8 @@
 //! Any bytes at all: nothing panics, what is written is read back, and the typed calls are the C calls.
 
-use fosavalo::{calls, looked_back, Answer, Image, Leg, Log, LogView, Pilot, Profile, Record, Refusal, Route, SetUp, TickInput, Verdict};
+use fosavalo::{
+    calls, looked_back, Answer, Image, Leg, Log, LogView, Pattern, Pilot, Profile, Record, Refusal, Route, SetUp, TickInput, Verdict,
+};
 use fosavalo::{ANSWER_BYTES, IMAGE_BYTES, LEG_BYTES, MOST_LEGS, ROUTE_TRAILER_BYTES, SETUP_BYTES, TICK_BYTES};
 use fosavalo::{EMPTY_LOG, LOG_TRAILER_BYTES, MOST_MARGINS, MOST_RECORDS, RECORD_BYTES};
 
@@ -339,4 +341,91 @@ fn checks_of_any_record() {
         }
     }
     assert!((200..7000).contains(&right), "{right}");
+}
+
+/// A pattern of any items, four deep, and its legs as they are flown, of which the first 33 tell all.
+fn any_pattern(rng: &mut Bytes, deep: u32, legs: &[Leg]) -> (Pattern, Vec<Leg>) {
+    let (mut pattern, mut flown) = (Pattern::new(), Vec::new());
+    for _ in 0..rng.next() % 4 {
+        if deep == 0 || rng.next() & 1 == 0 {
+            let leg = legs[(rng.next() % legs.len() as u64) as usize];
+            pattern.leg(&leg);
+            flown.push(leg);
+        } else {
+            let (inner, own) = any_pattern(rng, deep - 1, legs);
+            let count = 1 + (rng.next() % 9) as u8;
+            pattern.repeat(count, &inner).expect("it is four deep at most");
+            (0..count).for_each(|_| flown.extend(&own));
+        }
+        flown.truncate(MOST_LEGS + 1);
+    }
+    (pattern, flown)
+}
+
+/// What is built is a pattern, its route that of the legs as they are flown, and the typed calls are the C call.
+#[test]
+fn patterns_of_any_items() {
+    let (mut rng, mut seen) = (Bytes(8), [0u32; 13]);
+    let rest = SetUp::falcon_quad().segment;
+    // of these three, two meet each other and themselves
+    let legs = [rest, Leg { t: 2.0, ..rest }, Leg { pf: [1.0, 0.0, 0.0], ..rest }];
+    for round in 0..40_000 {
+        let (pattern, flown) = any_pattern(&mut rng, 4, if round % 4 == 0 { &legs } else { &legs[..2] });
+        assert_eq!(Pattern::try_from(pattern.as_bytes()), Ok(pattern.clone()));
+        let (mut route, mut written) = ([0xa5; 2500], [0xa5; 4]);
+        let number = calls::pattern_expand(pattern.as_bytes(), &mut route, &mut written);
+        seen[number as usize] += 1;
+        match pattern.expand() {
+            Ok(own) => {
+                let len = own.as_bytes().len();
+                assert_eq!((number, u32::from_le_bytes(written) as usize, own.as_bytes()), (0, len, &route[..len]));
+                assert!(route[len..].iter().all(|byte| *byte == 0xa5));
+                assert_eq!(Route::new(&flown), Ok(own));
+            }
+            Err(refusal) => {
+                assert_eq!((refusal.number(), route, written), (Some(number), [0xa5; 2500], [0xa5; 4]));
+                assert_eq!(Route::new(&flown).expect_err("nor is it a route").number(), Some(number));
+            }
+        }
+    }
+    assert!([0, 5, 7].iter().all(|number| seen[*number] > 1000), "{seen:?}");
+}
+
+/// Bytes of any length and content are a pattern exactly where the C call does not say 12, whatever it says of the route.
+#[test]
+fn patterns_of_any_bytes() {
+    let (mut rng, mut seen) = (Bytes(9), [0u32; 2]);
+    for _ in 0..200_000 {
+        let bytes: Vec<u8> = (0..rng.next() % 12).map(|_| [0, 1, 1, 2, 4, 8, 0, 9, 10][(rng.next() % 9) as usize]).collect();
+        let number = calls::pattern_expand(&bytes, &mut [0; 2500], &mut [0; 4]);
+        let made = Pattern::from_bytes(&bytes);
+        assert_eq!(made.clone().err(), (number == 12).then_some(Refusal::BrokenPattern));
+        assert_eq!(made.is_ok_and(|own| own.into_bytes() == bytes), number != 12);
+        seen[usize::from(number == 12)] += 1;
+    }
+    assert!(seen.iter().all(|count| *count > 1000), "{seen:?}");
+}
+
+/// What a repeat does not take leaves the pattern as it was; 65,535 bytes are the most that it holds.
+#[test]
+fn repeats_at_their_edges() {
+    let leg = SetUp::falcon_quad().segment;
+    let mut most = Pattern::new();
+    for _ in 0..851 {
+        most.leg(&leg);
+    }
+    assert_eq!(most.as_bytes().len(), 65_527);
+    most.repeat(1, &Pattern::new()).and_then(|most| most.repeat(1, &Pattern::new())).expect("it is a pattern");
+    assert_eq!(most.as_bytes().len(), 65_535);
+    let mut pattern = Pattern::new();
+    pattern.leg(&leg);
+    let before = pattern.clone();
+    assert!(Pattern::new().repeat(9, &most).is_ok());
+    for count in [0, 10, 0x31, 255] {
+        assert_eq!(pattern.repeat(count, &Pattern::new()), Err(Refusal::BrokenPattern));
+    }
+    most.leg(&leg);
+    assert_eq!(pattern.repeat(1, &most), Err(Refusal::BrokenPattern));
+    assert!(pattern == before && !pattern.is_empty() && Pattern::default().is_empty());
+    let _ = format!("{pattern:?}");
 }

@@ -1,7 +1,7 @@
 //! The C header, by programs that are compiled and run: what it says is what the crate, the core and its definitions say.
 
 use fosavalo::{
-    Refusal, ANSWER_BYTES, EMPTY_LOG, IMAGE_BYTES, LEG_BYTES, LOG_RIGHT, LOG_TRAILER_BYTES, MOST_LEGS, MOST_MARGINS, MOST_RECORDS,
+    Refusal, ANSWER_BYTES, DEEPEST_REPEAT, EMPTY_LOG, IMAGE_BYTES, LEG_BYTES, LOG_RIGHT, LOG_TRAILER_BYTES, MOST_LEGS, MOST_MARGINS, MOST_RECORDS,
 };
 use fosavalo::{RECORD_BYTES, ROUTE_TRAILER_BYTES, SETUP_BYTES, TICK_BYTES};
 use std::collections::BTreeSet;
@@ -114,7 +114,7 @@ fn nothing_at_all() {
     let (work, program) = (Work::new("nothing"), crate_folder().join("tests/c/nothing.c"));
     for (compiler, language) in compilers() {
         let said = work.run(compiler, &include(), &program, &[language, &["-O2"]].concat(), &[]);
-        assert_eq!(said, "1 1 2 1 2 1 1 2 3 1 1 6 2 8 3 2 8 14 8 2 8 2 0 9 9 unchanged\n", "{compiler}");
+        assert_eq!(said, "1 1 2 1 2 1 1 2 3 1 1 6 2 8 3 2 8 14 8 2 8 2 0 9 9 2 5 9 unchanged\n", "{compiler}");
     }
 }
 
@@ -148,6 +148,7 @@ fn lengths_numbers_and_words() {
         ("MOST_RECORDS", MOST_RECORDS),
         ("MOST_MARGINS", MOST_MARGINS),
         ("LOG_RIGHT", LOG_RIGHT as usize),
+        ("DEEPEST_REPEAT", DEEPEST_REPEAT),
     ];
     let refusals = [
         ("WRONG_IMAGE_LENGTH", Refusal::ImageLength),
@@ -161,6 +162,7 @@ fn lengths_numbers_and_words() {
         ("NO_ROOM", Refusal::NoRoom),
         ("WRONG_PROFILE", Refusal::WrongProfile),
         ("PASS_THROUGH", Refusal::PassThrough),
+        ("BROKEN_PATTERN", Refusal::BrokenPattern),
         ("NO_RECORD", Refusal::NoRecord),
         ("WRONG_RECORD_LENGTH", Refusal::RecordLength),
     ];

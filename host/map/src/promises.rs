@@ -28,9 +28,10 @@ const EXCEPTIONS: [(&str, &str, &str); 7] = [
 ];
 
 /// By hand: the crates whose public functions may ask something of their caller, and why.
-const ASKING: [(&str, &str); 3] = [
+const ASKING: [(&str, &str); 4] = [
     ("words", "A word is read or written within lengths that the caller tested once: a test for each word would be paid at every tick."),
     ("image", "The same, part by part: `calls` and `route` test the lengths, then read and write."),
+    ("route", "`legs_meet` compares two legs that lie within lengths which `route` and `pattern` have tested: a route tick compares up to 31 joins."),
     ("calls", "`begin` and `leave` are the parts of a tick that a route tick shares: both calls test what they are refused for first."),
 ];
 

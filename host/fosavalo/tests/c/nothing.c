@@ -9,6 +9,7 @@ int main(void) {
     uint8_t log[FOSAVALO_LOG_TRAILER_BYTES + FOSAVALO_RECORD_BYTES] = FOSAVALO_EMPTY_LOG, count[4], record[FOSAVALO_RECORD_BYTES];
     const float filter[2] = {80, 1000};
     memcpy(set_up + 4 * FOSAVALO_SETUP_FC, filter, sizeof filter);
+    const uint8_t leg[1 + FOSAVALO_LEG_BYTES] = {0};
     if (fosavalo_setup(image, sizeof image, set_up, sizeof set_up) != FOSAVALO_DONE) return 1;
     uint8_t before[FOSAVALO_IMAGE_BYTES];
     memcpy(before, image, sizeof before);
@@ -38,6 +39,9 @@ int main(void) {
         fosavalo_flags(NULL, 0, 0.5f, 1.0f, NULL, 0),
         fosavalo_flags(NULL, 0, 0.5f, 1.0f, count, sizeof count),
         fosavalo_flags(log, sizeof log, 0.5f, 1.0f, NULL, 0),
+        fosavalo_pattern_expand(NULL, 0, NULL, 0, NULL, 0),
+        fosavalo_pattern_expand(NULL, 0, NULL, 0, count, sizeof count),
+        fosavalo_pattern_expand(leg, sizeof leg, NULL, 0, count, sizeof count),
     };
     for (size_t k = 0; k < sizeof said / sizeof said[0]; k++) printf("%u ", (unsigned)said[k]);
     puts(memcmp(before, image, sizeof before) ? "changed" : "unchanged");

@@ -39,6 +39,7 @@ all-meet-spec =
     tie.close
     (tie.spec Inv-loop μ-loop
     (λ c. (omega arith, refl))
+    (λ c. omega arith) (λ c. search needs) (λ c. search needs)
     (λ c κs. (omega arith, omega arith))
     returns
     (λ c. omega arith)

@@ -1,6 +1,5 @@
 use borrow.Author.Needs.{needs}
 use mathlib.Core.Path.{sym, _∙_}
-use native.Mathlib.Omega.{arith}
 use Rattle.image.specs.Parts.{legAt}
 use Rattle.route.specs.Form.{legsMeet}
 use Rattle.route.proofs.Walks.{first, second, third}
@@ -28,9 +27,9 @@ pub legs-meet-spec : {M : Type 1} → statement M
 legs-meet-spec =
     tie.close
     (tie.spec
-    (λ c. omega arith) (λ c. omega arith) (λ c. omega arith) (λ c. search needs) (λ c κs. (omega arith, omega arith))
-    (λ c. search needs) (λ c. search needs) (λ c κs. (omega arith, omega arith))
-    (λ c. search needs) (λ c. search needs) (λ c κs. (omega arith, omega arith))
+    (λ c. search needs) (λ c κs. search needs)
+    (λ c. search needs) (λ c. search needs) (λ c κs. search needs)
+    (λ c. search needs) (λ c. search needs) (λ c κs. search needs)
     returns
     returns-2
     returns-3)

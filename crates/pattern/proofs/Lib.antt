@@ -1,0 +1,12 @@
+pub mod Parts
+pub mod Runs
+pub mod Heads
+pub mod Trees
+pub mod Walks
+pub mod Found
+pub mod Going
+pub mod Long
+pub mod Call
+pub mod OneAnswer
+pub mod Back
+pub mod Flies

@@ -1,0 +1,198 @@
+-- `pattern::walk::expand` and `expand_item` call each other: the depth falls, and in the loop the bytes do. Assumes nothing.
+use borrow.Author.Needs.{needs}
+use mathlib.Core.Path.{_≡_, sym, _∙_}
+use Prim.Native.Nat.{ℕ, _+_, _-_, _≤_, _<_}
+use native.Mathlib.Omega.{arith}
+use lib.ListN.{length}
+use lib.Seq.{slice}
+use Rattle.route.specs.Form.{MOST-LEGS}
+use Rattle.pattern.specs.Read.{read}
+use Rattle.pattern.proofs.Going.{Going, going-few, going-start, told, came-up, item-next, leg-fits, repeat-fits, neither-done, leg-done, too-deep, body-broken, repeat-done, step-broken, step-on, step-end}
+use borrow.Fn.Kinds.{In}
+use borrow.Fn.PlainCycle.{Measures, is, falls, and}
+use Rattle.pattern.proofs.walk.expand.Reads as expand
+use Rattle.pattern.proofs.walk.expand.Kinds as expand-kinds
+use Rattle.pattern.proofs.walk.+expand+expand_item.Lts-expand as expand-lts
+use Rattle.pattern.proofs.walk.expand_item.Reads as expand-item
+use Rattle.pattern.proofs.walk.expand_item.Kinds as expand-item-kinds
+use Rattle.pattern.proofs.walk.+expand+expand_item.Lts-expand_item as expand-item-lts
+use Rattle.pattern.proofs.form.head_at.Reads as head-at-reads
+use Rattle.pattern.proofs.walk.put_place.Reads as put-place-reads
+use Rattle.pattern.proofs.walk.put_rounds.Reads as put-rounds-reads
+use Rattle.pattern.proofs.walk.+expand+expand_item.{statement}
+use Rattle.pattern.proofs.walk.+expand+expand_item.Tie.{close}
+
+abbrev μ-expand : Measures 2 expand-kinds.ps ℕ
+μ-expand κs a = a .1 .1 .1 .0 + a .1 .1 .1 .0 + 1
+
+abbrev μ-expand-item : Measures 2 expand-item-kinds.ps ℕ
+μ-expand-item κs a = a .1 .1 .1 .0 + a .1 .1 .1 .0
+
+abbrev expand-at : ℕ → In 2 expand-kinds.ps
+expand-at t = and 2 expand-kinds.ps (is 2 expand-kinds.ps μ-expand t) expand.Pre
+
+abbrev expand-below : ℕ → In 2 expand-kinds.ps
+expand-below t = and 2 expand-kinds.ps (falls 2 expand-kinds.ps _<_ μ-expand t) expand.Pre
+
+abbrev expand-item-at : ℕ → In 2 expand-item-kinds.ps
+expand-item-at t = and 2 expand-item-kinds.ps (is 2 expand-item-kinds.ps μ-expand-item t) expand-item.Pre
+
+abbrev expand-item-below : ℕ → In 2 expand-item-kinds.ps
+expand-item-below t = and 2 expand-item-kinds.ps (falls 2 expand-item-kinds.ps _<_ μ-expand-item t) expand-item.Pre
+
+abbrev expand-Inv-loop : expand-lts.InvT-loop
+expand-Inv-loop b from end depth places₀ count at₀ n₀ places at n =
+    (at ≤ end) × (length places ≡ MOST-LEGS) × Going b (read depth (slice from end b)) (read depth (slice at end b)) count places₀ n places
+
+abbrev expand-μ-loop : expand-lts.MeasureT-loop
+expand-μ-loop b from end depth places₀ count at₀ n₀ places at n = end - at
+
+pub +expand+expand-item-spec : {M : Type 1} → statement M
++expand+expand-item-spec = close μ-expand μ-expand-item
+    (λ t. expand-lts.spec (expand-item-below t, expand-item.Post) (expand-at t) expand.Post expand-Inv-loop expand-μ-loop
+    (λ c. let start = c .before .before in let pre = start .pre .1 in (pre .0, pre .2, going-start _ _ _ (start .args .places .now) (pre .3)))
+    (λ c κs.
+    let turn = c .before in
+    let inv = turn .before .loop .inv in
+    let pre = turn .before .before .before .before .pre .1 in
+    (omega arith, (turn .loop-test .taken, pre .1, inv .1, going-few (inv .2))))
+    (λ c. search needs)
+    (λ c. search needs)
+    (λ c.
+    let call = c .before .before .before .before in
+    let turn = call .before .before in
+    let start = turn .before .before .before .before in
+    let pre = start .pre .1 in
+    let a = start .args in
+    step-broken (a .b .now) (a .depth) (turn .before .loop .at) (a .end) (pre .1) (turn .before .loop .inv .2) (turn .loop-test .taken) (sym (c .enum-told .given .1) ∙ call .expand-item .ensures .counted))
+    (λ c. search needs)
+    (λ c.
+    let call = c .before .before .before .before .before in
+    let turn = call .before .before in
+    let start = turn .before .before .before .before in
+    let pre = start .pre .1 in
+    let a = start .args in
+    let next = item-next (a .b .now) (a .depth) (turn .before .loop .at) (a .end) (turn .before .loop .n) (turn .loop-test .taken) (pre .1) (sym (c .before .walked .given .1) ∙ call .expand-item .ensures .counted) in
+    omega (arith, next .0, turn .loop-test .taken))
+    (λ c.
+    let call = c .before .before .before .before .before in
+    let turn = call .before .before in
+    let inv = turn .before .loop .inv in
+    let start = turn .before .before .before .before in
+    let pre = start .pre .1 in
+    let a = start .args in
+    let walked = told (c .before .walked .given .1) (call .expand-item .ensures) in (
+      item-next (a .b .now) (a .depth) (turn .before .loop .at) (a .end) (turn .before .loop .n) (turn .loop-test .taken) (pre .1) (walked .counted) .1,
+      omega arith,
+      step-on (a .b .now) (a .depth) (turn .before .loop .at) (a .end) (pre .1) (inv .2) (turn .loop-test .taken) walked,
+    ))
+    (λ c. search needs)
+    (λ c.
+    let start = c .before .before .before .before in
+    let a = start .args in
+    step-end (a .b .now) (a .depth) (c .before .loop .at) (a .end) (start .pre .1 .1) (c .before .loop .inv .2) (c .loop-test .left)))
+    (λ t. expand-item-lts.spec
+    (head-at-reads.Asked, head-at-reads.Learnt, put-place-reads.Asked, put-place-reads.Learnt, expand-below t, expand.Post, put-rounds-reads.Asked, put-rounds-reads.Learnt)
+    (expand-item-at t) expand-item.Post
+    (λ c κs. search needs)
+    (λ c. search needs)
+    (λ c. search needs)
+    (λ c.
+    let head = c .before .before in
+    let start = head .before .before .before in
+    let pre = start .pre .1 in
+    let a = start .args in
+    let fits = leg-fits (a .b .now) (a .at) (a .end) (pre .1) (sym (c .enum-told2 .given .1) ∙ head .head-at .ensures) in
+    omega (arith, fits))
+    (λ c. search needs)
+    (λ c κs. search needs)
+    (λ c. search needs)
+    (λ c.
+    let told = c .before .before in
+    let head = told .before .before in
+    let start = head .before .before .before in
+    let pre = start .pre .1 in
+    let a = start .args in
+    too-deep (a .b .now) (a .at) (a .end) (a .depth) (a .count) (a .places .now) _ _ (pre .1) (sym (told .head .given .1) ∙ head .head-at .ensures) (c .if1 .taken))
+    (λ c.
+    let told = c .before .before in
+    let head = told .before .before in
+    let start = head .before .before .before in
+    let pre = start .pre .1 in
+    let a = start .args in
+    let fits = repeat-fits (a .b .now) (a .at) (a .end) (pre .1) (sym (told .head .given .1) ∙ head .head-at .ensures) in
+    omega (arith, fits .2))
+    (λ c.
+    let told = c .before .before in
+    let head = told .before .before in
+    let start = head .before .before .before in
+    let pre = start .pre .1 in
+    let a = start .args in
+    let fits = repeat-fits (a .b .now) (a .at) (a .end) (pre .1) (sym (told .head .given .1) ∙ head .head-at .ensures) in
+    omega (arith, fits .2))
+    (λ c.
+    let told = c .before .before in
+    let head = told .before .before in
+    let start = head .before .before .before in
+    let pre = start .pre .1 in
+    let a = start .args in
+    let fits = repeat-fits (a .b .now) (a .at) (a .end) (pre .1) (sym (told .head .given .1) ∙ head .head-at .ensures) in
+    omega (arith, fits .2))
+    (λ c. search needs)
+    (λ c κs.
+    let told = c .before .before .before in
+    let head = told .before .before in
+    let start = head .before .before .before in
+    let pre = start .pre .1 in
+    let a = start .args in
+    let fits = repeat-fits (a .b .now) (a .at) (a .end) (pre .1) (sym (told .head .given .1) ∙ head .head-at .ensures) in
+    (omega arith, (omega arith, omega (arith, fits .2), pre .2, pre .3)))
+    (λ c. search needs)
+    (λ c. search needs)
+    (λ c κs.
+    let body = c .before .before in
+    let call = body .before .before .before .before in
+    let told = call .before .before .before .before in
+    let head = told .before .before in
+    let start = head .before .before .before in
+    let pre = start .pre .1 in
+    let a = start .args in
+    let fits = repeat-fits (a .b .now) (a .at) (a .end) (pre .1) (sym (told .head .given .1) ∙ head .head-at .ensures) in
+    let up = came-up _ _ _ (pre .3) (sym (body .body .given .1) ∙ call .expand .ensures .counted) in
+    (omega arith, up .0, up .1, fits .0, fits .1))
+    (λ c.
+    let head = c .before .before in
+    let a = head .before .before .before .args in
+    neither-done (a .b .now) (a .at) (a .end) (a .depth) (a .count) (a .places .now) (sym (c .enum-told .given .1) ∙ head .head-at .ensures))
+    (λ c. search needs)
+    (λ c.
+    let put = c .before .before in
+    let told = put .before .before in
+    let head = told .before .before in
+    let start = head .before .before .before in
+    let pre = start .pre .1 in
+    let a = start .args in
+    leg-done (a .b .now) (a .at) (a .end) (a .depth) (a .count) (a .places .now) (pre .1) (sym (told .enum-told2 .given .1) ∙ head .head-at .ensures) (put .put-place .ensures))
+    (λ c. search needs)
+    (λ c.
+    let call = c .before .before .before .before in
+    let deep = call .before .before in
+    let told = deep .before .before in
+    let head = told .before .before in
+    let start = head .before .before .before in
+    let pre = start .pre .1 in
+    let a = start .args in
+    body-broken (a .b .now) (a .at) (a .end) (a .depth) (a .count) (a .places .now) _ _ (pre .1) (sym (told .head .given .1) ∙ head .head-at .ensures) (deep .if1 .left) (sym (c .enum-told3 .given .1) ∙ call .expand .ensures .counted))
+    (λ c. search needs)
+    (λ c.
+    let put = c .before .before in
+    let body = put .before .before .before in
+    let call = body .before .before .before .before in
+    let deep = call .before .before in
+    let known = deep .before .before in
+    let head = known .before .before in
+    let start = head .before .before .before in
+    let pre = start .pre .1 in
+    let a = start .args in
+    repeat-done (a .b .now) (a .at) (a .end) (a .depth) (a .count) (a .places .now) _ _ (pre .1) (sym (known .head .given .1) ∙ head .head-at .ensures) (deep .if1 .left) (pre .2) (pre .3)
+    (told (body .body .given .1) (call .expand .ensures)) (put .put-rounds .ensures)))

@@ -1,0 +1,4 @@
+pub mod Tree
+pub mod Read
+pub mod Walk
+pub mod Entry

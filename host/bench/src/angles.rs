@@ -1,7 +1,9 @@
 //! Sine and cosine beside relay's own f32 kernels.
 
+use crate::tries::{row, Bar, Taken};
 use crate::Rng;
 use compare::numbers::LIMIT;
+use compare::println;
 use std::hint::black_box;
 use std::time::Instant;
 
@@ -43,13 +45,6 @@ enum Calls {
     Chained,
 }
 
-/// Nanoseconds of one call: the median of the tries, and the least.
-#[derive(Clone, Copy)]
-struct Times {
-    median: f64,
-    least: f64,
-}
-
 fn once(f: impl Fn(f32) -> f32, headings: &[f32], calls: Calls) -> f64 {
     let start = Instant::now();
     let mut last = 0.0f32;
@@ -62,28 +57,13 @@ fn once(f: impl Fn(f32) -> f32, headings: &[f32], calls: Calls) -> f64 {
 }
 
 /// The two sides taking turns.
-fn turns(ours: impl Fn(f32) -> f32, theirs: impl Fn(f32) -> f32, headings: &[f32], calls: Calls) -> [Times; 2] {
+fn turns(ours: impl Fn(f32) -> f32, theirs: impl Fn(f32) -> f32, headings: &[f32], calls: Calls) -> [Taken; 2] {
     let (mut a, mut b) = (Vec::with_capacity(TRIES), Vec::with_capacity(TRIES));
     for _ in 0..TRIES {
         a.push(once(&ours, black_box(headings), calls));
         b.push(once(&theirs, black_box(headings), calls));
     }
-    [a, b].map(|mut times| {
-        times.sort_by(f64::total_cmp);
-        Times { median: times[TRIES / 2], least: times[0] }
-    })
-}
-
-/// Prints a row; false where a ratio is over its bar.
-fn row(name: &str, [ours, theirs]: [Times; 2], bar: Option<f64>) -> bool {
-    let ratios = [ours.median / theirs.median, ours.least / theirs.least];
-    let within = bar.is_none_or(|bar| ratios.iter().all(|&ratio| ratio <= bar));
-    let verdict = bar.map_or("no bar".into(), |bar| format!("{} the bar of {bar}", if within { "within" } else { "OVER" }));
-    println!(
-        "{name:48} ours {:6.2} / {:5.2} ns  other {:6.2} / {:5.2} ns  ratio {:5.2} / {:4.2}  ({verdict})",
-        ours.median, ours.least, theirs.median, theirs.least, ratios[0], ratios[1]
-    );
-    within
+    [a, b].map(Taken::of)
 }
 
 /// The rows; false where one is over its bar.
@@ -103,7 +83,7 @@ pub fn rows(rng: &mut Rng) -> bool {
     println!("sine and cosine, against relay's kernels: median / least");
     let mut good = true;
     for (name, headings, barred) in [("±pi", turn, true), ("±128", near, true), ("±8192", limit, true), ("a heading that turns slowly", slow, false)] {
-        let bar = |bar: f64| barred.then_some(bar);
+        let bar = |bar: f64| if barred { Bar::Both(bar) } else { Bar::None };
         let h = &headings;
         good &= row(&format!("sine, {name}"), turns(faces::sinf, |x| theirs::sinf(x), h, Calls::Apart), bar(0.6));
         good &= row(&format!("cosine, {name}"), turns(faces::cosf, |x| theirs::cosf(x), h, Calls::Apart), bar(0.6));

@@ -1,6 +1,7 @@
-//! The joint tick on bytes: ours through the C call, theirs as the Rust's own calls in document 01's order.
+//! The joint tick on bytes: ours through the C call, theirs as the Rust's own calls in document 01's order, on our sine and cosine.
 //! Their side reads the same input and writes the same answer; it looks at no length and at nothing of row 4, which is its gain.
 
+use super::tries::Taken;
 use super::{pattern, stack};
 use compare::generate::Rng;
 use compare::joint::bytes::{put, ANSWER, IMAGE, MOST_LEGS, SETUP, TICK};
@@ -16,9 +17,12 @@ use std::time::Instant;
 const TICKS: usize = 4096;
 const TRIES: usize = 201;
 
-type Image = [u8; IMAGE];
-type Input = [u8; TICK];
-type Answer = [u8; ANSWER];
+/// So few that most of them are over before the machine turns to something else: a median is then of undisturbed ones.
+const SLICE: usize = 1024;
+
+pub type Image = [u8; IMAGE];
+pub type Input = [u8; TICK];
+pub type Answer = [u8; ANSWER];
 
 /// A set-up's image and what comes in after it.
 pub struct Run {
@@ -29,12 +33,12 @@ pub struct Run {
 
 /// A slow pass with all rotors.
 pub fn pass() -> Run {
-    run(Profile::Whole, |_, _| {})
+    run(Pilot::on_a_pass(Profile::Whole, 1), TICKS, |_, _| {})
 }
 
 /// The same with a rotor lost.
 pub fn lost_rotor() -> Run {
-    run(Profile::LostRotor, |_, _| {})
+    run(Pilot::on_a_pass(Profile::LostRotor, 1), TICKS, |_, _| {})
 }
 
 /// The same with any heading up to the limit and any attitude at each tick.
@@ -43,16 +47,16 @@ pub fn headings() -> Run {
         put(input, 8, rng.range(-LIMIT, LIMIT).to_bits());
         rng.direction::<4>().iter().enumerate().for_each(|(k, x)| put(input, 3 + k, x.to_bits()));
     };
-    run(Profile::Whole, heading)
+    run(Pilot::on_a_pass(Profile::Whole, 1), TICKS, heading)
 }
 
-fn run(profile: Profile, alter: impl Fn(&mut Rng, &mut Input)) -> Run {
-    let (mut pilot, mut rng) = (Pilot::on_a_pass(profile, 1), Rng::new("bench", 1));
-    let set_up = pilot.set_up();
+/// So many ticks of this pilot's, each input altered.
+pub fn run(mut pilot: Pilot, ticks: usize, alter: impl Fn(&mut Rng, &mut Input)) -> Run {
+    let (set_up, mut rng) = (pilot.set_up(), Rng::new("bench", 1));
     let mut flight = Flight::set_up(&set_up);
     let mut start = [0; IMAGE];
     flight.write(&mut start);
-    let inputs = (0..TICKS)
+    let inputs = (0..ticks)
         .map(|_| {
             let mut input = pilot.next(&flight, &Source::Segment);
             alter(&mut rng, &mut input);
@@ -64,23 +68,45 @@ fn run(profile: Profile, alter: impl Fn(&mut Rng, &mut Input)) -> Run {
 }
 
 /// One way to tick.
-trait Side {
+pub trait Side {
     fn begin(&mut self, start: &Image);
     fn tick(&mut self, input: &Input, answer: &mut Answer);
 }
 
-/// The C call on an image's bytes.
-struct Ours(Image);
+/// A call on an image's bytes, which begin a line of the cache: no row hangs on where they happen to lie.
+#[repr(align(64))]
+pub struct OnBytes<F>(pub Image, pub F);
 
-impl Side for Ours {
+impl<F: Fn(&mut Image, &Input, &mut Answer)> Side for OnBytes<F> {
     fn begin(&mut self, start: &Image) {
         self.0 = *start;
     }
 
     fn tick(&mut self, input: &Input, answer: &mut Answer) {
-        black_box(faces::tick(&mut self.0, input, answer));
+        (self.1)(&mut self.0, input, answer);
     }
 }
+
+/// The C call.
+pub fn ours(image: &mut Image, input: &Input, answer: &mut Answer) {
+    black_box(faces::tick(image, input, answer));
+}
+
+/// Rust objects made from the image's bytes at each tick, and written back.
+macro_rules! made {
+    ($name:ident of $flight:ty) => {
+        #[inline(never)]
+        pub fn $name(image: &mut Image, input: &Input, answer: &mut Answer) {
+            let mut flight = <$flight>::from_image(image);
+            flight.tick(input, answer);
+            flight.write_but_peaks(image);
+        }
+    };
+}
+
+// on our sine and cosine, as the oracle is; and on relay's own, as it is flown
+made!(made of Flight);
+made!(published of compare_published::joint::model::Flight);
 
 /// Rust objects that stay.
 struct Kept(Option<Flight>);
@@ -99,26 +125,6 @@ impl Side for Kept {
             call(flight, input, answer);
         }
     }
-}
-
-/// Rust objects made from the image's bytes at each tick, and written back.
-struct Made(Image);
-
-impl Side for Made {
-    fn begin(&mut self, start: &Image) {
-        self.0 = *start;
-    }
-
-    fn tick(&mut self, input: &Input, answer: &mut Answer) {
-        made(&mut self.0, input, answer);
-    }
-}
-
-#[inline(never)]
-fn made(image: &mut Image, input: &Input, answer: &mut Answer) {
-    let mut flight = Flight::from_image(image);
-    flight.tick(input, answer);
-    flight.write(image);
 }
 
 /// The C call of an earlier archive, on an image of its own length: before request Seven that was 96 words, before request Six 95.
@@ -174,32 +180,41 @@ pub struct Times {
 }
 
 pub fn times(run: &Run) -> Times {
-    let mut sides: Vec<Box<dyn Side>> = vec![Box::new(Ours(run.start)), Box::new(Made(run.start)), Box::new(Kept(None))];
+    let mut sides: Vec<Box<dyn Side>> = vec![Box::new(OnBytes(run.start, ours)), Box::new(OnBytes(run.start, made)), Box::new(Kept(None))];
     #[cfg(before)]
     sides.push(Box::new(Before::new(run)));
-    let mut least = vec![f64::INFINITY; sides.len()];
-    for _ in 0..TRIES {
-        for (side, least) in sides.iter_mut().zip(&mut least) {
-            let start = Instant::now();
-            once(side.as_mut(), run);
-            *least = least.min(start.elapsed().as_nanos() as f64 / TICKS as f64);
-        }
-    }
+    let least: Vec<f64> = turns(&mut sides, run, TRIES).iter().map(|taken| taken.least).collect();
     Times { ours: least[0], made: least[1], kept: least[2], before: least.get(3).copied() }
 }
 
-fn once(side: &mut dyn Side, run: &Run) {
-    let mut answer = [0; ANSWER];
-    side.begin(&run.start);
-    for input in black_box(&run.inputs) {
+/// Nanoseconds a tick of each side, taking turns slice by slice of the run: the mean over the slices of what each took.
+pub fn turns(sides: &mut [Box<dyn Side>], run: &Run, tries: usize) -> Vec<Taken> {
+    let slices = run.inputs.chunks(SLICE);
+    let mut taken = vec![vec![Vec::with_capacity(tries); slices.len()]; sides.len()];
+    for _ in 0..tries {
+        sides.iter_mut().for_each(|side| side.begin(&run.start));
+        for (at, slice) in slices.clone().enumerate() {
+            for (side, taken) in sides.iter_mut().zip(&mut taken) {
+                taken[at].push(once(side.as_mut(), slice));
+            }
+        }
+    }
+    taken.into_iter().map(|slices| Taken::mean(slices.into_iter().map(Taken::of))).collect()
+}
+
+/// And of one side once.
+fn once(side: &mut dyn Side, inputs: &[Input]) -> f64 {
+    let (mut answer, start) = ([0; ANSWER], Instant::now());
+    for input in black_box(inputs) {
         side.tick(input, &mut answer);
         black_box(&answer);
     }
+    start.elapsed().as_nanos() as f64 / inputs.len() as f64
 }
 
 /// What is timed does the same: every answer of all three sides.
 pub fn alike(run: &Run) -> bool {
-    let (mut ours, mut made, mut kept) = (Ours(run.start), Made(run.start), Kept(None));
+    let (mut ours, mut made, mut kept) = (OnBytes(run.start, ours), OnBytes(run.start, made), Kept(None));
     kept.begin(&run.start);
     run.inputs.iter().all(|input| {
         let mut answers = [[0; ANSWER]; 3];

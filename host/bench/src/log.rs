@@ -9,6 +9,10 @@ use std::time::Instant;
 
 /// How many records the logs have.
 pub const COUNTS: [usize; 3] = [1, 1_000, MOST];
+
+/// What an append may take, ns.
+pub const BAR: f64 = 15.0;
+
 const TRIES: usize = 101;
 const CALLS: usize = 4096;
 

@@ -3,12 +3,14 @@
 
 mod angles;
 mod desk;
+mod flown;
 mod joint;
 mod log;
 mod pattern;
 mod route;
 mod slow;
 mod stack;
+mod tries;
 
 use compare::println;
 use std::hint::black_box;
@@ -68,22 +70,24 @@ fn free(name: &str, (ours, theirs): (f64, f64)) {
 }
 
 /// The longest log beside the shortest: what goes with the length would be thousands of times as much. A bar leaves room for what the longest
-/// log, seven megabytes, costs the memory.
+/// log, seven megabytes, costs the memory. An append has a bar in nanoseconds too, at each length.
 fn logs() -> bool {
     let Some(times) = log::times() else {
         println!("flight log: a call is refused");
         return false;
     };
     let mut good = true;
-    for (name, times, bar) in [("append", times.append, 1.5), ("read, a record", times.read, 3.0)] {
+    for (name, times, bar, longest) in [("append", times.append, 1.5, Some(log::BAR)), ("read, a record", times.read, 3.0, None)] {
         let [one, thousand, most] = times;
         let (ratio, [_, _, count]) = (most / one, log::COUNTS);
-        let verdict = if ratio <= bar { "within" } else { "OVER" };
+        let within = ratio <= bar && longest.is_none_or(|longest| times.iter().all(|&time| time <= longest));
+        let verdict = if within { "within" } else { "OVER" };
+        let bars = longest.map_or(format!("bar of {bar}"), |longest| format!("bars of {bar} and {longest} ns"));
         println!(
-            "{:48} 1: {one:5.2} ns  1000: {thousand:5.2} ns  {count}: {most:5.2} ns  ratio {ratio:5.2}  ({verdict} the bar of {bar})",
+            "{:48} 1: {one:5.2} ns  1000: {thousand:5.2} ns  {count}: {most:5.2} ns  ratio {ratio:5.2}  ({verdict} the {bars})",
             format!("flight log, {name}, by the records in it")
         );
-        good &= ratio <= bar;
+        good &= within;
     }
     good
 }
@@ -108,10 +112,15 @@ fn routes() -> bool {
         return false;
     };
     let mut good = true;
-    for ((legs, flown), [ours, theirs, no_joins]) in route::CASES.into_iter().zip(times) {
+    for ((legs, flown), [ours, theirs, no_joins, plain]) in route::CASES.into_iter().zip(times) {
         good &= line(&format!("route tick, leg {} of {legs}, Rust from the bytes", flown + 1), (ours, theirs), 1.0);
-        let ratio = ours / no_joins;
-        println!("{:48} ours {ours:6.2} ns  other {no_joins:6.2} ns  ratio {ratio:5.2}  (no bar)", "  .. and Rust that compares no joins");
+        free("  .. and Rust that compares no joins", (ours, no_joins));
+        let name = "  .. and a plain tick";
+        if legs == 1 {
+            good &= line(name, (ours, plain), route::BAR);
+        } else {
+            free(name, (ours, plain));
+        }
     }
     good
 }
@@ -216,7 +225,7 @@ fn all() -> bool {
         let now = pair(faces::sqrtf, |x| theirs::sqrtf(x), &positive);
         least = (least.0.min(now.0), least.1.min(now.1));
     };
-    let mut good = true;
+    let mut good = flown::rows();
     visit();
     let mut whole = f64::INFINITY;
     for (name, run) in [("slow pass", joint::pass()), ("headings", joint::headings()), (LOST, joint::lost_rotor())] {
@@ -229,7 +238,7 @@ fn all() -> bool {
         if name == LOST {
             // no sine nor cosine and fewer roots, of which our time is made
             free(&made, (times.ours, times.made));
-            good &= line("  .. and with all rotors, the quicker of both", (times.ours, whole), 1.0);
+            good &= line("  .. and with all rotors, the quicker of both", (times.ours, whole), 0.6);
         } else {
             good &= line(&made, (times.ours, times.made), 0.7);
             whole = whole.min(times.ours);

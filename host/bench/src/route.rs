@@ -12,6 +12,10 @@ use std::time::Instant;
 /// How many legs, and which of them is flown, counted from 0.
 pub const CASES: [(usize, usize); 5] = [(1, 0), (8, 0), (8, 7), (32, 0), (32, 31)];
 const TRIES: usize = 101;
+
+/// How many plain ticks a tick on the one leg of a route may take.
+pub const BAR: f64 = 1.1;
+
 /// Where the clock starts, s, and its word in an image.
 const START: f32 = 1.0;
 const TIME: usize = 16;
@@ -46,7 +50,7 @@ fn theirs(joins: bool, image: &mut Image, input: &Input, route: &Source, answer:
     }
     let mut flight = Flight::from_image(image);
     flight.tick_on(|| Fault::None, route, input, answer);
-    flight.write(image);
+    flight.write_but_peaks(image);
     0
 }
 
@@ -62,9 +66,9 @@ fn started(run: &Run) -> Image {
     start
 }
 
-/// Nanoseconds a tick for each of the cases: ours, theirs, and theirs with no join compared; the least of many short tries, all taking turns.
-/// None where the two answer differently.
-pub fn times(run: &Run) -> Option<[[f64; 3]; CASES.len()]> {
+/// Nanoseconds a tick for each of the cases: ours, theirs, theirs with no join compared, and our plain tick of the same inputs; the least of many
+/// short tries, all taking turns. None where the two answer differently.
+pub fn times(run: &Run) -> Option<[[f64; 4]; CASES.len()]> {
     let routes = CASES.map(|(legs, flown)| route(legs, flown));
     let sources = routes.clone().map(Source::Bytes);
     let start = started(run);
@@ -79,13 +83,14 @@ pub fn times(run: &Run) -> Option<[[f64; 3]; CASES.len()]> {
         }
         from.elapsed().as_nanos() as f64 / run.inputs.len() as f64
     };
-    let mut least = [[f64::INFINITY; 3]; CASES.len()];
+    let mut least = [[f64::INFINITY; 4]; CASES.len()];
     for _ in 0..TRIES {
         for (least, (route, source)) in least.iter_mut().zip(routes.iter().zip(&sources)) {
             let now = [
                 timed(&mut |image, input, answer| ours(image, input, black_box(route), answer)),
                 timed(&mut |image, input, answer| theirs(true, image, input, black_box(source), answer)),
                 timed(&mut |image, input, answer| theirs(false, image, input, black_box(source), answer)),
+                timed(&mut |image, input, answer| faces::tick(image, input, answer)),
             ];
             least.iter_mut().zip(now).for_each(|(least, now)| *least = least.min(now));
         }

@@ -131,9 +131,15 @@ impl Flight {
         }
     }
 
-    /// The image after set-up or a tick.
-    #[inline]
+    /// The image after set-up or an exchange.
     pub fn write(&self, image: &mut [u8]) {
+        self.write_but_peaks(image);
+        Put::from(image, PEAKS).floats(self.segment.peak_abs_jerk());
+    }
+
+    /// The image after a tick, which keeps the peaks as they stand.
+    #[inline]
+    pub fn write_but_peaks(&self, image: &mut [u8]) {
         let [k_r, lambda_j, psi_max, _, enter, exit] = self.shield.words();
         let mut o = Put::from(image, 0);
         o.word(WORDS as u32);
@@ -145,7 +151,6 @@ impl Flight {
         o.axes(self.rate.words());
         o.axes(self.lpf.words());
         o.word(self.profile as u32);
-        o.floats(self.segment.peak_abs_jerk());
     }
 
     /// Request Seven: another segment in flight, from its start on.

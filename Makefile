@@ -33,7 +33,8 @@
 # make help        these lines
 .PHONY: fly log explain check expand choices test table archives core exhaustive routines ticks answers bench stack dist docs map clean help
 
-CARGO = cargo
+# the archives are for x86-64, and so is what links them (tools/as-x86-64)
+CARGO = "$(CURDIR)/tools/as-x86-64" cargo
 HOST = cd host && $(CARGO)
 
 fly: core
@@ -86,7 +87,9 @@ ticks: archives
 answers: archives
 	@$(HOST) run --release --offline --quiet --bin answers
 
-bench: archives
+bench:
+	@[ "$$(uname -m)" = x86_64 ] || { echo 'make bench: this machine is no x86-64, so the archive would run under an emulator, and times there say nothing of its speed' >&2; exit 1; }
+	@tools/archives
 	@export FOSAVALO_BEFORE=$(abspath $(BEFORE)) && $(HOST) run --release --offline --quiet --bin bench
 
 stack: archives

@@ -11,6 +11,7 @@ use compare::joint::pilot::Pilot;
 use compare::joint::route::Source;
 use compare::log::{model, RECORD, TRAILER};
 use compare::numbers::LIMIT;
+use compare::share;
 use std::hint::black_box;
 use std::time::Instant;
 
@@ -272,7 +273,7 @@ fn stacks_on(run: &Run, route: &[u8]) -> Option<[usize; CALLS.len()]> {
         let (mut log, mut record) = ([0; TRAILER + RECORD], [0; RECORD]);
         // once: it takes as long as thousands of ticks, and no tick changes it
         let expanded = pattern::stack(pattern::MANY)?;
-        run.inputs.iter().take(256).try_fold([0; CALLS.len()], |most, input| {
+        run.inputs.iter().take(share::of(256) as usize).try_fold([0; CALLS.len()], |most, input| {
             let yaw = f32::from_le_bytes(input[32..36].try_into().ok()?);
             log[..TRAILER].copy_from_slice(&model::written(&[]));
             let here = [

@@ -15,6 +15,7 @@ pub mod progress;
 pub mod routine;
 pub mod runs;
 pub mod said;
+pub mod share;
 pub mod slow;
 pub mod steps;
 pub mod table;

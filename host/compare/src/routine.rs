@@ -2,16 +2,16 @@
 
 use crate::generate::{self, Edge, Kind, Part};
 use crate::words::{In, Out, Words, MOST};
-use crate::{same, threads};
+use crate::{same, share, threads};
 use std::fmt;
 use std::sync::{Mutex, PoisonError};
 
 /// The gate's rows a routine.
 pub const GATE: u64 = 1_000_000;
 
-/// The rows of this run: the gate's, or more where the environment has FOSAVALO_CASES.
+/// The rows of this run: the gate's, or their share, or more where the environment has FOSAVALO_CASES.
 pub fn cases() -> u64 {
-    std::env::var("FOSAVALO_CASES").ok().and_then(|text| text.parse().ok()).unwrap_or(0).max(GATE)
+    std::env::var("FOSAVALO_CASES").ok().and_then(|text| text.parse().ok()).unwrap_or(0).max(share::of(GATE))
 }
 
 type Side = Box<dyn Fn(&mut In, &mut Out) + Send + Sync>;

@@ -6,18 +6,20 @@ use compare::joint::fault::{Fault, WRONG_ERROR, WRONG_EXCHANGE, WRONG_ON_ROUTES,
 use compare::joint::guide::MIXED;
 use compare::joint::runs::{self, caught, Watch, GATE_ON_ROUTES};
 use compare::joint::{archive, lengths, model};
+use compare::share;
 use std::time::Instant;
 
 #[test]
 fn every_tick_on_a_route_is_the_rust_s_and_the_look_back_s() {
-    let start = Instant::now();
-    let (seen, parted) = runs::compare(&archive, GATE_ON_ROUTES, Watch::All, MIXED, |_| {});
+    let (start, ticks) = (Instant::now(), share::of(GATE_ON_ROUTES));
+    let (seen, parted) = runs::compare(&archive, ticks, Watch::All, MIXED, |_| {});
     let routes = &seen.routes;
     println!("{seen}\n{:.1} s", start.elapsed().as_secs_f32());
     if let Some(parted) = parted {
         panic!("{parted}");
     }
-    assert!(routes.accepted() >= 1_000_000 && seen.looked_back >= GATE_ON_ROUTES / 2);
+    assert!(routes.accepted() >= ticks / 2 && seen.looked_back >= ticks / 2);
+    let ([many, some], part) = ([1000, 100].map(share::least), share::one_in(20));
     // a run that never goes where the errors are shows nothing
     for (what, counts) in [
         ("counts", &routes.counts[..]),
@@ -30,42 +32,43 @@ fn every_tick_on_a_route_is_the_rust_s_and_the_look_back_s() {
         ("switches", &[routes.switches]),
         ("exchanges", &[seen.exchanged, seen.infinite_peaks]),
     ] {
-        assert!(counts.iter().all(|count| *count > 1000), "{what}: {counts:?}");
+        assert!(counts.iter().all(|count| *count > many), "{what}: {counts:?}");
     }
-    assert!(seen.refused_exchanges.iter().all(|count| *count > 100), "{:?}", seen.refused_exchanges);
-    assert!(seen.turning.as_flattened().iter().all(|count| *count > 100), "{:?}", seen.turning);
+    assert!(seen.refused_exchanges.iter().all(|count| *count > some), "{:?}", seen.refused_exchanges);
+    assert!(seen.turning.as_flattened().iter().all(|count| *count > some), "{:?}", seen.turning);
     for (passes, band) in seen.passes().into_iter().zip(seen.band) {
-        assert!(band.iter().all(|n| n * 20 >= passes), "{band:?} of {passes}");
+        assert!(band.iter().all(|n| n * part >= passes), "{band:?} of {passes}");
     }
-    assert!(seen.changes > 1000 && seen.no_axis > 100 && seen.any_heading > 1000);
+    assert!(seen.changes > many && seen.no_axis > some && seen.any_heading > many);
 }
 
 #[test]
 fn what_looks_right_but_is_wrong_is_caught() {
     let all = [WRONG_ON_ROUTES, WRONG_ERROR, WRONG_PROFILE, WRONG_EXCHANGE].concat();
-    let missed: Vec<_> = all.into_iter().filter(|fault| !caught(*fault, GATE_ON_ROUTES, Watch::All, MIXED)).collect();
-    assert!(missed.is_empty(), "not caught within {GATE_ON_ROUTES} ticks: {missed:?}");
+    let ticks = share::of(GATE_ON_ROUTES);
+    let missed: Vec<_> = all.into_iter().filter(|fault| !caught(*fault, ticks, Watch::All, MIXED)).collect();
+    assert!(missed.is_empty(), "not caught within {ticks} ticks: {missed:?}");
 }
 
 /// The look-back knows nothing of the model nor of routes, and catches what the third demand is about.
 #[test]
 fn looking_back_alone_catches_what_is_about_the_flag() {
     for fault in [Fault::ReleasedInTheBand, Fault::Constant, Fault::Untouched, Fault::ExchangeResetsShield, Fault::ExchangeReleases] {
-        assert!(caught(fault, GATE_ON_ROUTES, Watch::LookBack, MIXED), "{}", fault.name());
+        assert!(caught(fault, share::of(GATE_ON_ROUTES), Watch::LookBack, MIXED), "{}", fault.name());
     }
 }
 
 /// What the wrong ones are made from is right.
 #[test]
 fn with_no_fault_nothing_differs() {
-    assert!(!caught(Fault::None, GATE_ON_ROUTES / 10, Watch::All, MIXED));
+    assert!(!caught(Fault::None, share::of(GATE_ON_ROUTES / 10), Watch::All, MIXED));
 }
 
 #[test]
 fn every_length_of_a_route() {
     let calls = lengths::routes(&archive).unwrap_or_else(|text| panic!("{text}"));
     println!("{calls} calls");
-    assert_eq!(calls, lengths::route_calls());
+    assert!(calls >= share::of(lengths::route_calls()));
     // and the sweep can fail
     assert!(lengths::routes(&|call, lent| model::call(Fault::AnyLength, call, lent)).is_err());
 }

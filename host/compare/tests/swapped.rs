@@ -1,7 +1,7 @@
 //! Request Eleven: actual and desired exchanged, on the archive's own calls.
 
 use compare::generate::{self, Kind, Part, Rng};
-use compare::{same, threads};
+use compare::{same, share, threads};
 use faces::geo::{self, Mat3};
 use faces::Vec3;
 use std::sync::atomic::{AtomicU64, Ordering};
@@ -69,10 +69,11 @@ fn sweep(pairs: u64, error: impl Fn(Rows, Rows) -> [f32; 3] + Sync) -> [u64; 3] 
 
 #[test]
 fn the_error_is_the_negative_within_the_bound() {
-    let [failed, other, zero] = sweep(PAIRS, error);
-    println!("{PAIRS} pairs: {failed} fail; {other} components are not zero, {zero} are");
-    assert_eq!(failed, 0, "of {PAIRS} pairs");
-    assert!(other > PAIRS && zero > PAIRS / 1000, "{other} components are not zero, {zero} are");
+    let pairs = share::of(PAIRS);
+    let [failed, other, zero] = sweep(pairs, error);
+    println!("{pairs} pairs: {failed} fail; {other} components are not zero, {zero} are");
+    assert_eq!(failed, 0, "of {pairs} pairs");
+    assert!(other > pairs && zero > pairs / 1000, "{other} components are not zero, {zero} are");
 }
 
 /// Every entry at the bound or at its negative.
@@ -108,7 +109,7 @@ fn a_regrouped_error_is_not() {
 #[test]
 fn psi_is_the_same_for_all_bits() {
     let mut numbers = 0u64;
-    for number in 0..1_000_000 {
+    for number in 0..share::of(1_000_000) {
         let mut words = [0.0f32; 18];
         generate::fill(&[Part::Rotation; 2], None, "psi swapped", number, &mut words);
         let rows = |from: usize| matrix(std::array::from_fn(|i| std::array::from_fn(|j| words[from + 3 * i + j])));
@@ -116,7 +117,7 @@ fn psi_is_the_same_for_all_bits() {
         assert!(same(here, there), "pair {number}: {here} and {there}");
         numbers += u64::from(!here.is_nan());
     }
-    assert!(numbers > 200_000, "{numbers} are numbers");
+    assert!(numbers > share::of(200_000), "{numbers} are numbers");
 }
 
 /// 2⁶⁴ in two columns: both products overflow, the component that has these columns is inf - inf, and the others hold.

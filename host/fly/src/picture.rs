@@ -215,8 +215,9 @@ pub fn drawn(stem: &Path, settings: &str, script: &str) -> String {
 /// Has gnuplot draw it.
 fn draw(settings: &str, script: &str, terminal: &str) -> Result<(), String> {
     let gnuplot = Command::new("gnuplot").arg("-").stdin(Stdio::piped()).stdout(Stdio::null()).stderr(Stdio::piped()).spawn();
+    let missing = || "gnuplot is missing (Debian: apt-get install gnuplot-nox)".to_string();
     let mut gnuplot = gnuplot.map_err(|error| match error.kind() {
-        io::ErrorKind::NotFound => "gnuplot is missing (Debian: apt-get install gnuplot-nox)".to_string(),
+        io::ErrorKind::NotFound => missing(),
         _ => format!("gnuplot: {error}"),
     })?;
     let script = format!("terminal = '{terminal}'\n{settings}{script}");
@@ -225,9 +226,11 @@ fn draw(settings: &str, script: &str, terminal: &str) -> Result<(), String> {
         let _ = stdin.write_all(script.as_bytes());
     }
     let done = gnuplot.wait_with_output().map_err(|error| format!("gnuplot: {error}"))?;
-    match done.status.success() {
-        true => Ok(()),
-        false => Err(format!("gnuplot could not make the {terminal}: {}", String::from_utf8_lossy(&done.stderr).trim())),
+    match done.status.code() {
+        Some(0) => Ok(()),
+        // under an emulator a program that is missing begins, and ends so
+        Some(127) => Err(missing()),
+        _ => Err(format!("gnuplot could not make the {terminal}: {}", String::from_utf8_lossy(&done.stderr).trim())),
     }
 }
 

@@ -73,7 +73,9 @@ impl Drop for Work {
 fn compilers() -> Vec<(&'static str, &'static [&'static str])> {
     let all: [(&str, &[&str]); 4] =
         [("gcc", &["-std=c11"]), ("clang", &["-std=c11"]), ("g++", &["-std=c++17", "-xc++"]), ("clang++", &["-std=c++17", "-xc++"])];
-    all.into_iter().filter(|(name, _)| *name == "gcc" || Command::new(name).arg("--version").output().is_ok()).collect()
+    // under an emulator one that is missing begins too, and fails
+    let there = |name: &str| Command::new(name).arg("--version").output().is_ok_and(|said| said.status.success());
+    all.into_iter().filter(|(name, _)| *name == "gcc" || there(name)).collect()
 }
 
 /// Rounding by `fesetround`, subnormal numbers by what `-ffast-math` links; told in every build, and never where nothing is wrong.

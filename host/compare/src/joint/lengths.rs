@@ -8,7 +8,7 @@ use super::model::{self, Flight, Profile};
 use super::pilot::Pilot;
 use super::route::Source;
 use super::{Call, Face};
-use crate::threads;
+use crate::{share, threads};
 use std::sync::{Mutex, PoisonError};
 
 /// And of a route.
@@ -42,10 +42,11 @@ fn alike(face: Face, call: Call, lent: &mut Hands, expected: &mut Hands) -> Resu
 
 /// The calls with an image of this length, at every length of the input and, where there is one, of the answer; how many.
 fn with_image(face: Face, call: Call, image: usize, before: &Hands) -> Result<u64, String> {
-    let answers = if matches!(call, Call::SetUp | Call::Exchange) { 0 } else { LONGEST };
+    let none = matches!(call, Call::SetUp | Call::Exchange);
+    let answers = if none { 0 } else { LONGEST };
     let (mut calls, mut lent, mut expected) = (0, before.clone(), before.clone());
     for input in 0..=LONGEST {
-        for answer in 0..=answers {
+        for answer in (0..=answers).filter(|answer| none || share::has(*answer, ANSWER, image + input + answer)) {
             for hands in [&mut lent, &mut expected] {
                 (hands.image.len, hands.input.len, hands.answer.len) = (image, input, answer);
             }
@@ -71,7 +72,7 @@ pub fn setups(face: Face) -> Result<u64, String> {
     [good, none, through, both].iter().flat_map(|before| (0..=LONGEST).map(|image| with_image(face, Call::SetUp, image, before))).sum()
 }
 
-/// A tick at every three lengths, on a good image and on a broken one; how many calls.
+/// A tick at every three lengths, or their share, on a good image and on a broken one; how many calls.
 pub fn ticks(face: Face) -> Result<u64, String> {
     let good = of_a_tick();
     let mut broken = good.clone();
@@ -99,7 +100,7 @@ pub fn route_calls() -> u64 {
     COUNTS as u64 * (LONGEST_ROUTE as u64 + 1) * 2 * 16
 }
 
-/// A route tick at every length of a route of 0 to 33 legs: cut there, and with its trailer moved there. With an image that is good or broken,
+/// A route tick at every length of a route of 0 to 33 legs, or their share: cut there, and with its trailer moved there. With an image that is good or broken,
 /// and each of the others a byte short or not.
 pub fn routes(face: Face) -> Result<u64, String> {
     let (good, mut calls) = (of_a_tick(), 0);
@@ -110,7 +111,7 @@ pub fn routes(face: Face) -> Result<u64, String> {
         let mut whole = Lent::with_room(&vec![0; LEG * count], LONGEST_ROUTE - LEG * count);
         (0..count).for_each(|leg| put(whole.bytes_mut(), 19 * leg + 18, 1.0f32.to_bits()));
         trailer(whole.bytes_mut(), LEG * count);
-        for len in 0..=LONGEST_ROUTE {
+        for len in (0..=LONGEST_ROUTE).filter(|len| share::has(*len, LEG * count + TRAILER, count + len)) {
             for moved in [false, true] {
                 let mut route = whole.clone();
                 if let (Some(at), true) = (len.checked_sub(TRAILER), moved) {

@@ -11,7 +11,7 @@ use super::pilot::{self, Kind, Pilot, KINDS};
 use super::route::Source;
 use super::{demand, refusal, Call, Face};
 use crate::counts::{counts, Counts};
-use crate::threads;
+use crate::{share, threads};
 use std::fmt;
 use std::sync::{Mutex, PoisonError};
 
@@ -21,9 +21,9 @@ pub const GATE: u64 = 5_000_000;
 /// And those of runs that mix ticks on routes with plain ones: three of four are on routes.
 pub const GATE_ON_ROUTES: u64 = 2_000_000;
 
-/// The ticks of this run: the gate's, or more where the environment has FOSAVALO_TICKS.
+/// The ticks of this run: the gate's, or their share, or more where the environment has FOSAVALO_TICKS.
 pub fn ticks() -> u64 {
-    std::env::var("FOSAVALO_TICKS").ok().and_then(|text| text.parse().ok()).unwrap_or(0).max(GATE)
+    std::env::var("FOSAVALO_TICKS").ok().and_then(|text| text.parse().ok()).unwrap_or(0).max(share::of(GATE))
 }
 
 /// How many runs have at least so many accepted ticks.

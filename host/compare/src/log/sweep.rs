@@ -9,6 +9,7 @@ use crate::joint::model::Flight;
 use crate::joint::pilot::{self, Pilot};
 use crate::joint::refusal;
 use crate::joint::route::Source;
+use crate::share;
 use std::fmt;
 
 counts! {
@@ -133,7 +134,8 @@ fn put_trailer(log: &mut [u8], words: [u32; 3]) {
     }
 }
 
-/// A log of 0 to 3 records, cut at every length from 0 to 400, and with its trailer moved there, in a buffer of every length from 0 to 400.
+/// A log of 0 to 3 records, cut at every length from 0 to 400, and with its trailer moved there, in a buffer of every length from 0 to 400, or their share;
+/// of every length for the log itself.
 pub fn lengths(face: &Face) -> Result<Seen, String> {
     let (mut sides, mut rng) = (Sides::of(face), Rng::new("log lengths", 0));
     let (input, answer) = tick(&mut rng);
@@ -148,7 +150,7 @@ pub fn lengths(face: &Face) -> Result<Seen, String> {
                 }
                 buffer.len = len;
                 sides.read(&buffer)?;
-                for all in 0..=LONGEST {
+                for all in (0..=LONGEST).filter(|all| share::has(len, log.len(), len + all)) {
                     buffer.len = all;
                     sides.append(&buffer, len as u64, &input, &answer)?;
                 }
@@ -158,7 +160,8 @@ pub fn lengths(face: &Face) -> Result<Seen, String> {
     sides.seen()
 }
 
-/// Every length from 0 to 400 of the input, the answer, and what takes a count or a record; with a log that is good, full or broken.
+/// Every length from 0 to 400 of the input, the answer (or a share of the two together), and what takes a count or a record; with a log that is good,
+/// full or broken.
 pub fn other_lengths(face: &Face) -> Result<Seen, String> {
     let (mut sides, mut rng) = (Sides::of(face), Rng::new("log other lengths", 0));
     let log = log_of(&any_records(&mut rng, 2));
@@ -166,7 +169,7 @@ pub fn other_lengths(face: &Face) -> Result<Seen, String> {
     let (mut input, mut answer) = (Lent::of(&[0x11; LONGEST]), Lent::of(&[0x22; LONGEST]));
     for (buffer, log_len) in [(&good, log.len()), (&full, log.len()), (&good, log.len() - 1), (&full, full.len + 1)] {
         for n in 0..=LONGEST {
-            for a in 0..=LONGEST {
+            for a in (0..=LONGEST).filter(|a| share::has(n, TICK, n + a) || share::has(*a, ANSWER, n + a)) {
                 (input.len, answer.len) = (n, a);
                 sides.append(buffer, log_len as u64, &input, &answer)?;
             }

@@ -14,14 +14,15 @@
 #                  `make expand FILE=host/fly/scenarios/loop.txt` (docs/FLYING.md); OUT as above
 # make choices     the pass with other choices of set, filter and noise: what hangs on them
 # make test        the gate: proofs, must-fail edits, programs, the host's comparisons; its last line is `N passed, 0 failed`.
-#                  What the prover says is kept in gate/
+#                  What the prover says is kept in gate/. On an Arm machine it may end with `, M skipped` (README.md)
 # make table       roots, sines and cosines beside the hardware's and document 01's
 # make exhaustive  every f32 (some minutes)
 # make routines    every routine beside the Rust's, ROWS rows of input each: `make routines ROWS=100000000` (without it, the gate's million)
 # make ticks       the joint tick beside the Rust's calls, TICKS accepted ticks: `make ticks TICKS=100000000` (without it, the gate's five million);
 #                  then half as many, mixed with ticks on routes
 # make answers     makes the oracle's stored answers again, which the program `replay` runs (docs/ORACLE.md)
-# make bench       times, as ratios to the other side in one run; `make bench BEFORE=../old/libfosavalo.a` has an earlier archive's tick beside ours
+# make bench       times, as ratios to the other side in one run; `make bench BEFORE=../old/libfosavalo.a` has an earlier archive's tick beside ours;
+#                  on x86-64 alone
 # make stack       the stack that each C call takes, painted and looked at on the compiled archive
 # make core        proves the core and the desk above it and builds their archives, target/staticlib/libfosavalo.a and libfosavalo_desk.a; where nothing
 #                  changed, nothing is proved
@@ -93,7 +94,7 @@ bench:
 	@export FOSAVALO_BEFORE=$(abspath $(BEFORE)) && $(HOST) run --release --offline --quiet --bin bench
 
 stack: archives
-	@$(HOST) run --release --offline --quiet --bin bench stack
+	@export FOSAVALO_SHARE=1 && $(HOST) run --release --offline --quiet --bin bench stack
 
 dist: core
 	@tools/dist

@@ -313,7 +313,7 @@ pub const FLIGHTS: u64 = 96;
 /// Real ticks, each logged when it is accepted, some calls that are refused between them; then the log is read back from the start.
 pub fn flights(face: &Face) -> Result<Seen, String> {
     let mut seen = Seen::NONE;
-    for number in 0..FLIGHTS {
+    for number in 0..share::of(FLIGHTS) {
         let (mut pilot, mut rng) = (Pilot::new(number), Rng::new("logged", number));
         let set_up = pilot.set_up();
         let (mut flight, mut image) = (Flight::set_up(&set_up), [0; IMAGE]);

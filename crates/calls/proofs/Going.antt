@@ -28,7 +28,7 @@ use Rattle.image.specs.Image.{fixedAt, movingAt, stateAt, imageOf, peaksOf, pea
 use Rattle.image.specs.Inputs.{setupAt, inputAt}
 use Rattle.calls.specs.Entry.{intact, tickTable, tickRefusal}
 use Rattle.calls.specs.Ticks.{Accepted}
-use Rattle.calls.proofs.Flown.{Tests, tests}
+use Rattle.calls.proofs.Flown.{Tests, tests, bit, profile-of-word}
 use Rattle.image.specs.Fits.{Fits}
 use Rattle.image.proofs.Decoded.{image-length, count-written, engaged-written, profile-written, peaks-stand, standing, decode-encode, state-fits}
 use Rattle.image.proofs.Fitting.{new-shield-fits, governor-fits, advance-fits, segment-fits, rate-new-fits, rate-fraction-fits, rate-tick-fits, gyro-new-fits, gyro-filter-fits}
@@ -109,15 +109,6 @@ passed : (image : List ℕ) → Accepted image → Tests image
 unfolding tickRefusal
 passed image e = tests image (done-none (tickTable image INPUT-BYTES ANSWER-BYTES) refl (ap isDone e) 3)
 
--- a word that is 0 or 1
-bit : (w : ℕ) → (eqb w 0 || eqb w 1) ≡ true → w ≡ flag (eqb w 1)
-bit w e = go (eqb w 0) (eqb w 1) e refl refl
-  where
-    go : (a b : Bool) → (a || b) ≡ true → eqb w 0 ≡ a → eqb w 1 ≡ b → w ≡ flag b
-    go a true e p q = eqb-true w 1 q
-    go true false e p q = eqb-true w 0 p
-    go false false e p q = no e
-
 pub good-image : (image : List ℕ) → Accepted image → Good (stateAt image)
 good-image image e = record { holds = state-fits image .governor .0; ok = passed image e .4 }
 
@@ -129,14 +120,6 @@ count-of-image image e = eqb-true (word image COUNT) IMAGE-WORDS (passed image e
 pub flag-of-image : (image : List ℕ) → Accepted image → word image ENGAGED ≡ flag (movingAt image .engaged)
 unfolding movingAt
 flag-of-image image e = bit (word image ENGAGED) (passed image e .3)
-
-pub profile-of-word : (w : ℕ) → isProfile w ≡ true → w ≡ profileWord (profileOf w)
-unfolding isProfile
-profile-of-word w e = bit w e ∙ by (eqb w 1)
-  where
-    by : (b : Bool) → flag b ≡ profileWord (cond b LostRotor Whole)
-    by true = refl
-    by false = refl
 
 pub profile-of-image : (image : List ℕ) → Accepted image → word image PROFILE ≡ profileWord (fixedAt image .profile)
 unfolding fixedAt profileAt

@@ -3,6 +3,7 @@ mod entry; // entry.rt: set-up, tick and exchange on lent bytes, and what they r
 
 pub use entry::begin;
 pub use entry::exchange;
+pub use entry::intact;
 pub use entry::leave;
 pub use entry::setup;
 pub use entry::tick;

@@ -2,4 +2,5 @@ pub mod Decoded
 pub mod Answered
 pub mod Fitting
 pub mod AnswerFits
+pub mod Moved
 pub mod OneAnswer

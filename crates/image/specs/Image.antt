@@ -1,5 +1,4 @@
 -- The state image: what is read out of it, and what is written. Definitions only.
-use mathlib.Core.Path.{_≡_}
 use mathlib.Core.List.{List, [], _∷_, _++_}
 use Prim.Native.Nat.{ℕ, _+_, _-_}
 use mathlib.Core.Bool.{Bool, _&&_}
@@ -60,11 +59,7 @@ peaksStand b =
     let p = peaksOf b in
     eqb (word b PEAKS) (bits (p .0)) && eqb (word b (PEAKS + 1)) (bits (p .1)) && eqb (word b (PEAKS + 2)) (bits (p .2))
 
--- ---- what the writer of a tick's image asks, and the theorems in proofs/ speak of
-
--- the peaks that an image stores are this segment's
-abbrev pub HoldsPeaks : List ℕ → Segment3 → Type 0
-HoldsPeaks b segment = word b PEAKS ∷ word b (PEAKS + 1) ∷ word b (PEAKS + 2) ∷ [] ≡ wordsOf (floatsOfVec (peakAbsJerk3 segment))
+-- ---- what the theorems in proofs/ speak of
 
 -- an image read and written again: the count is put in, engaged and the profile become 1 or 0, and every float its canonical word, and the peaks are the segment's
 unfoldable pub canonicalImage : List ℕ → List ℕ

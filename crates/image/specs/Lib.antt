@@ -3,3 +3,4 @@ pub mod Parts
 pub mod Image
 pub mod Inputs
 pub mod Fits
+pub mod Inner

@@ -36,9 +36,11 @@ use words::float_at;
 use words::put_flag;
 use words::put_three;
 use words::put_vec;
-use words::vec_at;
+use words::read_float;
+use words::read_vec;
 ghost use mathlib.Core.Path.{_≡_};
 ghost use lib.ListN.{length};
+ghost use Rattle.words.specs.Inner.{Plain};
 ghost use Rattle.image.specs.Layout.{SETUP-BYTES, INPUT-BYTES, ANSWER-BYTES};
 ghost use Rattle.image.specs.Inputs.{setupAt, inputAt, answerOf};
 
@@ -48,36 +50,36 @@ pub fn setup_at(input: &[u8]) -> SetUp
     ensures { λ r. ⌜ r ≡ setupAt (now (input .entry)) ⌝ }
 {
     SetUp {
-        gains: gains_at(input, SETUP_GAINS),
-        set: set_at(input, SETUP_SET),
+        gains: gains_at(input, SETUP_GAINS, false),
+        set: set_at(input, SETUP_SET, false),
         enter: float_at(input, SETUP_ENTER),
         exit: float_at(input, SETUP_EXIT),
         err_lo: float_at(input, SETUP_BAND),
         err_hi: float_at(input, SETUP_BAND + 1),
         g_min: float_at(input, SETUP_BAND + 2),
         leg: leg_at(input, SETUP_LEG),
-        roll: adrc_gains_at(input, SETUP_ADRC),
-        pitch: adrc_gains_at(input, SETUP_ADRC + ADRC_WORDS),
-        yaw: adrc_gains_at(input, SETUP_ADRC + ADRC_WORDS + ADRC_WORDS),
+        roll: adrc_gains_at(input, SETUP_ADRC, false),
+        pitch: adrc_gains_at(input, SETUP_ADRC + ADRC_WORDS, false),
+        yaw: adrc_gains_at(input, SETUP_ADRC + ADRC_WORDS + ADRC_WORDS, false),
         fc: float_at(input, SETUP_FC),
         fs: float_at(input, SETUP_FS),
         profile: profile_at(input, SETUP_PROFILE),
     }
 }
 
-pub fn input_at(input: &[u8]) -> TickInput
-    requires { ⌜ length (now input) ≡ INPUT-BYTES ⌝ }
+pub fn input_at(input: &[u8], plain: bool) -> TickInput
+    requires { ⌜ length (now input) ≡ INPUT-BYTES ⌝ ∗ ⌜ Plain plain (now input) ⌝ }
     ensures { λ r. ⌜ r ≡ inputAt (now (input .entry)) ⌝ }
 {
     TickInput {
-        gyro: BodyRate(vec_at(input, GYRO)),
-        quat: quat_at(input, QUAT),
-        track_err: float_at(input, TRACK_ERR),
-        yaw: float_at(input, YAW),
-        yaw_rate: float_at(input, YAW_RATE),
-        dt: float_at(input, DT),
-        agile: BodyRate(vec_at(input, AGILE)),
-        fraction: vec_at(input, FRACTION),
+        gyro: BodyRate(read_vec(input, GYRO, plain)),
+        quat: quat_at(input, QUAT, plain),
+        track_err: read_float(input, TRACK_ERR, plain),
+        yaw: read_float(input, YAW, plain),
+        yaw_rate: read_float(input, YAW_RATE, plain),
+        dt: read_float(input, DT, plain),
+        agile: BodyRate(read_vec(input, AGILE, plain)),
+        fraction: read_vec(input, FRACTION, plain),
     }
 }
 

@@ -1,4 +1,5 @@
 // The parts of the images and inputs, each from word k on. What stands on three axes is read and written by one function, three times.
+// `plain` says that no word of the bytes is a NaN's pattern, which spares the reader a test of each; `false` says nothing and asks nothing.
 use super::layout::AXIS_WORDS;
 use super::layout::BIQUAD_WORDS;
 use super::layout::QUINTIC_WORDS;
@@ -24,6 +25,8 @@ use words::put_float;
 use words::put_three;
 use words::put_vec;
 use words::put_word;
+use words::read_float;
+use words::read_vec;
 use words::vec_at;
 use words::word_at;
 ghost use mathlib.Core.Path.{_≡_};
@@ -31,143 +34,145 @@ ghost use mathlib.Core.List.{_∷_, []};
 ghost use Prim.Native.Nat.{_+_, _*_, _≤_};
 ghost use lib.ListN.{length};
 ghost use Rattle.words.specs.Words.{wordsOf, Put};
+ghost use Rattle.words.specs.Inner.{Plain};
 ghost use Rattle.joint_tick.specs.Profile.{profileWord};
 ghost use Rattle.image.specs.Parts.{quatAt, gainsAt, setAt, governorAt, quinticAt, segmentAt, adrcGainsAt, axisAt, rateAt, biquadAt, lpfAt, legAt, profileAt, floatsOfGains, floatsOfSet, floatsOfGovernor, floatsOfQuintic, floatsOfSegment, floatsOfAdrcGains, floatsOfAxis, floatsOfRate, floatsOfBiquad, floatsOfLpf};
+ghost use Rattle.image.specs.Inner.{movedOfAxis, movedOfBiquad};
 
-pub fn quat_at(bytes: &[u8], k: usize) -> Quat
-    requires { ⌜ 4 * k + 16 ≤ length (now bytes) ⌝ }
+pub fn quat_at(bytes: &[u8], k: usize, plain: bool) -> Quat
+    requires { ⌜ 4 * k + 16 ≤ length (now bytes) ⌝ ∗ ⌜ Plain plain (now bytes) ⌝ }
     ensures { λ r. ⌜ r ≡ quatAt (now (bytes .entry)) k ⌝ }
 {
     Quat(
-        float_at(bytes, k),
-        float_at(bytes, k + 1),
-        float_at(bytes, k + 2),
-        float_at(bytes, k + 3),
+        read_float(bytes, k, plain),
+        read_float(bytes, k + 1, plain),
+        read_float(bytes, k + 2, plain),
+        read_float(bytes, k + 3, plain),
     )
 }
 
-pub fn gains_at(bytes: &[u8], k: usize) -> GeoGains
-    requires { ⌜ 4 * k + 36 ≤ length (now bytes) ⌝ }
+pub fn gains_at(bytes: &[u8], k: usize, plain: bool) -> GeoGains
+    requires { ⌜ 4 * k + 36 ≤ length (now bytes) ⌝ ∗ ⌜ Plain plain (now bytes) ⌝ }
     ensures { λ r. ⌜ r ≡ gainsAt (now (bytes .entry)) k ⌝ }
 {
     GeoGains {
-        k_r: vec_at(bytes, k),
-        k_omega: vec_at(bytes, k + VEC_WORDS),
-        j: vec_at(bytes, k + VEC_WORDS + VEC_WORDS),
+        k_r: read_vec(bytes, k, plain),
+        k_omega: read_vec(bytes, k + VEC_WORDS, plain),
+        j: read_vec(bytes, k + VEC_WORDS + VEC_WORDS, plain),
     }
 }
 
-pub fn set_at(bytes: &[u8], k: usize) -> RecoverableSet
-    requires { ⌜ 4 * k + 12 ≤ length (now bytes) ⌝ }
+pub fn set_at(bytes: &[u8], k: usize, plain: bool) -> RecoverableSet
+    requires { ⌜ 4 * k + 12 ≤ length (now bytes) ⌝ ∗ ⌜ Plain plain (now bytes) ⌝ }
     ensures { λ r. ⌜ r ≡ setAt (now (bytes .entry)) k ⌝ }
 {
     RecoverableSet {
-        k_r: float_at(bytes, k),
-        lambda_j: float_at(bytes, k + 1),
-        psi_max: float_at(bytes, k + 2),
+        k_r: read_float(bytes, k, plain),
+        lambda_j: read_float(bytes, k + 1, plain),
+        psi_max: read_float(bytes, k + 2, plain),
     }
 }
 
-pub fn governor_at(bytes: &[u8], k: usize) -> RefGovernor
-    requires { ⌜ 4 * k + 16 ≤ length (now bytes) ⌝ }
+pub fn governor_at(bytes: &[u8], k: usize, plain: bool) -> RefGovernor
+    requires { ⌜ 4 * k + 16 ≤ length (now bytes) ⌝ ∗ ⌜ Plain plain (now bytes) ⌝ }
     ensures { λ r. ⌜ r ≡ governorAt (now (bytes .entry)) k ⌝ }
 {
     RefGovernor {
-        s: float_at(bytes, k),
-        err_lo: float_at(bytes, k + 1),
-        err_hi: float_at(bytes, k + 2),
-        g_min: float_at(bytes, k + 3),
+        s: read_float(bytes, k, plain),
+        err_lo: read_float(bytes, k + 1, plain),
+        err_hi: read_float(bytes, k + 2, plain),
+        g_min: read_float(bytes, k + 3, plain),
     }
 }
 
-pub fn quintic_at(bytes: &[u8], k: usize) -> Quintic
-    requires { ⌜ 4 * k + 28 ≤ length (now bytes) ⌝ }
+pub fn quintic_at(bytes: &[u8], k: usize, plain: bool) -> Quintic
+    requires { ⌜ 4 * k + 28 ≤ length (now bytes) ⌝ ∗ ⌜ Plain plain (now bytes) ⌝ }
     ensures { λ r. ⌜ r ≡ quinticAt (now (bytes .entry)) k ⌝ }
 {
     Quintic {
-        c5: float_at(bytes, k),
-        c4: float_at(bytes, k + 1),
-        c3: float_at(bytes, k + 2),
-        c2: float_at(bytes, k + 3),
-        c1: float_at(bytes, k + 4),
-        c0: float_at(bytes, k + 5),
-        t_end: float_at(bytes, k + T_END),
+        c5: read_float(bytes, k, plain),
+        c4: read_float(bytes, k + 1, plain),
+        c3: read_float(bytes, k + 2, plain),
+        c2: read_float(bytes, k + 3, plain),
+        c1: read_float(bytes, k + 4, plain),
+        c0: read_float(bytes, k + 5, plain),
+        t_end: read_float(bytes, k + T_END, plain),
     }
 }
 
-pub fn segment_at(bytes: &[u8], k: usize) -> Segment3
-    requires { ⌜ 4 * k + 84 ≤ length (now bytes) ⌝ }
+pub fn segment_at(bytes: &[u8], k: usize, plain: bool) -> Segment3
+    requires { ⌜ 4 * k + 84 ≤ length (now bytes) ⌝ ∗ ⌜ Plain plain (now bytes) ⌝ }
     ensures { λ r. ⌜ r ≡ segmentAt (now (bytes .entry)) k ⌝ }
 {
     Segment3(
-        quintic_at(bytes, k),
-        quintic_at(bytes, k + QUINTIC_WORDS),
-        quintic_at(bytes, k + QUINTIC_WORDS + QUINTIC_WORDS),
+        quintic_at(bytes, k, plain),
+        quintic_at(bytes, k + QUINTIC_WORDS, plain),
+        quintic_at(bytes, k + QUINTIC_WORDS + QUINTIC_WORDS, plain),
     )
 }
 
-pub fn adrc_gains_at(bytes: &[u8], k: usize) -> AdrcGains
-    requires { ⌜ 4 * k + 16 ≤ length (now bytes) ⌝ }
+pub fn adrc_gains_at(bytes: &[u8], k: usize, plain: bool) -> AdrcGains
+    requires { ⌜ 4 * k + 16 ≤ length (now bytes) ⌝ ∗ ⌜ Plain plain (now bytes) ⌝ }
     ensures { λ r. ⌜ r ≡ adrcGainsAt (now (bytes .entry)) k ⌝ }
 {
     AdrcGains {
-        omega_o: float_at(bytes, k),
-        omega_c: float_at(bytes, k + 1),
-        b0: float_at(bytes, k + 2),
-        tau: float_at(bytes, k + 3),
+        omega_o: read_float(bytes, k, plain),
+        omega_c: read_float(bytes, k + 1, plain),
+        b0: read_float(bytes, k + 2, plain),
+        tau: read_float(bytes, k + 3, plain),
     }
 }
 
-pub fn axis_at(bytes: &[u8], k: usize) -> AdrcAxis
-    requires { ⌜ 4 * k + 36 ≤ length (now bytes) ⌝ }
+pub fn axis_at(bytes: &[u8], k: usize, plain: bool) -> AdrcAxis
+    requires { ⌜ 4 * k + 36 ≤ length (now bytes) ⌝ ∗ ⌜ Plain plain (now bytes) ⌝ }
     ensures { λ r. ⌜ r ≡ axisAt (now (bytes .entry)) k ⌝ }
 {
     AdrcAxis {
-        z1: float_at(bytes, k),
-        z2: float_at(bytes, k + 1),
-        u_prev: float_at(bytes, k + 2),
-        u_act: float_at(bytes, k + 3),
-        u_delivered_frac: float_at(bytes, k + 4),
-        g: adrc_gains_at(bytes, k + 5),
+        z1: read_float(bytes, k, plain),
+        z2: read_float(bytes, k + 1, plain),
+        u_prev: read_float(bytes, k + 2, plain),
+        u_act: read_float(bytes, k + 3, plain),
+        u_delivered_frac: read_float(bytes, k + 4, plain),
+        g: adrc_gains_at(bytes, k + 5, plain),
     }
 }
 
-pub fn rate_at(bytes: &[u8], k: usize) -> AdrcRate
-    requires { ⌜ 4 * k + 108 ≤ length (now bytes) ⌝ }
+pub fn rate_at(bytes: &[u8], k: usize, plain: bool) -> AdrcRate
+    requires { ⌜ 4 * k + 108 ≤ length (now bytes) ⌝ ∗ ⌜ Plain plain (now bytes) ⌝ }
     ensures { λ r. ⌜ r ≡ rateAt (now (bytes .entry)) k ⌝ }
 {
     AdrcRate {
-        roll: axis_at(bytes, k),
-        pitch: axis_at(bytes, k + AXIS_WORDS),
-        yaw: axis_at(bytes, k + AXIS_WORDS + AXIS_WORDS),
+        roll: axis_at(bytes, k, plain),
+        pitch: axis_at(bytes, k + AXIS_WORDS, plain),
+        yaw: axis_at(bytes, k + AXIS_WORDS + AXIS_WORDS, plain),
     }
 }
 
-pub fn biquad_at(bytes: &[u8], k: usize) -> Biquad
-    requires { ⌜ 4 * k + 36 ≤ length (now bytes) ⌝ }
+pub fn biquad_at(bytes: &[u8], k: usize, plain: bool) -> Biquad
+    requires { ⌜ 4 * k + 36 ≤ length (now bytes) ⌝ ∗ ⌜ Plain plain (now bytes) ⌝ }
     ensures { λ r. ⌜ r ≡ biquadAt (now (bytes .entry)) k ⌝ }
 {
     Biquad {
-        b0: float_at(bytes, k),
-        b1: float_at(bytes, k + 1),
-        b2: float_at(bytes, k + 2),
-        a1: float_at(bytes, k + 3),
-        a2: float_at(bytes, k + 4),
-        x1: float_at(bytes, k + 5),
-        x2: float_at(bytes, k + 6),
-        y1: float_at(bytes, k + 7),
-        y2: float_at(bytes, k + 8),
+        b0: read_float(bytes, k, plain),
+        b1: read_float(bytes, k + 1, plain),
+        b2: read_float(bytes, k + 2, plain),
+        a1: read_float(bytes, k + 3, plain),
+        a2: read_float(bytes, k + 4, plain),
+        x1: read_float(bytes, k + 5, plain),
+        x2: read_float(bytes, k + 6, plain),
+        y1: read_float(bytes, k + 7, plain),
+        y2: read_float(bytes, k + 8, plain),
     }
 }
 
-pub fn lpf_at(bytes: &[u8], k: usize) -> GyroLpf
-    requires { ⌜ 4 * k + 108 ≤ length (now bytes) ⌝ }
+pub fn lpf_at(bytes: &[u8], k: usize, plain: bool) -> GyroLpf
+    requires { ⌜ 4 * k + 108 ≤ length (now bytes) ⌝ ∗ ⌜ Plain plain (now bytes) ⌝ }
     ensures { λ r. ⌜ r ≡ lpfAt (now (bytes .entry)) k ⌝ }
 {
     GyroLpf {
-        roll: biquad_at(bytes, k),
-        pitch: biquad_at(bytes, k + BIQUAD_WORDS),
-        yaw: biquad_at(bytes, k + BIQUAD_WORDS + BIQUAD_WORDS),
+        roll: biquad_at(bytes, k, plain),
+        pitch: biquad_at(bytes, k + BIQUAD_WORDS, plain),
+        yaw: biquad_at(bytes, k + BIQUAD_WORDS + BIQUAD_WORDS, plain),
     }
 }
 
@@ -244,13 +249,21 @@ pub fn put_adrc_gains(bytes: &mut [u8], k: usize, g: AdrcGains)
     put_float(bytes, k + 3, g.tau);
 }
 
-pub fn put_axis(bytes: &mut [u8], k: usize, a: AdrcAxis)
-    requires { ⌜ 4 * k + 36 ≤ length (now bytes) ⌝ }
-    ensures { λ _. ⌜ Put (now (bytes .entry)) k (wordsOf (floatsOfAxis a)) (now (bytes .exit)) ⌝ }
+// What a tick moves of an axis: all but its gains.
+pub(crate) fn put_axis_moved(bytes: &mut [u8], k: usize, a: AdrcAxis)
+    requires { ⌜ 4 * k + 20 ≤ length (now bytes) ⌝ }
+    ensures { λ _. ⌜ Put (now (bytes .entry)) k (wordsOf (movedOfAxis a)) (now (bytes .exit)) ⌝ }
 {
     put_three(bytes, k, a.z1, a.z2, a.u_prev);
     put_float(bytes, k + 3, a.u_act);
     put_float(bytes, k + 4, a.u_delivered_frac);
+}
+
+pub fn put_axis(bytes: &mut [u8], k: usize, a: AdrcAxis)
+    requires { ⌜ 4 * k + 36 ≤ length (now bytes) ⌝ }
+    ensures { λ _. ⌜ Put (now (bytes .entry)) k (wordsOf (floatsOfAxis a)) (now (bytes .exit)) ⌝ }
+{
+    put_axis_moved(bytes, k, a);
     put_adrc_gains(bytes, k + 5, a.g);
 }
 
@@ -269,6 +282,15 @@ pub fn put_biquad(bytes: &mut [u8], k: usize, f: Biquad)
 {
     put_three(bytes, k, f.b0, f.b1, f.b2);
     put_three(bytes, k + 3, f.a1, f.a2, f.x1);
+    put_three(bytes, k + 6, f.x2, f.y1, f.y2);
+}
+
+// What a tick moves of a biquad: all but its coefficients.
+pub(crate) fn put_biquad_moved(bytes: &mut [u8], k: usize, f: Biquad)
+    requires { ⌜ 4 * k + 36 ≤ length (now bytes) ⌝ }
+    ensures { λ _. ⌜ Put (now (bytes .entry)) (k + 5) (wordsOf (movedOfBiquad f)) (now (bytes .exit)) ⌝ }
+{
+    put_float(bytes, k + 5, f.x1);
     put_three(bytes, k + 6, f.x2, f.y1, f.y2);
 }
 

@@ -1,9 +1,11 @@
--- `guide_whole` builds R and R_d once, and takes the length of g - a once; ADRC's tick is taken in two halves: that is the Rust's own calls, bit for bit. Assumes nothing.
-use mathlib.Core.Path.{_≡_, refl}
+-- `guide_whole` builds R and R_d once, and takes the length of g - a once; ADRC's tick is taken in two halves, and follows the command as it was chosen: that is the Rust's own calls, bit for bit. Assumes nothing.
+use mathlib.Core.Path.{_≡_, refl, _∙_}
+use mathlib.Core.Bool.{cond}
 use lib.Ieee.{Float}
-use Rattle.relay_math.specs.F32.{0·0, isFinite}
+use Rattle.relay_math.specs.F32.{0·0, isFinite, finiteOr}
 use Rattle.relay_math.specs.declared.Vec3.{Vec3}
 use Rattle.relay_math.specs.declared.BodyRate.{BodyRate}
+use Rattle.relay_math.proofs.Finite.{finite-or-keeps, or-zero-finite}
 use Rattle.relay_geo.specs.declared.vectors.Mat3.{Mat3}
 use Rattle.relay_geo.specs.declared.vectors.Quat.{Quat}
 use Rattle.relay_geo.specs.declared.vectors.Direction.{Direction}
@@ -17,18 +19,22 @@ use Rattle.relay_geo.specs.Attitude.{quatToRotmat, thrustAxisNed, thrustAttitud
 use Rattle.relay_geo.specs.Inner.{thrustOf, attitudeOn, feedforwardOn}
 use Rattle.relay_geo.specs.Controller.{rateToward, desiredRate}
 use Rattle.relay_geo.specs.Set.{margin}
+use Rattle.relay_geo.specs.Shield.{step}
 use Rattle.relay_geo.proofs.Accepts.{shared-attitude, shared-feedforward}
-use Rattle.relay_geo.proofs.Finite.{sanitise3-finite, sanitise3-keeps}
+use Rattle.relay_geo.proofs.Finite.{sanitise3-finite, sanitise3-keeps, sanitised-after}
 use Rattle.joint_tick.specs.declared.profile.Profile.{Profile}
 use Rattle.joint_tick.specs.declared.profile.Profile.the-variants.{Whole, LostRotor}
 use Rattle.joint_tick.specs.declared.state.Fixed.{Fixed}
 use Rattle.joint_tick.specs.declared.state.TickInput.{TickInput}
 use Rattle.joint_tick.specs.declared.stages.Reference.{Reference}
 use Rattle.relay_adrc.specs.declared.axis.AdrcAxis.{AdrcAxis}
+use Rattle.relay_adrc.specs.declared.axis.Observed.{Observed}
 use Rattle.relay_adrc.specs.declared.rate.AdrcRate.{AdrcRate}
+use Rattle.relay_adrc.specs.Inner.{axisAct}
 use Rattle.relay_adrc.proofs.Tick.{tick-in-halves}
 use Rattle.joint_tick.specs.declared.stages.Prepared.{Prepared}
 use Rattle.joint_tick.specs.declared.stages.Guided.{Guided}
+use Rattle.joint_tick.specs.declared.stages.Observed3.{Observed3}
 use Rattle.joint_tick.specs.Tick.{cleaned, plus, rateError, rateSq, psiOf, marginOf, guideWhole, rateTowardAxis, psiToAxis, tiltRateSq, marginToAxis, guideLostRotor, picked, tickThird, follow, pick}
 use Rattle.joint_tick.specs.Inner.{observeThird, observe, actThird, followOn, pickOn}
 
@@ -91,3 +97,23 @@ follow-in-halves p r m w dt = rw (tick-in-halves (r .roll) (m .0 .0) (w .0 .0) d
 pub pick-in-halves : (f : Fixed) (p : Prepared) (g : Guided) (dt : Float) → pickOn f p (observe (f .profile) (p .moving .rate) (p .rate) dt) g ≡ pick f p g dt
 unfolding pickOn pick
 pick-in-halves f p g dt = rw (follow-in-halves (f .profile) (p .moving .rate) (p .rate) (picked f p g .command) dt)
+
+-- ---- ADRC makes its wanted rate finite itself, so it may follow the command as it was chosen
+
+act-cleans : (a : AdrcAxis) (o : Observed) (x : Float) → axisAct a o x ≡ axisAct a o (finiteOr x 0·0)
+unfolding axisAct
+act-cleans a o x = rw (finite-or-keeps (finiteOr x 0·0) 0·0 (or-zero-finite x))
+
+third-cleans : (p : Profile) (a : AdrcAxis) (o : Observed) (x : Float) → actThird p a o x ≡ actThird p a o (finiteOr x 0·0)
+third-cleans Whole a o x = act-cleans a o x
+third-cleans LostRotor a o x = refl
+
+follow-cleans : (p : Profile) (r : AdrcRate) (o : Observed3) (w : BodyRate) → followOn p r o w ≡ followOn p r o record { 0 = sanitise3 (w .0) }
+unfolding followOn
+follow-cleans p r o w = rw (act-cleans (r .roll) (o .roll) (w .0 .0), act-cleans (r .pitch) (o .pitch) (w .0 .1), third-cleans p (r .yaw) (o .yaw) (w .0 .2))
+
+pub acts-on-the-choice : (f : Fixed) (p : Prepared) (o : Observed3) (g : Guided) → followOn (f .profile) (p .moving .rate) o (cond (picked f p g .fallback) (g .fallback) (g .planner)) ≡ followOn (f .profile) (p .moving .rate) o (picked f p g .command)
+unfolding step
+acts-on-the-choice f p o g =
+    let engaged = picked f p g .fallback in
+    follow-cleans (f .profile) (p .moving .rate) o (cond engaged (g .fallback) (g .planner)) ∙ rw (sanitised-after engaged (g .planner) (g .fallback))

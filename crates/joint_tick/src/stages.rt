@@ -31,6 +31,7 @@ use relay_math::Torque;
 use relay_math::Vec3;
 use relay_traj::Segment3;
 ghost use mathlib.Core.Path.{_≡_};
+ghost use mathlib.Core.Bool.{cond};
 ghost use Rattle.joint_tick.specs.Tick.{fractionThird, fractions, prepare, sampleTime, referenceAt, cleaned, plus, commanded, rateError, rateSq, psiOf, guideWhole, rateTowardAxis, psiToAxis, tiltRateSq, guideLostRotor, guide, finish};
 ghost use Rattle.joint_tick.specs.Inner.{observeThird, observe, actThird, followOn, pickOn};
 
@@ -372,6 +373,13 @@ fn follow(profile: Profile, rate: AdrcRate, observed: Observed3, wanted: BodyRat
     }
 }
 
+// The command before its non-finite numbers are made zero. ADRC's `act` does that itself, so it is done once on the way to the torque: 7 ns (docs/SPEED.md).
+fn chosen(engaged: bool, planner: BodyRate, fallback: BodyRate) -> BodyRate
+    ensures { λ r. ⌜ r ≡ cond engaged fallback planner ⌝ }
+{
+    if engaged { fallback } else { planner }
+}
+
 // The shield picks, and ADRC follows the pick.
 fn pick(fixed: Fixed, prepared: Prepared, observed: Observed3, guided: Guided) -> Ticked
     ensures { λ r. ⌜ r ≡ pickOn fixed prepared observed guided ⌝ }
@@ -386,7 +394,12 @@ fn pick(fixed: Fixed, prepared: Prepared, observed: Observed3, guided: Guided) -
     let picked = shield.step(guided.margin, guided.planner, guided.fallback);
     let command = picked.command;
     let profile = fixed.profile;
-    let followed = follow(profile, prepared.moving.rate, observed, command);
+    let followed = follow(
+        profile,
+        prepared.moving.rate,
+        observed,
+        chosen(picked.fallback, guided.planner, guided.fallback),
+    );
     let rate = followed.rate;
     let torque = followed.torque;
     Ticked {

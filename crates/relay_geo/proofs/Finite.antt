@@ -1,5 +1,5 @@
 -- `sanitise3` and what ends in it. Assumes nothing.
-use mathlib.Core.Path.{_≡_, subst}
+use mathlib.Core.Path.{_≡_, refl, subst}
 use mathlib.Core.Bool.{Bool, true, false, cond}
 use lib.Ieee.{Float, ofBits}
 use Rattle.relay_math.specs.declared.Vec3.{Vec3}
@@ -15,6 +15,7 @@ use Rattle.relay_geo.specs.declared.attitude.Feedforward.the-variants as
 use Rattle.relay_geo.specs.declared.controller.GeoGains.{GeoGains}
 use Rattle.relay_geo.specs.Vectors.{norm, over, sanitise3, Finite3}
 use Rattle.relay_geo.specs.Attitude.{quatToRotmat, thrustForce, thrustAttitude, desiredAttitude, tooWeak, bodyRate, rateFrom, flatnessOmegaFf}
+use Rattle.relay_geo.specs.Shield.{picked}
 use Rattle.relay_geo.specs.Controller.{rateToward, desiredRate, torqueToward, tick}
 
 pub sanitise3-finite : (v : Vec3) → Finite3 (sanitise3 v)
@@ -22,6 +23,11 @@ sanitise3-finite v = record { x = or-zero-finite (v .0); y = or-zero-finite (v .
 
 pub sanitise3-keeps : (v : Vec3) → Finite3 v → sanitise3 v ≡ v
 sanitise3-keeps v h = rw (finite-or-keeps (v .0) 0·0 (h .x), finite-or-keeps (v .1) 0·0 (h .y), finite-or-keeps (v .2) 0·0 (h .z))
+
+-- the shield's pick: of either choice the numbers may be made finite after it
+pub sanitised-after : (engaged : Bool) (agile fallback : BodyRate) → _≡_ {A = BodyRate} record { 0 = sanitise3 (cond engaged fallback agile .0) } (picked engaged agile fallback)
+sanitised-after true agile fallback = refl
+sanitised-after false agile fallback = refl
 
 -- ---- `desired_rate`, `tick` and the feedforward answer finite numbers, whatever the bits
 

@@ -5,6 +5,7 @@ use latch::latch;
 use relay_math::BodyRate;
 use relay_math::finite_above;
 ghost use mathlib.Core.Path.{_≡_};
+ghost use mathlib.Core.Bool.{cond};
 ghost use Rattle.relay_geo.specs.Shield.{mendEnter, mendExit, mend, newShield, picked, step, filter};
 
 // Below `enter` the fallback takes over, above `exit` it hands back.
@@ -57,15 +58,18 @@ pub fn mend(enter: f32, exit: f32) -> Thresholds
     }
 }
 
-// The fallback while engaged, else the planner's command; non-finite numbers of either are made +0.0.
+// The fallback while engaged, else the planner's command.
+fn chosen(engaged: bool, agile: BodyRate, fallback: BodyRate) -> BodyRate
+    ensures { λ r. ⌜ r ≡ cond engaged fallback agile ⌝ }
+{
+    if engaged { fallback } else { agile }
+}
+
+// The chosen command, its non-finite numbers made +0.0: once, after the choice.
 fn pick(engaged: bool, agile: BodyRate, fallback: BodyRate) -> BodyRate
     ensures { λ r. ⌜ r ≡ picked engaged agile fallback ⌝ }
 {
-    if engaged {
-        BodyRate(sanitise3(fallback.0))
-    } else {
-        BodyRate(sanitise3(agile.0))
-    }
+    BodyRate(sanitise3(chosen(engaged, agile, fallback).0))
 }
 
 impl SimplexShield {

@@ -51,7 +51,7 @@ pub(crate) fn answer(n: u32, i: &Row, o: &mut Row) {
 }
 
 fn gains(n: u32, i: &Row, o: &mut Row) {
-    let g = adrc_gains_at(i, 0);
+    let g = adrc_gains_at(i, 0, false);
     match n {
         200 => put_adrc_gains(o, 0, AdrcGains::new(g.omega_o, g.omega_c, g.b0)),
         201 => put_adrc_gains(o, 0, AdrcGains::with_tau(g.omega_o, g.omega_c, g.b0, g.tau)),
@@ -66,10 +66,10 @@ fn gains(n: u32, i: &Row, o: &mut Row) {
 }
 
 fn axes(n: u32, i: &Row, o: &mut Row) {
-    let a = axis_at(i, 0);
+    let a = axis_at(i, 0, false);
     match n {
         205 => put_float(o, 0, relay_adrc::sanitise(a.z1, a.z2)),
-        206 => put_axis(o, 0, AdrcAxis::new(adrc_gains_at(i, 0))),
+        206 => put_axis(o, 0, AdrcAxis::new(adrc_gains_at(i, 0, false))),
         207 => put_float(o, 0, a.disturbance()),
         208 => put_axis_tick(o, a.tick(float_at(i, 9), float_at(i, 10), float_at(i, 11))),
         209 => put_axis(o, 0, a.reset()),
@@ -81,9 +81,9 @@ fn lowpasses(n: u32, i: &Row, o: &mut Row) {
     match n {
         211 => put_biquad(o, 0, Biquad::lowpass(float_at(i, 0), float_at(i, 1))),
         212 => put_biquad(o, 0, Biquad::passthrough()),
-        213 => put_filtered(o, biquad_at(i, 0).filter(float_at(i, 9))),
+        213 => put_filtered(o, biquad_at(i, 0, false).filter(float_at(i, 9))),
         214 => put_lpf(o, 0, GyroLpf::new(float_at(i, 0), float_at(i, 1))),
-        _ => put_gyro_filtered(o, lpf_at(i, 0).filter(body_rate_at(i, 27))),
+        _ => put_gyro_filtered(o, lpf_at(i, 0, false).filter(body_rate_at(i, 27))),
     }
 }
 
@@ -93,19 +93,23 @@ fn rates(n: u32, i: &Row, o: &mut Row) {
             o,
             0,
             AdrcRate::new(
-                adrc_gains_at(i, 0),
-                adrc_gains_at(i, 4),
-                adrc_gains_at(i, 8),
+                adrc_gains_at(i, 0, false),
+                adrc_gains_at(i, 4, false),
+                adrc_gains_at(i, 8, false),
             ),
         ),
         217 => put_rate(o, 0, AdrcRate::falcon_quad()),
         218 => put_rate_tick(
             o,
-            rate_at(i, 0).tick(body_rate_at(i, 27), body_rate_at(i, 30), float_at(i, 33)),
+            rate_at(i, 0, false).tick(body_rate_at(i, 27), body_rate_at(i, 30), float_at(i, 33)),
         ),
-        219 => put_rate(o, 0, rate_at(i, 0).reset()),
-        220 => put_rate(o, 0, rate_at(i, 0).set_delivered_fraction(vec_at(i, 27))),
-        _ => put_vec(o, 0, rate_at(i, 0).disturbance()),
+        219 => put_rate(o, 0, rate_at(i, 0, false).reset()),
+        220 => put_rate(
+            o,
+            0,
+            rate_at(i, 0, false).set_delivered_fraction(vec_at(i, 27)),
+        ),
+        _ => put_vec(o, 0, rate_at(i, 0, false).disturbance()),
     }
 }
 

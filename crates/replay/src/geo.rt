@@ -54,7 +54,7 @@ fn vectors(n: u32, i: &Row, o: &mut Row) {
 fn attitudes(n: u32, i: &Row, o: &mut Row) {
     let a = vec_at(i, 0);
     match n {
-        10 => put_mat(o, 0, relay_geo::quat_to_rotmat(quat_at(i, 0))),
+        10 => put_mat(o, 0, relay_geo::quat_to_rotmat(quat_at(i, 0, false))),
         11 => put_attitude(o, relay_geo::desired_attitude(a, float_at(i, 3))),
         12 => put_direction(o, relay_geo::thrust_axis_ned(a)),
         13 => put_attitude(o, relay_geo::thrust_attitude(a, float_at(i, 3))),
@@ -76,7 +76,7 @@ fn attitudes(n: u32, i: &Row, o: &mut Row) {
 }
 
 fn controls(n: u32, i: &Row, o: &mut Row) {
-    let c = GeoAtt::new(gains_at(i, 0));
+    let c = GeoAtt::new(gains_at(i, 0, false));
     match n {
         16 => put_gains(o, 0, GeoGains::falcon_quad()),
         17 => put_gains(o, 0, c.gains),
@@ -101,14 +101,14 @@ fn controls(n: u32, i: &Row, o: &mut Row) {
         23 => put_vec(
             o,
             0,
-            c.desired_rate(quat_at(i, 9), vec_at(i, 13), float_at(i, 16))
+            c.desired_rate(quat_at(i, 9, false), vec_at(i, 13), float_at(i, 16))
                 .0,
         ),
         _ => put_vec(
             o,
             0,
             c.tick(
-                    quat_at(i, 9),
+                    quat_at(i, 9, false),
                     body_rate_at(i, 13),
                     vec_at(i, 16),
                     float_at(i, 19),
@@ -119,7 +119,7 @@ fn controls(n: u32, i: &Row, o: &mut Row) {
 }
 
 fn shields(n: u32, i: &Row, o: &mut Row) {
-    let set = set_at(i, 0);
+    let set = set_at(i, 0, false);
     let s = shield_at(i);
     match n {
         25 => put_set(

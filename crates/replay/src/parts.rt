@@ -30,7 +30,7 @@ pub(crate) fn body_rate_at(i: &Row, k: usize) -> BodyRate
 
 pub(crate) fn shield_at(i: &Row) -> SimplexShield {
     SimplexShield {
-        set: set_at(i, 0),
+        set: set_at(i, 0, false),
         engaged: float_at(i, 3) != 0.0,
         enter: float_at(i, 4),
         exit: float_at(i, 5),

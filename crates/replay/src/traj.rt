@@ -32,7 +32,7 @@ pub(crate) fn answer(n: u32, i: &Row, o: &mut Row) {
 
 // A new one takes as many words as it has.
 fn quintics(n: u32, i: &Row, o: &mut Row) {
-    let q = quintic_at(i, 0);
+    let q = quintic_at(i, 0, false);
     match n {
         100 => put_float(o, 0, relay_traj::fin(q.c5, q.c4)),
         101 => put_quintic(
@@ -49,7 +49,7 @@ fn quintics(n: u32, i: &Row, o: &mut Row) {
 
 fn segments(n: u32, i: &Row, o: &mut Row) {
     let l = leg_at(i, 0);
-    let s = segment_at(i, 0);
+    let s = segment_at(i, 0, false);
     match n {
         106 => put_segment(o, 0, Segment3::new(l.p0, l.v0, l.a0, l.pf, l.vf, l.af, l.t)),
         107 => put_segment(
@@ -64,7 +64,7 @@ fn segments(n: u32, i: &Row, o: &mut Row) {
 }
 
 fn governors(n: u32, i: &Row, o: &mut Row) {
-    let g = governor_at(i, 0);
+    let g = governor_at(i, 0, false);
     match n {
         111 => put_float(o, 0, relay_traj::clamp_to(g.s, g.err_lo)),
         112 => put_float(

@@ -1,28 +1,18 @@
--- What a route tick that is not refused has. Assumes nothing.
-use mathlib.Core.Path.{_≡_, refl}
-use mathlib.Core.Bool.{true, false, cond}
-use mathlib.Core.List.{List, _++_}
+-- What a route tick is refused for, and what a route of the right form has. Assumes nothing.
+use mathlib.Core.Path.{_≡_, refl, sym, ap, _∙_}
+use mathlib.Core.Bool.{Bool, true, false, not, cond}
+use mathlib.Core.List.{List}
 use Prim.Native.Nat.{ℕ, _+_, _*_, _≤_, _<_}
 use native.Mathlib.Omega.{arith}
-use borrow.Author.Tests.{ltb-false, eqb-false}
+use borrow.Author.Tests.{ltb-false, eqb-false, not-true, not-false}
 use lib.ListN.{length}
-use Rattle.image.specs.Layout.{IMAGE-BYTES, INPUT-BYTES, ANSWER-BYTES}
-use Rattle.image.specs.Image.{fixedAt, HoldsPeaks}
+use Rattle.outcome.specs.declared.Outcome.{Outcome}
+use Rattle.outcome.specs.declared.Outcome.the-variants.{Done}
 use Rattle.outcome.specs.Outcomes.{isDone, left, lent}
 use Rattle.outcome.proofs.Tables.{done-none, in-turn, same, refused-keeps}
 use Rattle.calls.specs.Entry.{tickTable, tickRefusal, tickFrom}
-use Rattle.calls.proofs.Flown.{peaks-held}
 use Rattle.route.specs.Form.{LEG-BYTES, TRAILER-BYTES, countOf, formTable, formRefusal}
 use Rattle.route.specs.Entry.{routeRefusal, routeCall}
-
-pub record Taken (image : List ℕ) (inputLen answerLen : ℕ) (route : List ℕ) : Type 0 where
-  pub image-length : length image ≡ IMAGE-BYTES
-  pub input-length : inputLen ≡ INPUT-BYTES
-  pub answer-length : answerLen ≡ ANSWER-BYTES
-  pub peaks : HoldsPeaks image (fixedAt image .segment)
-  pub trailer : TRAILER-BYTES ≤ length route
-  pub some : 0 < countOf route
-  pub whole : LEG-BYTES * countOf route ≤ length route
 
 -- a tick's rows, then the route's own
 pub in-their-turn : (image : List ℕ) (inputLen answerLen : ℕ) (route : List ℕ)
@@ -30,23 +20,39 @@ pub in-their-turn : (image : List ℕ) (inputLen answerLen : ℕ) (route : List 
 unfolding routeRefusal tickRefusal formRefusal
 in-their-turn image inputLen answerLen route = in-turn (tickTable image inputLen answerLen) (formTable route) refl
 
-pub taken : (image : List ℕ) (inputLen answerLen : ℕ) (route : List ℕ) → isDone (routeRefusal image inputLen answerLen route) ≡ true → Taken image inputLen answerLen route
-unfolding routeRefusal
-taken image inputLen answerLen route e =
-    let t = done-none (tickTable image inputLen answerLen ++ formTable route) refl e in
-    let n = countOf route in
-    record {
-      image-length = same (length image) IMAGE-BYTES (t 0);
-      input-length = same inputLen INPUT-BYTES (t 1);
-      answer-length = same answerLen ANSWER-BYTES (t 2);
-      peaks = peaks-held image (t 3);
-      trailer = ltb-false (length route) TRAILER-BYTES (t 4);
-      some = pos n (eqb-false n 0 (t 5));
-      whole = omega (arith, same (length route) (LEG-BYTES * n + TRAILER-BYTES) (t 8));
-    }
-  where
-    pos : (n : ℕ) → (n ≡ 0 → ⊥) → 0 < n
-    pos n h = omega (arith, h)
+pub record Formed (route : List ℕ) : Type 0 where
+  pub trailer : TRAILER-BYTES ≤ length route
+  pub some : 0 < countOf route
+  pub whole : LEG-BYTES * countOf route ≤ length route
+
+-- a function was asked for the form, and said f (t is whether f is done)
+module _ (route : List ℕ) {f : Outcome} {t : Bool} (e : f ≡ formRefusal route) (d : t ≡ isDone f) where
+  pub formed : not t ≡ false → Formed route
+  unfolding formRefusal
+  formed n =
+      let r = done-none (formTable route) refl (ap isDone (sym e) ∙ sym d ∙ not-false t n) in
+      let count = countOf route in
+      record {
+        trailer = ltb-false (length route) TRAILER-BYTES (r 0);
+        some = pos count (eqb-false count 0 (r 1));
+        whole = omega (arith, same (length route) (LEG-BYTES * count + TRAILER-BYTES) (r 4));
+      }
+    where
+      pos : (n : ℕ) → (n ≡ 0 → ⊥) → 0 < n
+      pos n h = omega (arith, h)
+
+  module _ (image : List ℕ) (inputLen answerLen : ℕ) where
+    -- with no form it is refused, for this or before
+    pub formless : not t ≡ true → isDone (routeRefusal image inputLen answerLen route) ≡ false
+    formless n = ap isDone (in-their-turn image inputLen answerLen route) ∙ go (tickRefusal image inputLen answerLen) (isDone (tickRefusal image inputLen answerLen)) refl
+      where
+        go : (o : Outcome) (b : Bool) → isDone o ≡ b → isDone (cond b (formRefusal route) o) ≡ false
+        go o true h = ap isDone (sym e) ∙ sym d ∙ not-true t n
+        go o false h = h
+
+    -- where a tick is taken, the form decides
+    pub form-decides : Done ≡ tickRefusal image inputLen answerLen → f ≡ routeRefusal image inputLen answerLen route
+    form-decides h = e ∙ sym (in-their-turn image inputLen answerLen route ∙ rw (sym h))
 
 -- ---- a refused call changes no byte
 

@@ -2,10 +2,16 @@
 use super::form::form_refusal;
 use super::form::leg_count;
 use super::legs::reference_on;
+use image::ANSWER_BYTES;
+use image::IMAGE_BYTES;
+use image::IMAGE_WORDS;
+use image::INPUT_BYTES;
+use image::INPUT_WORDS;
 use image::fixed_at;
 use image::input_at;
 use outcome::Outcome;
 use outcome::is_done;
+use words::all_plain;
 ghost use mathlib.Core.Path.{_≡_};
 ghost use Rattle.outcome.specs.Outcomes.{left, lent};
 ghost use Rattle.route.specs.Entry.{routeRefusal, routeCall};
@@ -21,20 +27,40 @@ fn route_refusal(image: &[u8], input_len: usize, answer_len: usize, route: &[u8]
     form_refusal(route)
 }
 
-// The base's tick, toward the sample of the leg flown. The image's segment is kept and not looked at.
+// The base's tick, toward the sample of the leg flown; the image's segment is kept and not looked at but for row 4. A route is sampled only if it has
+// its form, so that is seen to first; where it has none, the rows before it still win.
 pub fn route_tick(image: &mut [u8], input: &[u8], route: &[u8], answer: &mut [u8]) -> Outcome
     ensures { λ r. ⌜ left r (lent (now (image .exit)) (now (answer .exit))) ≡ routeCall (now (image .entry)) (now (input .entry)) (now (route .entry)) (now (answer .entry)) ⌝ }
 {
-    let refusal = route_refusal(image, input.len(), answer.len(), route);
-    if !is_done(refusal) {
-        return refusal;
+    if !is_done(form_refusal(route)) {
+        return route_refusal(image, input.len(), answer.len(), route);
     }
-    let given = input_at(input);
-    let fixed = fixed_at(image);
+    if image.len() != IMAGE_BYTES {
+        return Outcome::ImageLength;
+    }
+    if input.len() != INPUT_BYTES {
+        return Outcome::InputLength;
+    }
+    if answer.len() != ANSWER_BYTES {
+        return Outcome::AnswerLength;
+    }
+    let plain = all_plain(image, IMAGE_WORDS);
+    let fixed = fixed_at(image, plain);
+    let given = input_at(input, all_plain(input, INPUT_WORDS));
     let profile = fixed.profile;
-    let prepared = calls::begin(image, profile, given);
+    let prepared = calls::begin(image, plain, profile, given);
     let wanted = reference_on(route, leg_count(route), prepared.time);
     let done = joint_tick::finish(fixed, prepared, wanted, given);
-    calls::leave(image, answer, fixed, prepared, done);
+    if !calls::intact(image, fixed.segment, fixed.enter, fixed.exit) {
+        return Outcome::BrokenImage;
+    }
+    calls::leave(
+        image,
+        answer,
+        plain,
+        prepared.moving.governor,
+        prepared.moving.lpf,
+        done,
+    );
     Outcome::Done
 }

@@ -41,7 +41,8 @@ use Rattle.outcome.specs.Outcomes.{number, isDone, Filled, Called}
 use Rattle.outcome.proofs.Tables.{done-none, either}
 use Rattle.calls.specs.Entry.{tickTable, exchangeRefusal, tickRefusal, exchangeCall, tickFrom}
 use Rattle.calls.specs.Ticks.{Accepted}
-use Rattle.calls.proofs.Going.{set-up-fits, count-of-image, flag-of-image, profile-of-word, profile-of-image, peaks-of-image}
+use Rattle.calls.proofs.Flown.{profile-of-word}
+use Rattle.calls.proofs.Going.{set-up-fits, count-of-image, flag-of-image, profile-of-image, peaks-of-image}
 use Rattle.calls.proofs.Steps.{image-runs, tick-clock}
 use Rattle.route.specs.Form.{formTable}
 use Rattle.route.specs.Entry.{routeRefusal}

@@ -1,3 +1,5 @@
 pub mod Back
+pub mod Plain
 pub mod Written
+pub mod Standing
 pub mod OneAnswer

@@ -10,8 +10,17 @@ four-bytes-once κs a x y v w p q = (no-second p q, refl)
 pub word-at-once : OneAnswer read.word_at.ended read.word_at.Reads.Post
 word-at-once κs a x y v w p q = (no-second p q, refl)
 
+pub all-plain-once : OneAnswer read.all_plain.ended read.all_plain.Reads.Post
+all-plain-once κs a x y v w p q = (no-second p q, refl)
+
 pub float-of-once : OneAnswer read.float_of.ended read.float_of.Reads.Post
 float-of-once κs a x y v w p q = (no-second p q, refl)
+
+pub read-float-once : OneAnswer read.read_float.ended read.read_float.Reads.Post
+read-float-once κs a x y v w p q = (no-second p q, refl)
+
+pub read-vec-once : OneAnswer read.read_vec.ended read.read_vec.Reads.Post
+read-vec-once κs a x y v w p q = (no-second p q, refl)
 
 pub float-at-once : OneAnswer read.float_at.ended read.float_at.Reads.Post
 float-at-once κs a x y v w p q = (no-second p q, refl)
@@ -36,6 +45,9 @@ put-three-once κs a x y v w p q = (refl, both (no-second (p .is) (q .is)) refl)
 
 pub put-vec-once : OneAnswer write.put_vec.ended write.put_vec.Reads.Post
 put-vec-once κs a x y v w p q = (refl, both (no-second (p .is) (q .is)) refl)
+
+pub make-canonical-once : OneAnswer write.make_canonical.ended write.make_canonical.Reads.Post
+make-canonical-once κs a x y v w p q = (refl, both (no-second p q) refl)
 
 pub put-bytes-once : OneAnswer write.put_bytes.ended write.put_bytes.Reads.Post
 put-bytes-once κs a x y v w p q = (refl, both (no-second p q) refl)

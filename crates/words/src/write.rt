@@ -1,11 +1,13 @@
 // Words, floats, vectors and plain bytes into bytes. A written run says which words it put where, and so that every other byte stays.
+use super::read::float_at;
 use relay_math::Vec3;
 ghost use mathlib.Core.Path.{_≡_};
 ghost use mathlib.Core.List.{_∷_, []};
 ghost use Prim.Native.Nat.{_+_, _*_, _≤_};
 ghost use lib.ListN.{length};
 ghost use lib.Seq.{sets};
-ghost use Rattle.words.specs.Words.{bits, flag, wordsOf, floatsOfVec, Put};
+ghost use Rattle.words.specs.Words.{bits, flag, wordsOf, floatsOfVec, bytesOf, canons, Put};
+ghost use Rattle.words.specs.Inner.{Plain};
 
 pub fn put_word(bytes: &mut [u8], k: usize, w: u32)
     requires { ⌜ 4 * k + 4 ≤ length (now bytes) ⌝ }
@@ -61,6 +63,22 @@ pub fn put_vec(bytes: &mut [u8], k: usize, v: Vec3)
     ensures { λ _. ⌜ Put (now (bytes .entry)) k (wordsOf (floatsOfVec v)) (now (bytes .exit)) ⌝ }
 {
     put_three(bytes, k, v.0, v.1, v.2);
+}
+
+// Each word as its float would be written: a NaN's pattern becomes 0x7fc0_0000. Where no word is one, all stand so already and none is written: a part of
+// the 38 ns that `all_plain` saves a tick.
+pub fn make_canonical(bytes: &mut [u8], count: usize, plain: bool)
+    requires { ⌜ length (now bytes) ≡ 4 * count ⌝ ∗ ⌜ Plain plain (now bytes) ⌝ }
+    ensures { λ _. ⌜ now (bytes .exit) ≡ bytesOf (canons (now (bytes .entry)) 0 count) ⌝ }
+{
+    if plain {
+        return;
+    }
+    let mut k = 0;
+    while k < count {
+        put_float(bytes, k, float_at(bytes, k));
+        k += 1;
+    }
 }
 
 // Bytes as they stand, from any byte on. Four at a time, all read before one is written, are one load and one store: that saves an append to a log 14 ns.

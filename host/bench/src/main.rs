@@ -170,9 +170,9 @@ fn patterns() -> bool {
     within
 }
 
-/// The stack of each call, the most over a slow pass, one with random headings and one with a rotor lost.
+/// The stack of each call, the most over a slow pass, one with random headings, one with a rotor lost and one with a NaN in its image.
 fn stacks() -> bool {
-    let runs = [joint::pass(), joint::headings(), joint::lost_rotor()];
+    let runs = [joint::pass(), joint::headings(), joint::lost_rotor(), joint::with_a_nan()];
     let Some(depths) = runs.iter().map(joint::stacks).collect::<Option<Vec<_>>>() else {
         println!("the stack is not measured on this machine");
         return false;
@@ -181,11 +181,11 @@ fn stacks() -> bool {
     let mut good = true;
     for (k, name) in joint::CALLS.iter().enumerate() {
         let bytes = most(k);
-        let within = k == joint::RUST || bytes <= stack::BAR;
+        let within = k == joint::RUST || bytes <= joint::bar(k);
         let verdict = if k == joint::RUST {
             "no bar".into()
         } else {
-            format!("{} the bar of {}", if within { "within" } else { "OVER" }, stack::BAR)
+            format!("{} the bar of {}", if within { "within" } else { "OVER" }, joint::bar(k))
         };
         println!("{name:28} {bytes:6} B  ({verdict})");
         good &= within;

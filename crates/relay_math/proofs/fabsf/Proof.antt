@@ -1,31 +1,39 @@
--- `relay_math::fabsf`: the tests against zero tell the sign. Assumes nothing.
-use mathlib.Core.Path.{_≡_, refl, sym, subst}
+-- `relay_math::fabsf`: what is not above zero is taken from zero, which drops its sign. Assumes nothing.
+use mathlib.Core.Path.{_≡_, refl, sym, _∙_, subst}
 use mathlib.Core.Bool.{true, false, cond}
-use Prim.Native.Nat.{zero, suc}
+use Prim.Native.Nat.{ℕ, zero, suc, _*_}
+use native.Mathlib.Nat.{zero-mul, one-mul, mul-one, zero-add}
 use lib.Dec.{T}
-use lib.Ieee.{Float, nan, inf, fin, binary32, fits, lt, eq, neg, ofBits}
-use Rattle.relay_math.specs.F32.{0·0, fabsf}
-use Rattle.laws.proofs.Tests.{held}
-use Rattle.relay_math.proofs.Signs.{zero-is, is-below, not-zero}
+use lib.IntN.{ℤ}
+use lib.Ieee.{Float, nan, inf, fin, binary32, fits, up, down, lt, sub, ofBits}
+use Rattle.relay_math.specs.F32.{_⊖_, 0·0, fabsf}
+use Rattle.laws.proofs.Tests.{held, no}
+use Rattle.relay_math.proofs.Signs.{zero-is, is-above}
+use Rattle.relay_math.proofs.Sums.{sum-is, round-own}
 use Rattle.relay_math.proofs.fabsf.Statement.{statement}
 use Rattle.relay_math.proofs.fabsf.Tie as tie
 
-abbrev byTests : Float → Float
-byTests x = cond (lt x 0·0) (neg x) (cond (eq x 0·0) 0·0 x)
+-- zero less what has a minus sign is the sum of zero and the size, and a size rounds to itself
+less-minus : (m : ℕ) (e : ℤ) → T (fits binary32 (fin true m e)) → 0·0 ⊖ fin true m e ≡ fin false m e
+unfolding sub ofBits fits
+less-minus m e f =
+    sum-is false (0 * down e) false (m * up e * 1) (1 * down e) (λ h. no h) (λ h. no h)
+    ∙ rw (zero-mul (down e), zero-add (m * up e * 1), mul-one (m * up e), one-mul (down e)) (round-own m e f)
 
-by-tests : (x : Float) → T (fits binary32 x) → byTests x ≡ fabsf x
-unfolding lt eq ofBits neg fabsf
-by-tests nan f = refl
-by-tests (inf true) f = refl
-by-tests (inf false) f = refl
-by-tests (fin true zero e) f = subst (λ (x : Float). byTests x ≡ fabsf x) (sym (zero-is true e f)) refl
-by-tests (fin false zero e) f = subst (λ (x : Float). byTests x ≡ fabsf x) (sym (zero-is false e f)) refl
-by-tests (fin true (suc m) e) f = rw (is-below m e true)
-by-tests (fin false (suc m) e) f = rw (is-below m e false, not-zero m e false)
+abbrev byTest : Float → Float
+byTest x = cond (lt 0·0 x) x (0·0 ⊖ x)
+
+by-test : (x : Float) → T (fits binary32 x) → byTest x ≡ fabsf x
+unfolding lt sub ofBits fabsf
+by-test nan f = refl
+by-test (inf true) f = refl
+by-test (inf false) f = refl
+by-test (fin true m e) f = less-minus m e f
+by-test (fin false zero e) f = subst (λ (x : Float). byTest x ≡ fabsf x) (sym (zero-is false e f)) refl
+by-test (fin false (suc m) e) f = rw (is-above m e false)
 
 pub fabsf-spec : {M : Type 1} → statement M
 fabsf-spec =
     tie.close
-    (tie.spec (λ c. simp (c .if1 .taken) at (by-tests (c .before .args .x) (held (c .before .good .0 .1))))
-    (λ c. simp (c .before .if1 .left, c .if2 .taken) at (by-tests (c .before .before .args .x) (held (c .before .before .good .0 .1))))
-    (λ c. simp (c .before .if1 .left, c .if2 .left) at (by-tests (c .before .before .args .x) (held (c .before .before .good .0 .1)))))
+    (tie.spec (λ c. simp (c .if1 .taken) at (by-test (c .before .args .x) (held (c .before .good .0 .1))))
+    (λ c. simp (c .if1 .left) at (by-test (c .before .args .x) (held (c .before .good .0 .1)))))

@@ -13,7 +13,7 @@ writes c =
     let h = l .before in
     let t = h .before .before in
     let i = t .before in
-    exchanged _ _ (i .before .before .before .if1 .left) (i .before .before .if2 .left) (i .intact .ensures) (t .if3 .left)
+    exchanged _ _ (i .before .before .before .if1 .left) (i .before .before .if2 .left) (i .judged .ensures) (t .if3 .left)
     (h .state-at .ensures) (l .leg-at .ensures) (u .exchange .ensures) (c .before .before .put-state .ensures)
 
 pub exchange-spec : {M : Type 1} → statement M
@@ -29,8 +29,8 @@ exchange-spec =
     (λ c κs. search needs)
     (λ c. search needs)
     (λ c. let i = c .before in simp (
-      ← i .intact .ensures,
-      not-true (i .intact .result) (c .if3 .taken),
+      ← i .judged .ensures,
+      not-true (i .judged .result) (c .if3 .taken),
       eq-eqb _ _ (i .before .before .if2 .left),
       eq-eqb _ _ (i .before .before .before .if1 .left),
     ))

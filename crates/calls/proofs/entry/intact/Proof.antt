@@ -23,7 +23,7 @@ intact-spec =
       not-true (p .is-profile .result) (c .if2 .taken),
       eq-eqb _ _ (w .before .if1 .left),
     ))
-    (λ c κs. search needs)
+    (λ c κs. let a = c .before .before .before .before .before .before .before in (a .pre .0, a .pre .1 .0))
     (λ c. let k = c .before in let p = k .before .before in let w = p .before in simp (
       ← w .word-at3 .ensures,
       ← w .before .before .before .word-at .ensures,

@@ -11,4 +11,4 @@ returns c =
 pub leave-spec : {M : Type 1} → statement M
 leave-spec =
     tie.close
-    (tie.spec (λ c κs. let p = c .before .before .before .pre in (p .0, p .2)) (λ c κs. search needs) (λ c. search needs) (λ c. search needs) returns)
+    (tie.spec (λ c κs. let p = c .before .before .before .pre in (p .0 .0, p .1)) (λ c κs. search needs) (λ c. search needs) (λ c. search needs) returns)

@@ -22,14 +22,14 @@ tick-refusal-spec =
     ))
     (λ c κs. search needs)
     (λ c. simp (
-      ← c .before .intact .ensures,
+      ← c .before .judged .ensures,
       c .if4 .taken,
       eq-eqb _ _ (c .before .before .if3 .left),
       eq-eqb _ _ (c .before .before .before .if2 .left),
       eq-eqb _ _ (c .before .before .before .before .if1 .left),
     ))
     (λ c. simp (
-      ← c .before .intact .ensures,
+      ← c .before .judged .ensures,
       c .if4 .left,
       eq-eqb _ _ (c .before .before .if3 .left),
       eq-eqb _ _ (c .before .before .before .if2 .left),

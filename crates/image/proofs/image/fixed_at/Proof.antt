@@ -11,8 +11,8 @@ fixed-at-spec =
     (λ c. simp (
       c .profile-at .ensures,
       c .before .segment-at .ensures,
-      c .before .before .float-at2 .ensures,
-      c .before .before .before .float-at .ensures,
+      c .before .before .read-float2 .ensures,
+      c .before .before .before .read-float .ensures,
       c .before .before .before .before .set-at .ensures,
       c .before .before .before .before .before .gains-at .ensures,
     )))

@@ -1,26 +1,23 @@
+-- Made canonical, the image is its own state's, and read as before. Assumes nothing.
 use borrow.Author.Needs.{needs}
-use mathlib.Core.Path.{refl}
-use Rattle.words.proofs.Written.{then, whole}
-use Rattle.image.specs.Image.{imageOf}
+use mathlib.Core.Path.{_≡_}
+use Rattle.image.proofs.Moved.{made-canonical}
 use Rattle.image.proofs.image.put_next_state.Statement.{statement}
 use Rattle.image.proofs.image.put_next_state.Tie as tie
 
+put-moved-requires : tie.Need-put-moved-requires
+put-moved-requires c κs =
+    let m = c .before .before .before in
+    let pre = m .before .before .before .pre in
+    let t = made-canonical (m .make-canonical .ensures) (pre .1 .1 .0) (pre .1 .1 .1) in
+    (t .0, t .1, t .2)
+
 returns : tie.Need-returns
-unfolding imageOf
 returns c =
-    let third = c .before .before in
-    let second = third .before .before .before .before in
-    let first = second .before .before .before .before in
-    let rest = first .before .before .before .before in
-    let z = rest .before .before in
-    let y = z .before .before in
-    let x = y .before .before in
-    let pre = x .before .before .before .pre in
-    let peaks = rw (x .word-at .ensures, y .word-at2 .ensures, z .word-at3 .ensures, pre .1) at (then (then (first .put-word .ensures) (second .put-word2 .ensures) refl) (third .put-word3 .ensures) refl) in
-    whole (then (rest .put-before-peaks .ensures) peaks refl) (pre .0)
+    let v = c .before .before in
+    let m = v .before .before .before .before in
+    let pre = m .before .before .before .pre in
+    rw (made-canonical (m .make-canonical .ensures) (pre .1 .1 .0) (pre .1 .1 .1) .3) at (v .put-moved .ensures)
 
 pub put-next-state-spec : {M : Type 1} → statement M
-put-next-state-spec =
-    tie.close
-    (tie.spec (λ c κs. search needs) (λ c. search needs) (λ c κs. search needs) (λ c. search needs) (λ c κs. search needs) (λ c κs. search needs) (λ c κs. search needs) (λ c. search needs) (λ c κs. search needs) (λ c. search needs) (λ c κs. search needs) (λ c. search needs)
-    returns)
+put-next-state-spec = tie.close (tie.spec (λ c κs. let pre = c .before .before .pre in (pre .0, pre .1 .0)) put-moved-requires (λ c. search needs) returns)

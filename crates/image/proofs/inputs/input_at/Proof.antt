@@ -10,12 +10,12 @@ input-at-spec =
     (λ c κs. search needs) (λ c κs. search needs) (λ c κs. search needs) (λ c κs. search needs) (λ c κs. search needs) (λ c κs. search needs)
     (λ c κs. search needs) (λ c κs. search needs)
     (λ c. simp (
-      c .vec-at3 .ensures,
-      c .before .vec-at2 .ensures,
-      c .before .before .float-at4 .ensures,
-      c .before .before .before .float-at3 .ensures,
-      c .before .before .before .before .float-at2 .ensures,
-      c .before .before .before .before .before .float-at .ensures,
+      c .read-vec3 .ensures,
+      c .before .read-vec2 .ensures,
+      c .before .before .read-float4 .ensures,
+      c .before .before .before .read-float3 .ensures,
+      c .before .before .before .before .read-float2 .ensures,
+      c .before .before .before .before .before .read-float .ensures,
       c .before .before .before .before .before .before .quat-at .ensures,
-      c .before .before .before .before .before .before .before .vec-at .ensures,
+      c .before .before .before .before .before .before .before .read-vec .ensures,
     )))

@@ -11,9 +11,9 @@ axis-at-spec =
     (λ c κs. search needs) (λ c. search needs) (λ c κs. search needs) (λ c. search needs) (λ c κs. search needs)
     (λ c. simp (
       c .adrc-gains-at .ensures,
-      c .before .float-at5 .ensures,
-      c .before .before .float-at4 .ensures,
-      c .before .before .before .float-at3 .ensures,
-      c .before .before .before .before .float-at2 .ensures,
-      c .before .before .before .before .before .float-at .ensures,
+      c .before .read-float5 .ensures,
+      c .before .before .read-float4 .ensures,
+      c .before .before .before .read-float3 .ensures,
+      c .before .before .before .before .read-float2 .ensures,
+      c .before .before .before .before .before .read-float .ensures,
     )))

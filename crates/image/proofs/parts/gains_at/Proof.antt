@@ -8,4 +8,4 @@ unfolding gainsAt
 gains-at-spec =
     tie.close (tie.spec
     (λ c κs. search needs) (λ c. search needs) (λ c κs. search needs) (λ c. search needs) (λ c. search needs) (λ c κs. search needs)
-    (λ c. simp (c .vec-at3 .ensures, c .before .vec-at2 .ensures, c .before .before .vec-at .ensures)))
+    (λ c. simp (c .read-vec3 .ensures, c .before .read-vec2 .ensures, c .before .before .read-vec .ensures)))

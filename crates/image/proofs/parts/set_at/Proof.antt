@@ -8,4 +8,4 @@ unfolding setAt
 set-at-spec =
     tie.close (tie.spec
     (λ c κs. search needs) (λ c. search needs) (λ c κs. search needs) (λ c. search needs) (λ c κs. search needs)
-    (λ c. simp (c .float-at3 .ensures, c .before .float-at2 .ensures, c .before .before .float-at .ensures)))
+    (λ c. simp (c .read-float3 .ensures, c .before .read-float2 .ensures, c .before .before .read-float .ensures)))

@@ -22,7 +22,7 @@
 #                  then half as many, mixed with ticks on routes
 # make answers     makes the oracle's stored answers again, which the program `replay` runs (docs/ORACLE.md)
 # make bench       times, as ratios to the other side in one run; `make bench BEFORE=../old/libfosavalo.a` has an earlier archive's tick beside ours;
-#                  on x86-64 alone
+#                  on a machine that is no x86-64 what is timed is the core compiled for that machine
 # make stack       the stack that each C call takes, painted and looked at on the compiled archive
 # make core        proves the core and the desk above it and builds their archives, target/staticlib/libfosavalo.a and libfosavalo_desk.a; where nothing
 #                  changed, nothing is proved
@@ -89,9 +89,7 @@ answers: archives
 	@$(HOST) run --release --offline --quiet --bin answers
 
 bench:
-	@[ "$$(uname -m)" = x86_64 ] || { echo 'make bench: this machine is no x86-64, so the archive would run under an emulator, and times there say nothing of its speed' >&2; exit 1; }
-	@tools/archives
-	@export FOSAVALO_BEFORE=$(abspath $(BEFORE)) && $(HOST) run --release --offline --quiet --bin bench
+	@tools/bench $(if $(BEFORE),"$(abspath $(BEFORE))")
 
 stack: archives
 	@export FOSAVALO_SHARE=1 && $(HOST) run --release --offline --quiet --bin bench stack

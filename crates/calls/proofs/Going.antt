@@ -1,21 +1,21 @@
 -- Runs exist and go on for ever: the image that set-up writes is never refused, nor the one that an accepted tick or exchange writes. Assumes nothing.
-use mathlib.Core.Path.{_≡_, refl, ap, _∙_}
-use mathlib.Core.Bool.{Bool, true, false, cond, _||_, _&&_}
+use mathlib.Core.Path.{_≡_, refl, ap}
+use mathlib.Core.Bool.{Bool, true, false, _||_, _&&_}
 use mathlib.Core.List.{List}
 use Prim.Native.Nat.{ℕ, _+_}
 use lib.Dec.{T, eqb}
-use borrow.Author.Tests.{eqb-true, not-false}
+use borrow.Author.Tests.{eqb-true}
 use lib.Ieee.{Float, binary32, fits, lt}
 use Rattle.words.specs.Words.{word, vec, bits, flag}
 use Rattle.words.proofs.Back.{float-fits}
 use Rattle.relay_math.specs.F32.{0·0, isFinite}
-use Rattle.laws.proofs.Tests.{no, both}
+use Rattle.laws.proofs.Tests.{no}
 use Rattle.relay_geo.specs.Shield.{newShield}
 use Rattle.joint_tick.specs.declared.state.State.{State}
 use Rattle.joint_tick.specs.declared.profile.Profile.{Profile}
 use Rattle.joint_tick.specs.declared.profile.Profile.the-variants.{Whole, LostRotor}
 use Rattle.joint_tick.specs.declared.stages.Reference.{Reference}
-use Rattle.joint_tick.specs.Profile.{profileWord, isProfile, profileOf}
+use Rattle.joint_tick.specs.Profile.{profileWord, isProfile}
 use Rattle.joint_tick.specs.SetUp.{setUp, segmentOf, exchange}
 use Rattle.joint_tick.specs.Tick.{ticked, prepare, pick, finish, stateAfter}
 use Rattle.joint_tick.specs.Good.{thresholdsOk, good}
@@ -24,7 +24,7 @@ use Rattle.outcome.specs.Outcomes.{isDone}
 use Rattle.outcome.proofs.Tables.{done-none}
 use Rattle.image.specs.Layout.{COUNT, ENGAGED, PROFILE, PEAKS, IMAGE-WORDS, INPUT-BYTES, ANSWER-BYTES, SETUP-ENTER}
 use Rattle.image.specs.Parts.{gainsAt, setAt, legAt, adrcGainsAt, profileAt}
-use Rattle.image.specs.Image.{fixedAt, movingAt, stateAt, imageOf, peaksOf, peaksStand}
+use Rattle.image.specs.Image.{fixedAt, movingAt, stateAt, imageOf, peaksOf}
 use Rattle.image.specs.Inputs.{setupAt, inputAt}
 use Rattle.calls.specs.Entry.{intact, tickTable, tickRefusal}
 use Rattle.calls.specs.Ticks.{Accepted}

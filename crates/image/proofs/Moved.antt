@@ -1,9 +1,9 @@
 -- An image over which only what a tick moved is written. Assumes nothing.
 use mathlib.Core.Path.{_≡_, refl, sym, ap, subst, _∙_}
 use mathlib.Core.Bool.{Bool, true, false}
-use mathlib.Core.List.{List, [], _∷_, _++_}
+use mathlib.Core.List.{List, [], _∷_}
 use Prim.Native.Nat.{ℕ, _+_, _≤_}
-use lib.Dec.{lit<, lit≤, eqb}
+use lib.Dec.{lit≤, eqb}
 use lib.ListN.{length}
 use lib.Ieee.{binary32, toBits, ofBits}
 use lib.Ieee.Bits.{ofBits-toBits}

@@ -7,7 +7,6 @@ use lib.Ieee.{Float}
 use Rattle.words.specs.Words.{word, float, floatsOfVec, bits, flag, wordsOf, bytesOf, canons}
 use Rattle.relay_math.specs.declared.Vec3.{Vec3}
 use Rattle.relay_geo.specs.declared.set.RecoverableSet.{RecoverableSet}
-use Rattle.relay_traj.specs.declared.segment.Segment3.{Segment3}
 use Rattle.relay_traj.specs.Segment.{peakAbsJerk3}
 use Rattle.joint_tick.specs.declared.state.Fixed.{Fixed}
 use Rattle.joint_tick.specs.declared.state.Moving.{Moving}

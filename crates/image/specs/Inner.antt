@@ -1,4 +1,4 @@
--- Only inner functions ask these, for speed: whoever reads what is claimed need not read them. Definitions only.
+-- Only inner functions promise or ask these, for speed: whoever reads what is claimed need not read them. Definitions only.
 use mathlib.Core.Path.{_≡_}
 use mathlib.Core.Bool.{true}
 use mathlib.Core.List.{List, [], _∷_}

@@ -1,6 +1,6 @@
 -- A plain word is read as it stands, and any other by `float_of`. Assumes nothing.
 use borrow.Author.Needs.{needs}
-use mathlib.Core.Path.{_≡_, refl, sym, subst, _∙_}
+use mathlib.Core.Path.{subst}
 use mathlib.Core.Bool.{Bool, true, not}
 use lib.Dec.{T}
 use lib.Ieee.{binary32}

@@ -35,7 +35,7 @@ use Rattle.image.specs.Image.{fixedAt, movingAt, stateAt, imageOf, peaksStand}
 use Rattle.image.specs.Inner.{overAxis, Judged, Unmoved}
 use Rattle.image.specs.Inputs.{inputAt}
 use Rattle.calls.specs.Entry.{intact, tickTable, exchangeRefusal, tickRefusal, exchangeCall, tickFrom}
-use Rattle.calls.specs.Inner.{leftMoving, Leaves}
+use Rattle.calls.specs.Inner.{ReadOf, leftMoving, Leaves}
 
 -- row 4's five tests, each by itself
 abbrev pub Tests : List ℕ → Type 0
@@ -89,6 +89,10 @@ pub takes : (image : List ℕ) (inputLen answerLen : ℕ) {b : Bool} → length 
     → Done ≡ tickRefusal image inputLen answerLen
 unfolding tickRefusal
 takes image inputLen answerLen {b} l i a e n = rw (eq-eqb (length image) IMAGE-BYTES l, eq-eqb inputLen INPUT-BYTES i, eq-eqb answerLen ANSWER-BYTES a, ← e, not-false b n)
+
+-- what row 4 asks of a fixed part that was read
+pub read-of : {f g : Fixed} → f ≡ g → ReadOf (f .segment) (f .enter) (f .exit) g
+read-of e = (ap (λ (f : Fixed). f .segment) e, ap (λ (f : Fixed). f .enter) e, ap (λ (f : Fixed). f .exit) e)
 
 -- a tick of which something was said, o, that is r, and that was not refused (t is whether o is done)
 pub flown : (source : Float → Reference) (image input answer : List ℕ) {o r : Outcome} {t : Bool} → o ≡ r → t ≡ isDone o → not t ≡ false

@@ -257,14 +257,15 @@ pub fn tick(image: &mut [u8], input: &[u8], answer: &mut [u8]) -> Outcome
     if answer.len() != ANSWER_BYTES {
         return Outcome::AnswerLength;
     }
-    let plain = all_plain(image, IMAGE_WORDS);
-    let fixed = fixed_at(image, plain);
+    let seen = &image[..]; // lent once for all who read it: 16 bytes of stack less
+    let plain = all_plain(seen, IMAGE_WORDS);
+    let fixed = fixed_at(seen, plain);
     let given = input_at(input, all_plain(input, INPUT_WORDS));
     let profile = fixed.profile;
-    let prepared = begin(image, plain, profile, given);
+    let prepared = begin(seen, plain, profile, given);
     let wanted = joint_tick::reference_at(fixed.segment, prepared.time);
     let done = joint_tick::finish(fixed, prepared, wanted, given);
-    if !intact(image, fixed.segment, fixed.enter, fixed.exit) {
+    if !intact(seen, fixed.segment, fixed.enter, fixed.exit) {
         return Outcome::BrokenImage;
     }
     leave(

@@ -38,6 +38,9 @@ mended-duration-once κs a x y v w p q = (no-second p q, refl)
 pub quintic-new-once : OneAnswer quintic.Quintic.new.ended quintic.Quintic.new.Reads.Post
 quintic-new-once κs a x y v w p q = (no-second p q, refl)
 
+pub quintic-of-mended-once : OneAnswer quintic.Quintic.of_mended.ended quintic.Quintic.of_mended.Reads.Post
+quintic-of-mended-once κs a x y v w p q = (no-second p q, refl)
+
 pub quintic-duration-once : OneAnswer quintic.Quintic.duration.ended quintic.Quintic.duration.Reads.Post
 quintic-duration-once κs a x y v w p q = (no-second p q, refl)
 

@@ -10,6 +10,7 @@ pub use governor::RefGovernor;
 pub use governor::clamp_to;
 pub use governor::gate_factor;
 pub use quintic::JerkCoeffs;
+pub use quintic::Mended;
 pub use quintic::Quintic;
 pub use quintic::Sample;
 pub use quintic::fin;

@@ -28,7 +28,7 @@ pub struct Sample {
 }
 
 // What `Quintic::new` goes by: the seven numbers of one axis of a leg, mended.
-struct Mended {
+pub struct Mended {
     pub p0: f32,
     pub v0: f32,
     pub a0: f32,
@@ -103,8 +103,8 @@ impl Quintic {
         Quintic::of_mended(mend(p0, v0, a0, pf, vf, af, t))
     }
 
-    // The closed form of Mueller, Hehn and D'Andrea, both ends given.
-    fn of_mended(m: Mended) -> Quintic
+    // The closed form of Mueller, Hehn and D'Andrea, both ends given. A route tick calls it on ends that it mended as it read them.
+    pub fn of_mended(m: Mended) -> Quintic
         ensures { λ r. ⌜ r ≡ ofMended m ⌝ }
     {
         let p0 = m.p0;

@@ -4,13 +4,14 @@ use mathlib.Core.Bool.{Bool, true, false, not, cond}
 use mathlib.Core.List.{List}
 use Prim.Native.Nat.{ℕ, _+_, _*_, _≤_, _<_}
 use native.Mathlib.Omega.{arith}
-use borrow.Author.Tests.{ltb-false, eqb-false, not-true, not-false}
+use borrow.Author.Tests.{ltb-false, eqb-false, eq-eqb, not-true, not-false}
 use lib.ListN.{length}
 use Rattle.outcome.specs.declared.Outcome.{Outcome}
-use Rattle.outcome.specs.declared.Outcome.the-variants.{Done}
+use Rattle.outcome.specs.declared.Outcome.the-variants.{Done, BrokenImage}
 use Rattle.outcome.specs.Outcomes.{isDone, left, lent}
 use Rattle.outcome.proofs.Tables.{done-none, in-turn, same, refused-keeps}
-use Rattle.calls.specs.Entry.{tickTable, tickRefusal, tickFrom}
+use Rattle.image.specs.Layout.{IMAGE-BYTES, INPUT-BYTES, ANSWER-BYTES}
+use Rattle.calls.specs.Entry.{intact, tickTable, tickRefusal, tickFrom}
 use Rattle.route.specs.Form.{LEG-BYTES, TRAILER-BYTES, countOf, formTable, formRefusal}
 use Rattle.route.specs.Entry.{routeRefusal, routeCall}
 
@@ -19,6 +20,21 @@ pub in-their-turn : (image : List ℕ) (inputLen answerLen : ℕ) (route : List 
     → let t = tickRefusal image inputLen answerLen in routeRefusal image inputLen answerLen route ≡ cond (isDone t) (formRefusal route) t
 unfolding routeRefusal tickRefusal formRefusal
 in-their-turn image inputLen answerLen route = in-turn (tickTable image inputLen answerLen) (formTable route) refl
+
+-- ---- a refused call changes no byte
+
+pub refused-changes-nothing : (image input route answer : List ℕ) → let o = routeRefusal image (length input) (length answer) route in
+    isDone o ≡ false → routeCall image input route answer ≡ left o (lent image answer)
+unfolding routeCall tickFrom
+refused-changes-nothing image input route answer e = refused-keeps (routeRefusal image (length input) (length answer) route) _ _ e
+
+-- a call of the right lengths whose image row 4 does not take
+pub broken : (image input route answer : List ℕ) {b : Bool} → length image ≡ IMAGE-BYTES → length input ≡ INPUT-BYTES → length answer ≡ ANSWER-BYTES → b ≡ intact image → b ≡ false
+    → left BrokenImage (lent image answer) ≡ routeCall image input route answer
+unfolding routeCall tickFrom routeRefusal
+broken image input route answer l i a e n = simp (← e, n, eq-eqb (length image) IMAGE-BYTES l, eq-eqb (length input) INPUT-BYTES i, eq-eqb (length answer) ANSWER-BYTES a)
+
+-- ---- by the route's form
 
 pub record Formed (route : List ℕ) : Type 0 where
   pub trailer : TRAILER-BYTES ≤ length route
@@ -41,22 +57,11 @@ module _ (route : List ℕ) {f : Outcome} {t : Bool} (e : f ≡ formRefusal rout
       pos : (n : ℕ) → (n ≡ 0 → ⊥) → 0 < n
       pos n h = omega (arith, h)
 
-  module _ (image : List ℕ) (inputLen answerLen : ℕ) where
-    -- with no form it is refused, for this or before
-    pub formless : not t ≡ true → isDone (routeRefusal image inputLen answerLen route) ≡ false
-    formless n = ap isDone (in-their-turn image inputLen answerLen route) ∙ go (tickRefusal image inputLen answerLen) (isDone (tickRefusal image inputLen answerLen)) refl
-      where
-        go : (o : Outcome) (b : Bool) → isDone o ≡ b → isDone (cond b (formRefusal route) o) ≡ false
-        go o true h = ap isDone (sym e) ∙ sym d ∙ not-true t n
-        go o false h = h
+  -- where a tick is taken, the form decides
+  pub form-decides : (image : List ℕ) (inputLen answerLen : ℕ) → Done ≡ tickRefusal image inputLen answerLen → f ≡ routeRefusal image inputLen answerLen route
+  form-decides image inputLen answerLen h = e ∙ sym (in-their-turn image inputLen answerLen route ∙ rw (sym h))
 
-    -- where a tick is taken, the form decides
-    pub form-decides : Done ≡ tickRefusal image inputLen answerLen → f ≡ routeRefusal image inputLen answerLen route
-    form-decides h = e ∙ sym (in-their-turn image inputLen answerLen route ∙ rw (sym h))
-
--- ---- a refused call changes no byte
-
-pub refused-changes-nothing : (image input route answer : List ℕ) → let o = routeRefusal image (length input) (length answer) route in
-    isDone o ≡ false → routeCall image input route answer ≡ left o (lent image answer)
-unfolding routeCall tickFrom
-refused-changes-nothing image input route answer e = refused-keeps (routeRefusal image (length input) (length answer) route) _ _ e
+  pub formless : (image input answer : List ℕ) → Done ≡ tickRefusal image (length input) (length answer) → not t ≡ true → left f (lent image answer) ≡ routeCall image input route answer
+  formless image input answer h n =
+      let p = form-decides image (length input) (length answer) h in
+      rw p (sym (refused-changes-nothing image input route answer (ap isDone (sym p) ∙ sym d ∙ not-true t n)))

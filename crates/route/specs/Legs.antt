@@ -9,11 +9,15 @@ use Rattle.relay_traj.specs.Quintic.{mendedDuration}
 use Rattle.joint_tick.specs.declared.stages.Reference.{Reference}
 use Rattle.joint_tick.specs.SetUp.{segmentOf}
 use Rattle.joint_tick.specs.Tick.{referenceAt}
-use Rattle.route.specs.declared.legs.Flown.{Flown}
 use Rattle.route.specs.Form.{legOf}
 
 unfoldable pub durationOf : List ℕ → ℕ → Float
 durationOf b i = mendedDuration (legOf b i .t)
+
+-- which leg, counted from 0, and the time on it
+pub record Flown : Type 0 where
+  pub leg : ℕ
+  pub at : Float
 
 -- Looked for from leg i on, before which the legs' ends came to `end`, among the next n: the first whose own end is above the time, at the time
 -- less the end before it. Past all ends it is the last leg, at its duration.

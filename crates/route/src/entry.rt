@@ -14,27 +14,13 @@ use outcome::is_done;
 use words::all_plain;
 ghost use mathlib.Core.Path.{_≡_};
 ghost use Rattle.outcome.specs.Outcomes.{left, lent};
-ghost use Rattle.route.specs.Entry.{routeRefusal, routeCall};
-
-// What a route tick would be refused for.
-fn route_refusal(image: &[u8], input_len: usize, answer_len: usize, route: &[u8]) -> Outcome
-    ensures { λ r. ⌜ r ≡ routeRefusal (now (image .entry)) «input_len» «answer_len» (now (route .entry)) ⌝ }
-{
-    let tick = calls::tick_refusal(image, input_len, answer_len);
-    if !is_done(tick) {
-        return tick;
-    }
-    form_refusal(route)
-}
+ghost use Rattle.route.specs.Entry.{routeCall};
 
 // The base's tick, toward the sample of the leg flown; the image's segment is kept and not looked at but for row 4. A route is sampled only if it has
-// its form, so that is seen to first; where it has none, the rows before it still win.
+// its form; where it has none, row 4 still comes before it.
 pub fn route_tick(image: &mut [u8], input: &[u8], route: &[u8], answer: &mut [u8]) -> Outcome
     ensures { λ r. ⌜ left r (lent (now (image .exit)) (now (answer .exit))) ≡ routeCall (now (image .entry)) (now (input .entry)) (now (route .entry)) (now (answer .entry)) ⌝ }
 {
-    if !is_done(form_refusal(route)) {
-        return route_refusal(image, input.len(), answer.len(), route);
-    }
     if image.len() != IMAGE_BYTES {
         return Outcome::ImageLength;
     }
@@ -44,14 +30,22 @@ pub fn route_tick(image: &mut [u8], input: &[u8], route: &[u8], answer: &mut [u8
     if answer.len() != ANSWER_BYTES {
         return Outcome::AnswerLength;
     }
-    let plain = all_plain(image, IMAGE_WORDS);
-    let fixed = fixed_at(image, plain);
+    let seen = &image[..]; // lent once for all its readers: 48 bytes of stack less
+    let plain = all_plain(seen, IMAGE_WORDS);
+    let fixed = fixed_at(seen, plain);
     let given = input_at(input, all_plain(input, INPUT_WORDS));
     let profile = fixed.profile;
-    let prepared = calls::begin(image, plain, profile, given);
+    let prepared = calls::begin(seen, plain, profile, given);
+    let form = form_refusal(route); // asked before `begin` it took 16 bytes of stack more
+    if !is_done(form) {
+        if calls::intact(seen, fixed.segment, fixed.enter, fixed.exit) {
+            return form;
+        }
+        return Outcome::BrokenImage;
+    }
     let wanted = reference_on(route, leg_count(route), prepared.time);
     let done = joint_tick::finish(fixed, prepared, wanted, given);
-    if !calls::intact(image, fixed.segment, fixed.enter, fixed.exit) {
+    if !calls::intact(seen, fixed.segment, fixed.enter, fixed.exit) {
         return Outcome::BrokenImage;
     }
     calls::leave(

@@ -1,68 +1,77 @@
-// The leg flown, over any count.
+// The leg flown, over any count, and its sample.
 use image::LEG_WORDS;
-use image::leg_at;
 use joint_tick::Reference;
 use joint_tick::reference_at;
-use joint_tick::segment_of;
+use relay_traj::Mended;
+use relay_traj::Quintic;
+use relay_traj::Segment3;
 use relay_traj::mended_duration;
+use words::finite_at;
+use words::float_at;
 ghost use mathlib.Core.Path.{_≡_};
 ghost use Prim.Native.Nat.{_+_, _*_, _<_, _≤_};
 ghost use lib.ListN.{length};
+ghost use Rattle.words.specs.Words.{float};
+ghost use Rattle.relay_traj.specs.Quintic.{mend};
 ghost use Rattle.route.specs.Form.{LEG-BYTES};
-ghost use Rattle.route.specs.Legs.{durationOf, flown, referenceOf, referenceOn};
+ghost use Rattle.route.specs.Legs.{durationOf, referenceOf, referenceOn};
 
-// Which leg, counted from 0, and the time on it.
-#[repr(C)]
-pub struct Flown {
-    pub leg: usize,
-    pub at: f32,
-}
+// A leg's last word.
+const DURATION: usize = 18;
 
 fn duration_of(route: &[u8], i: usize) -> f32
     requires { ⌜ LEG-BYTES * i + LEG-BYTES ≤ length (now route) ⌝ }
     ensures { λ r. ⌜ r ≡ durationOf (now (route .entry)) i ⌝ }
 {
-    let leg = leg_at(route, LEG_WORDS * i);
-    mended_duration(leg.t)
+    mended_duration(float_at(route, LEG_WORDS * i + DURATION))
 }
 
-// The first leg whose end is above the time, at the time less the end before it; past all ends the last leg, at its duration.
-fn leg_flown(route: &[u8], count: usize, time: f32) -> Flown
+// One axis of a leg, mended as it is read: its p0 is word k, and the others stand three words apart.
+fn axis_at(route: &[u8], k: usize, t: f32) -> Mended
+    requires { ⌜ 4 * k + 64 ≤ length (now route) ⌝ }
+    ensures { λ r. let b = now (route .entry) in ⌜ r ≡ mend (float b k) (float b (k + 3)) (float b (k + 6)) (float b (k + 9)) (float b (k + 12)) (float b (k + 15)) t ⌝ }
+{
+    let p0 = finite_at(route, k, 0.0);
+    Mended {
+        p0: p0,
+        v0: finite_at(route, k + 3, 0.0),
+        a0: finite_at(route, k + 6, 0.0),
+        pf: finite_at(route, k + 9, p0),
+        vf: finite_at(route, k + 12, 0.0),
+        af: finite_at(route, k + 15, 0.0),
+        t: mended_duration(t),
+    }
+}
+
+// The base's own sample, of one leg. Its segment is made of the words at once, which saves a route tick 28 ns against a leg read first and `segment_of` called on it
+// (docs/SPEED.md).
+fn reference_of(route: &[u8], i: usize, at: f32) -> Reference
+    requires { ⌜ LEG-BYTES * i + LEG-BYTES ≤ length (now route) ⌝ }
+    ensures { λ r. ⌜ r ≡ referenceOf (now (route .entry)) i at ⌝ }
+{
+    let k = LEG_WORDS * i;
+    let t = float_at(route, k + DURATION);
+    let x = Quintic::of_mended(axis_at(route, k, t));
+    let y = Quintic::of_mended(axis_at(route, k + 1, t));
+    let z = Quintic::of_mended(axis_at(route, k + 2, t));
+    reference_at(Segment3(x, y, z), at)
+}
+
+// Of the first leg whose end is above the time, at the time less the end before it; past all ends of the last leg, at its duration. The two calls keep
+// `reference_of` from being inlined, so that its stack is free again when the tick goes on: 128 bytes, for 2 ns.
+pub(crate) fn reference_on(route: &[u8], count: usize, time: f32) -> Reference
     requires { ⌜ (0 < count) × (LEG-BYTES * count ≤ length (now route)) ⌝ }
-    ensures { λ r. ⌜ r ≡ flown (now (route .entry)) count time ⌝ }
+    ensures { λ r. ⌜ r ≡ referenceOn (now (route .entry)) count time ⌝ }
 {
     let mut i = 0;
     let mut end = 0.0;
     while i < count {
         let next = end + duration_of(route, i);
         if time < next {
-            return Flown {
-                leg: i,
-                at: time - end,
-            };
+            return reference_of(route, i, time - end);
         }
         end = next;
         i += 1;
     }
-    Flown {
-        leg: count - 1,
-        at: duration_of(route, count - 1),
-    }
-}
-
-// The base's own sample, of one leg.
-fn reference_of(route: &[u8], i: usize, at: f32) -> Reference
-    requires { ⌜ LEG-BYTES * i + LEG-BYTES ≤ length (now route) ⌝ }
-    ensures { λ r. ⌜ r ≡ referenceOf (now (route .entry)) i at ⌝ }
-{
-    let leg = leg_at(route, LEG_WORDS * i);
-    reference_at(segment_of(leg), at)
-}
-
-pub(crate) fn reference_on(route: &[u8], count: usize, time: f32) -> Reference
-    requires { ⌜ (0 < count) × (LEG-BYTES * count ≤ length (now route)) ⌝ }
-    ensures { λ r. ⌜ r ≡ referenceOn (now (route .entry)) count time ⌝ }
-{
-    let f = leg_flown(route, count, time);
-    reference_of(route, f.leg, f.at)
+    reference_of(route, count - 1, duration_of(route, count - 1))
 }

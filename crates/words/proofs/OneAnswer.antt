@@ -22,6 +22,9 @@ read-float-once κs a x y v w p q = (no-second p q, refl)
 pub read-vec-once : OneAnswer read.read_vec.ended read.read_vec.Reads.Post
 read-vec-once κs a x y v w p q = (no-second p q, refl)
 
+pub finite-at-once : OneAnswer read.finite_at.ended read.finite_at.Reads.Post
+finite-at-once κs a x y v w p q = (no-second p q, refl)
+
 pub float-at-once : OneAnswer read.float_at.ended read.float_at.Reads.Post
 float-at-once κs a x y v w p q = (no-second p q, refl)
 

@@ -3,6 +3,7 @@ mod read; // read.rt: words, floats and vectors out of bytes
 mod write; // write.rt: the same into bytes
 
 pub use read::all_plain;
+pub use read::finite_at;
 pub use read::float_at;
 pub use read::float_of;
 pub use read::four_bytes;

@@ -3,6 +3,7 @@ use relay_math::Vec3;
 ghost use mathlib.Core.Path.{_≡_};
 ghost use Prim.Native.Nat.{_+_, _*_, _<_, _≤_};
 ghost use lib.ListN.{length};
+ghost use Rattle.relay_math.specs.F32.{finiteOr};
 ghost use Rattle.words.specs.Words.{fourBytes, word, float, floatOf, vec};
 ghost use Rattle.words.specs.Inner.{isPlain, allPlain, Plain};
 
@@ -87,6 +88,20 @@ pub fn read_vec(bytes: &[u8], k: usize, plain: bool) -> Vec3
         read_float(bytes, k + 1, plain),
         read_float(bytes, k + 2, plain),
     )
+}
+
+// The float there, or another where it is not finite, by one test of its word: that saves a route tick 11 ns (docs/SPEED.md). Tested first for a NaN's
+// pattern and then as a number, each word would have two. Doubled, the test takes two instructions less on x86-64.
+pub fn finite_at(bytes: &[u8], k: usize, otherwise: f32) -> f32
+    requires { ⌜ 4 * k + 4 ≤ length (now bytes) ⌝ }
+    ensures { λ r. ⌜ r ≡ finiteOr (float (now (bytes .entry)) k) otherwise ⌝ }
+{
+    let w = word_at(bytes, k);
+    if w % 0x8000_0000 * 2 < 0xff00_0000 {
+        f32::from_bits(w)
+    } else {
+        otherwise
+    }
 }
 
 pub fn float_at(bytes: &[u8], k: usize) -> f32

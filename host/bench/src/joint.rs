@@ -250,19 +250,9 @@ pub const CALLS: [&str; 14] = [
     "fosavalo_pattern_expand",
     "the Rust calls of a tick",
 ];
-/// Where in `CALLS` the tick stands, the route tick, and the Rust's.
+/// Where in `CALLS` the tick stands, and the Rust's.
 pub const TICKED: usize = 1;
-const ROUTED: usize = 2;
 pub const RUST: usize = CALLS.len() - 1;
-
-/// What each may take. A route tick holds a leg and its segment too, and is over the bar of the others (docs/SPEED.md).
-pub fn bar(call: usize) -> usize {
-    if call == ROUTED {
-        stack::ROUTE_BAR
-    } else {
-        stack::BAR
-    }
-}
 
 /// The stack that each of `CALLS` takes, the most over some ticks of a run, on a thread of its own. None where it can't be measured. The
 /// route has the most legs, the pattern a million items.
@@ -321,11 +311,14 @@ fn stacks_on(run: &Run, route: &[u8]) -> Option<[usize; CALLS.len()]> {
 mod tests {
     use super::*;
 
+    /// Where in `CALLS` the route tick stands.
+    const ROUTED: usize = 2;
+
     #[test]
     fn no_call_takes_more_stack_than_its_bar() {
         for run in [pass(), headings(), lost_rotor(), with_a_nan()] {
             let depths = stacks(&run).expect("measured on this machine");
-            assert!((0..RUST).all(|k| depths[k] <= bar(k)), "{depths:?}");
+            assert!((0..RUST).all(|k| depths[k] <= stack::BAR), "{depths:?}");
         }
     }
 

@@ -181,11 +181,11 @@ fn stacks() -> bool {
     let mut good = true;
     for (k, name) in joint::CALLS.iter().enumerate() {
         let bytes = most(k);
-        let within = k == joint::RUST || bytes <= joint::bar(k);
+        let within = k == joint::RUST || bytes <= stack::BAR;
         let verdict = if k == joint::RUST {
             "no bar".into()
         } else {
-            format!("{} the bar of {}", if within { "within" } else { "OVER" }, joint::bar(k))
+            format!("{} the bar of {}", if within { "within" } else { "OVER" }, stack::BAR)
         };
         println!("{name:28} {bytes:6} B  ({verdict})");
         good &= within;

@@ -7,9 +7,6 @@ const BELOW: usize = 256 * 1024;
 /// What each of the core's calls may take, on any thread.
 pub const BAR: usize = 1536;
 
-/// What a route tick may.
-pub const ROUTE_BAR: usize = 1696;
-
 /// The stack that a thread needs for it.
 pub const LEAST: usize = 1024 * 1024;
 

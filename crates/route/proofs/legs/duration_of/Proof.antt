@@ -1,11 +1,12 @@
 use borrow.Author.Needs.{needs}
+use Rattle.image.specs.Parts.{legAt}
 use Rattle.route.specs.Legs.{durationOf}
 use Rattle.route.proofs.legs.duration_of.Statement.{statement}
 use Rattle.route.proofs.legs.duration_of.Tie as tie
 
 pub duration-of-spec : {M : Type 1} → statement M
-unfolding durationOf
+unfolding durationOf legAt
 duration-of-spec =
     tie.close
-    (tie.spec (λ c. search needs) (λ c κs. search needs) (λ c κs. search needs)
-    (λ c. simp (c .mended-duration .ensures, c .before .leg-at .ensures)))
+    (tie.spec (λ c. search needs) (λ c. search needs) (λ c κs. search needs) (λ c κs. search needs)
+    (λ c. simp (c .mended-duration .ensures, c .before .float-at .ensures)))

@@ -1,11 +1,53 @@
+-- `route::legs::reference_of`: three axes of mended words are the leg's segment. Assumes nothing.
 use borrow.Author.Needs.{needs}
+use mathlib.Core.Path.{_≡_, refl}
+use mathlib.Core.List.{List}
+use Prim.Native.Nat.{ℕ, _+_}
+use native.Mathlib.Nat.{add-right-comm}
+use lib.Ieee.{Float}
+use Rattle.words.specs.Words.{float, vec}
+use Rattle.relay_traj.specs.declared.quintic.Quintic.{Quintic}
+use Rattle.relay_traj.specs.declared.segment.Segment3.{Segment3}
+use Rattle.relay_traj.specs.Quintic.{mend, ofMended, quintic}
+use Rattle.relay_traj.specs.Segment.{segment}
+use Rattle.joint_tick.specs.SetUp.{segmentOf}
+use Rattle.image.specs.Parts.{legAt}
 use Rattle.route.specs.Legs.{referenceOf}
 use Rattle.route.proofs.legs.reference_of.Statement.{statement}
 use Rattle.route.proofs.legs.reference_of.Tie as tie
 
-pub reference-of-spec : {M : Type 1} → statement M
+abbrev axis : List ℕ → ℕ → ℕ → Quintic
+axis b k j = ofMended (mend (float b j) (float b (j + 3)) (float b (j + 6)) (float b (j + 9)) (float b (j + 12)) (float b (j + 15)) (float b (k + 18)))
+
+-- the axis's number may be added before or after
+axis-of : (b : List ℕ) (k j : ℕ) → let a : ℕ → Float = λ n. float b (k + n + j) in axis b k (k + j) ≡ quintic (float b (k + j)) (a 3) (a 6) (a 9) (a 12) (a 15) (float b (k + 18))
+unfolding quintic
+axis-of b k j = rw (add-right-comm k j 3, add-right-comm k j 6, add-right-comm k j 9, add-right-comm k j 12, add-right-comm k j 15)
+
+axes : (b : List ℕ) (k : ℕ) → segmentOf (legAt b k) ≡ (axis b k k, axis b k (k + 1), axis b k (k + 2))
+unfolding segmentOf segment quintic legAt vec
+axes b k = rw (axis-of b k 1, axis-of b k 2)
+
+returns : tie.Need-returns
 unfolding referenceOf
+returns c =
+    let y = c .before .before .before in
+    let x = y .before .before in
+    simp (
+      axes,
+      c .reference-at .ensures,
+      c .before .of-mended3 .ensures,
+      c .before .before .axis-at3 .ensures,
+      y .of-mended2 .ensures,
+      y .before .axis-at2 .ensures,
+      x .of-mended .ensures,
+      x .before .axis-at .ensures,
+      x .before .before .float-at .ensures,
+    )
+
+pub reference-of-spec : {M : Type 1} → statement M
 reference-of-spec =
     tie.close
-    (tie.spec (λ c. search needs) (λ c κs. search needs) (λ c κs. search needs) (λ c κs. search needs)
-    (λ c. simp (c .reference-at .ensures, c .before .segment-of .ensures, c .before .before .leg-at .ensures)))
+    (tie.spec (λ c. search needs) (λ c. search needs) (λ c κs. search needs) (λ c κs. search needs) (λ c κs. search needs) (λ c. search needs) (λ c κs. search needs)
+    (λ c κs. search needs) (λ c. search needs) (λ c κs. search needs) (λ c κs. search needs) (λ c κs. search needs)
+    returns)

@@ -1,25 +1,61 @@
--- `route::legs::reference_on`: the leg flown is one of the route's, and its sample is taken. Assumes nothing.
-use borrow.Author.Needs.{needs}
-use mathlib.Core.Path.{_≡_}
+-- `route::legs::reference_on`: what is found from leg i on, after the ends up to it, is what is found at all. Assumes nothing.
+use mathlib.Core.Path.{_≡_, sym, ap, _∙_}
 use mathlib.Core.List.{List}
-use Prim.Native.Nat.{ℕ, _+_, _*_, _<_, _≤_}
+use Prim.Native.Nat.{ℕ, _-_, _≤_}
+use native.Mathlib.Nat.{sub-zero}
 use native.Mathlib.Omega.{arith}
 use lib.Ieee.{Float}
-use lib.ListN.{length}
-use Rattle.route.specs.declared.legs.Flown.{Flown}
-use Rattle.route.specs.Form.{LEG-BYTES}
-use Rattle.route.specs.Legs.{flown, referenceOn}
-use Rattle.route.proofs.LegFlown.{leg-within}
+use Rattle.joint_tick.specs.declared.stages.Reference.{Reference}
+use Rattle.route.specs.Legs.{Flown, flownFrom, flown, referenceOf, referenceOn}
+use Rattle.route.proofs.Walks.{flown-on, flown-here, flown-last}
 use Rattle.route.proofs.legs.reference_on.Statement.{statement}
 use Rattle.route.proofs.legs.reference_on.Tie as tie
 
-lies-within : (b : List ℕ) (n : ℕ) (time : Float) {f : Flown} → f ≡ flown b n time → (0 < n) × (LEG-BYTES * n ≤ length b) → LEG-BYTES * f .leg + LEG-BYTES ≤ length b
-lies-within b n time e h = rw e (omega (arith, leg-within b time n (h .0), h .1))
+abbrev Inv-loop : tie.InvT-loop
+Inv-loop route count time i₀ end₀ i end = (i ≤ count) × (flownFrom route time (count - i) i end ≡ flown route count time)
+
+abbrev μ-loop : tie.MeasureT-loop
+μ-loop route count time i₀ end₀ i end = count - i
+
+loop-holds : tie.Need-loop-holds Inv-loop μ-loop
+unfolding flown
+loop-holds c = (omega arith, rw sub-zero)
+
+-- the leg that was found is the one whose sample is taken
+module _ (b : List ℕ) (n : ℕ) (time : Float) where
+  taken : {r : Reference} {f : Flown} → r ≡ referenceOf b (f .leg) (f .at) → flown b n time ≡ f → r ≡ referenceOn b n time
+  unfolding referenceOn
+  taken e h = e ∙ ap (λ (f : Flown). referenceOf b (f .leg) (f .at)) (sym h)
+
+returns : tie.Need-returns Inv-loop μ-loop
+returns c =
+    let d = c .before .before in
+    let at = d .before in
+    taken _ _ _ (c .reference-of .ensures) (sym (at .before .loop .inv .1) ∙ flown-here _ _ _ _ _ (at .loop-test .taken) (d .duration-of .ensures) (c .before .if1 .taken))
+
+loop-again : tie.Need-loop-again Inv-loop μ-loop
+loop-again c =
+    let at = c .before .before in
+    (omega arith, flown-on _ _ _ _ _ (at .loop-test .taken) (c .before .duration-of .ensures) (c .if1 .left) ∙ at .before .loop .inv .1)
+
+returns-2 : tie.Need-returns-2 Inv-loop μ-loop
+returns-2 c =
+    let d = c .before in
+    let at = d .before in
+    taken _ _ _ (c .reference-of2 .ensures) (sym (at .before .loop .inv .1) ∙ flown-last _ _ _ _ _ (at .before .loop .inv .0) (at .loop-test .left) (d .duration-of2 .ensures))
 
 pub reference-on-spec : {M : Type 1} → statement M
-unfolding referenceOn
 reference-on-spec =
     tie.close
-    (tie.spec (λ c κs. search needs)
-    (λ c κs. lies-within _ _ _ (c .leg-flown .ensures) (c .before .before .pre))
-    (λ c. simp (c .reference-of .ensures, c .before .leg-flown .ensures)))
+    (tie.spec Inv-loop μ-loop loop-holds
+    (λ c κs. omega arith)
+    (λ c κs. omega arith)
+    returns
+    (λ c. omega arith)
+    (λ c. omega arith)
+    loop-again
+    (λ c. omega arith)
+    (λ c. omega arith)
+    (λ c κs. omega arith)
+    (λ c κs. omega arith)
+    returns-2)

@@ -1,0 +1,25 @@
+use borrow.Author.Needs.{needs}
+use Rattle.relay_traj.specs.Quintic.{mend}
+use Rattle.route.proofs.legs.axis_at.Statement.{statement}
+use Rattle.route.proofs.legs.axis_at.Tie as tie
+
+returns : tie.Need-returns
+unfolding mend
+returns c =
+    let f = c .before .before .before .before in
+    simp (
+      c .mended-duration .ensures,
+      c .before .finite-at6 .ensures,
+      c .before .before .finite-at5 .ensures,
+      c .before .before .before .finite-at4 .ensures,
+      f .finite-at3 .ensures,
+      f .before .finite-at2 .ensures,
+      f .before .before .finite-at .ensures,
+    )
+
+pub axis-at-spec : {M : Type 1} → statement M
+axis-at-spec =
+    tie.close
+    (tie.spec (λ c κs. search needs) (λ c. search needs) (λ c κs. search needs) (λ c. search needs) (λ c κs. search needs) (λ c. search needs) (λ c κs. search needs)
+    (λ c. search needs) (λ c κs. search needs) (λ c. search needs) (λ c κs. search needs) (λ c κs. search needs)
+    returns)

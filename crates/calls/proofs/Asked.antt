@@ -1,4 +1,4 @@
--- A tick is refused for what `tickRefusal` says, and so by the lengths and the image alone: for callers above the core, which ask before they write. Assumes nothing.
+-- A tick is refused for what `tickRefusal` says, and so by the lengths and the image alone: for callers above the core. Assumes nothing.
 use mathlib.Core.Path.{_≡_, refl, sym, _∙_}
 use mathlib.Core.Bool.{true, false, not}
 use mathlib.Core.List.{List, [], _∷_}
@@ -7,8 +7,8 @@ use borrow.Author.Tests.{not-true}
 use lib.ListN.{length}
 use Rattle.laws.proofs.Tests.{no, both}
 use Rattle.outcome.specs.declared.Outcome.the-variants.{Done}
-use Rattle.outcome.specs.Outcomes.{isDone, Table, firstOf, Called}
-use Rattle.outcome.proofs.Tables.{refuses, either}
+use Rattle.outcome.specs.Outcomes.{isDone, Table, firstOf, left, lent, Called}
+use Rattle.outcome.proofs.Tables.{refuses, refused-keeps, either}
 use Rattle.calls.specs.Entry.{tickTable, tickRefusal, tickFrom, tickCall}
 
 -- of a table whose every row refuses, nothing but `Done` is done
@@ -26,3 +26,8 @@ unfolding tickCall tickFrom
 tick-asked image input answer =
     let o = tickRefusal image (length input) (length answer) in
     either (λ (c : Called). c .outcome ≡ o) o (λ e. sym (refusal-done image (length input) (length answer) e)) (λ e. refl)
+
+pub refused-changes-nothing : (image input answer : List ℕ) → let o = tickRefusal image (length input) (length answer) in
+    isDone o ≡ false → tickCall image input answer ≡ left o (lent image answer)
+unfolding tickCall tickFrom
+refused-changes-nothing image input answer e = refused-keeps (tickRefusal image (length input) (length answer)) _ _ e

@@ -8,14 +8,19 @@ use crate::filters::put_desk;
 use crate::filters::set_up;
 use crate::filters::step;
 use calls::tick_refusal;
+use image::INPUT_BYTES;
 use outcome::Outcome;
 use outcome::is_done;
 use words::float_at;
 use words::put_float;
+use words::put_word;
 use words::vec_at;
+use words::word_at;
 ghost use mathlib.Core.Path.{_≡_};
+ghost use mathlib.Core.List.{_∷_, []};
 ghost use lib.ListN.{length};
-ghost use Rattle.image.specs.Layout.{INPUT-BYTES};
+ghost use Rattle.words.specs.Words.{Put};
+ghost use Rattle.image.specs.Layout.{YAW, INPUT-BYTES};
 ghost use Rattle.outcome.specs.Outcomes.{left};
 ghost use Rattle.desk.specs.Entry.{deskNumber, deskSetUpCall, centreCall, withHeading, lentToDesk, deskTickCall};
 
@@ -77,7 +82,17 @@ fn put_heading(input: &mut [u8], heading: f32, turn: f32)
     put_float(input, YAW_RATE, turn);
 }
 
-// A desk tick. Whether the core refuses hangs on the lengths and the image alone, so it is asked before anything is written.
+// The two words as they stood.
+fn put_back(input: &mut [u8], yaw: u32, yaw_rate: u32)
+    requires { ⌜ length (now input) ≡ INPUT-BYTES ⌝ }
+    ensures { λ _. ⌜ Put (now (input .entry)) YAW (yaw ∷ «yaw_rate» ∷ []) (now (input .exit)) ⌝ }
+{
+    put_word(input, YAW, yaw);
+    put_word(input, YAW_RATE, yaw_rate);
+}
+
+// A desk tick. The core is not asked beforehand whether it would refuse: judging an image twice took a desk tick 36 ns more (docs/SPEED.md). Where it refuses, the
+// two words of the input that were written for it are put back, and nothing else was written.
 pub fn tick(
     desk: &mut [u8],
     sticks: &[u8],
@@ -93,14 +108,20 @@ pub fn tick(
     if sticks.len() != STICKS_BYTES {
         return DeskOutcome::SticksLength;
     }
-    let refusal = tick_refusal(image, input.len(), answer.len());
-    if !is_done(refusal) {
-        return DeskOutcome::Core(refusal);
+    if input.len() != INPUT_BYTES {
+        return DeskOutcome::Core(tick_refusal(image, input.len(), answer.len()));
     }
+    let yaw = word_at(input, YAW);
+    let yaw_rate = word_at(input, YAW_RATE);
     let moved = step(desk_at(desk), vec_at(sticks, 0), float_at(input, DT));
     let heading = moved.heading;
     let turn = moved.turn;
-    put_desk(desk, moved);
     put_heading(input, heading.y, turn.y);
-    DeskOutcome::Core(calls::tick(image, input, answer))
+    let ended = calls::tick(image, input, answer);
+    if !is_done(ended) {
+        put_back(input, yaw, yaw_rate);
+        return DeskOutcome::Core(ended);
+    }
+    put_desk(desk, moved);
+    DeskOutcome::Core(ended)
 }

@@ -26,7 +26,7 @@ bytes-back : (a c d e : ℕ) → a < 256 → c < 256 → d < 256 → e < 256 →
     (w % 256 ≡ a) × (w / 256 % 256 ≡ c) × (w / 65536 % 256 ≡ d) × (w / 16777216 % 256 ≡ e)
 bytes-back a c d e ha hc hd he = (omega arith, omega arith, omega arith, omega arith)
 
-word-stands : (b : List ℕ) (k : ℕ) → Bytes b → Put b k (word b k ∷ []) b
+pub word-stands : (b : List ℕ) (k : ℕ) → Bytes b → Put b k (word b k ∷ []) b
 unfolding word
 word-stands b k h =
     let i = 4 * k in

@@ -1,4 +1,4 @@
--- Laws of written words, for callers: runs join, other bytes stay, and a buffer written whole no longer depends on what it held. Assumes nothing.
+-- Laws of written words, for callers: runs join, other bytes stay, and neither a buffer written whole nor a run written over depends on what was there. Assumes nothing.
 use mathlib.Core.Path.{_≡_, refl, ap, subst, _∙_}
 use mathlib.Core.Logic.{_⊎_, inl, inr, ⊎-elim}
 use mathlib.Core.List.{List, [], _∷_, _++_, append-nil}
@@ -7,7 +7,7 @@ use native.Mathlib.Nat.{add-zero, add-assoc}
 use native.Mathlib.Numerals.{add-one}
 use native.Mathlib.Omega.{arith}
 use lib.ListN.{length, getD, set, take, drop, length-append, drop-of-length-le, List·getD-append}
-use lib.Seq.{sets, sets-eq, length-take-le, take-suc, getD-set-other, getD-append-add}
+use lib.Seq.{sets, sets-eq, set-set, set-comm, length-take-le, take-suc, getD-set-other, getD-append-add}
 use Rattle.words.specs.Words.{word, bytesOf, Put}
 use Rattle.words.proofs.Back.{word-bytesOf}
 
@@ -50,6 +50,23 @@ over-all b vs h =
 
 pub whole : {b t : List ℕ} {ws : List ℕ} → Put b 0 ws t → length b ≡ 4 * length ws → t ≡ bytesOf ws
 whole {b} {t} {ws} p h = p .is ∙ over-all b (bytesOf ws) (omega (arith, length-bytesOf ws))
+
+-- ---- a run over another of its length: what that held is gone
+
+set-before : (u b : List ℕ) (i j x : ℕ) → j < i → set (sets b i u) j x ≡ sets (set b j x) i u
+set-before [] b i j x h = refl
+set-before (a ∷ u) b i j x h = set-before u (set b i a) (suc i) j x (omega arith) ∙ ap (λ (l : List ℕ). sets l (suc i) u) (set-comm b i j a x (λ e. omega arith))
+
+sets-over : (u v b : List ℕ) (i : ℕ) → length u ≡ length v → sets (sets b i u) i v ≡ sets b i v
+sets-over [] [] b i h = refl
+sets-over [] (y ∷ v) b i h = let n : ⊥ = omega arith in absurd n
+sets-over (x ∷ u) [] b i h = let n : ⊥ = omega arith in absurd n
+sets-over (x ∷ u) (y ∷ v) b i h =
+    ap (λ (l : List ℕ). sets l (suc i) v) (set-before u (set b i x) (suc i) i y (omega arith) ∙ ap (λ (l : List ℕ). sets l (suc i) u) (set-set b i x y))
+    ∙ sets-over u v (set b i y) (suc i) (omega arith)
+
+pub put-over : {b s t : List ℕ} {k : ℕ} {u v : List ℕ} → Put b k u s → Put s k v t → length u ≡ length v → Put b k v t
+put-over {b} {s} {t} {k} {u} {v} p q h = record { is = q .is ∙ rw (p .is) (sets-over (bytesOf u) (bytesOf v) b (4 * k) (omega (arith, length-bytesOf u, length-bytesOf v))) }
 
 -- ---- byte by byte and word by word
 

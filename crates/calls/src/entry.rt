@@ -23,7 +23,6 @@ use image::put_next_state;
 use image::put_state;
 use image::setup_at;
 use image::state_at;
-use joint_tick::Fixed;
 use joint_tick::Prepared;
 use joint_tick::Profile;
 use joint_tick::TickInput;

@@ -1,12 +1,12 @@
 -- A word's exponent tells whether its float is finite. Assumes nothing.
-use mathlib.Core.Path.{_≡_, refl, sym, ap, _∙_}
+use mathlib.Core.Path.{_≡_, refl, sym, _∙_}
 use mathlib.Core.Bool.{Bool, true, false, cond}
 use mathlib.Core.Logic.{inl, inr}
 use Prim.Native.Nat.{ℕ, zero, suc, _+_, _*_, _/_, _%_, _<_}
 use native.Mathlib.Omega.{arith}
 use borrow.Author.Tests.{lt-ltb, le-ltb, eq-eqb, ne-eqb}
 use lib.Dec.{ltb, eqb}
-use lib.Ieee.{Float, nan, inf, binary32, low, odd, ofFields, ofBits}
+use lib.Ieee.{nan, inf, binary32, low, odd, ofFields, ofBits}
 use Rattle.laws.proofs.Tests.{le-or-lt}
 use Rattle.relay_math.specs.F32.{isFinite}
 use Rattle.words.specs.Words.{floatOf}

@@ -1,13 +1,12 @@
 -- `route::legs::reference_of`: three axes of mended words are the leg's segment. Assumes nothing.
 use borrow.Author.Needs.{needs}
-use mathlib.Core.Path.{_≡_, refl}
+use mathlib.Core.Path.{_≡_}
 use mathlib.Core.List.{List}
 use Prim.Native.Nat.{ℕ, _+_}
 use native.Mathlib.Nat.{add-right-comm}
 use lib.Ieee.{Float}
 use Rattle.words.specs.Words.{float, vec}
 use Rattle.relay_traj.specs.declared.quintic.Quintic.{Quintic}
-use Rattle.relay_traj.specs.declared.segment.Segment3.{Segment3}
 use Rattle.relay_traj.specs.Quintic.{mend, ofMended, quintic}
 use Rattle.relay_traj.specs.Segment.{segment}
 use Rattle.joint_tick.specs.SetUp.{segmentOf}

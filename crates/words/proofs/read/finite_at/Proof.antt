@@ -5,7 +5,6 @@ use mathlib.Core.Path.{sym, _∙_}
 use lib.Ieee.{binary32}
 use lib.Ieee.Bits.{nanBits-is}
 use Rattle.laws.proofs.Tests.{held}
-use Rattle.relay_math.specs.F32.{finiteOr}
 use Rattle.relay_math.proofs.Order.{finite-number}
 use Rattle.words.specs.Words.{float}
 use Rattle.words.proofs.Finite.{finite-is}

@@ -13,7 +13,7 @@ fn main() {
         let mut text = read(&format!("../../docs/src/crates/relay-{name}/plain/src/lib.rs"));
         text.extend(read(&format!("../oracle/harness/{name}.rs")));
         fs::write(out.join(format!("{name}.rs")), text).expect("OUT_DIR can be written");
-        modules += &format!("#[allow(unused_attributes, dead_code)]\npub mod {name};\n");
+        modules += &format!("#[allow(unused_attributes, dead_code, clippy::all)]\npub mod {name};\n");
     }
     fs::write(out.join("modules.rs"), modules).expect("OUT_DIR can be written");
 }

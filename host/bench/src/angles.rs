@@ -77,7 +77,7 @@ pub fn rows(rng: &mut Rng) -> bool {
         let c = theirs::sincos(x, &mut s);
         s + c
     };
-    let mut within = |size: f64| (0..HEADINGS).map(|_| ((rng.next() - 0.5) * 2.0 * size) as f32).collect::<Vec<f32>>();
+    let mut within = |size: f64| (0..HEADINGS).map(|_| ((rng.draw() - 0.5) * 2.0 * size) as f32).collect::<Vec<f32>>();
     let (turn, near, limit) = (within(std::f64::consts::PI), within(128.0), within(LIMIT.into()));
     let slow: Vec<f32> = (0..HEADINGS).map(|k| 0.3 + k as f32 * 1e-5).collect();
     println!("sine and cosine, against relay's kernels: median / least");

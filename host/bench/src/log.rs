@@ -75,8 +75,11 @@ fn read(log: &[u8]) -> Option<f64> {
     (refused == 0).then_some(taken)
 }
 
-/// Who flies in the logs that are checked, at each place: 0 the planner, 1 the fallback.
-pub const FLOWN: [(&str, fn(usize) -> u32); 2] = [
+/// Who flies at a place: 0 the planner, 1 the fallback.
+type Flag = fn(usize) -> u32;
+
+/// Who flies in the logs that are checked.
+pub const FLOWN: [(&str, Flag); 2] = [
     ("hands change every 1000", |at| (at / 1000 % 2) as u32),
     ("hands change at random", |at| (at as u32).wrapping_mul(0x9e37_79b9).rotate_left(15).wrapping_mul(0x85eb_ca6b) >> 31),
 ];

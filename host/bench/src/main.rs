@@ -51,7 +51,7 @@ fn pair(ours: impl Fn(f32) -> f32, theirs: impl Fn(f32) -> f32, inputs: &[f32]) 
 pub struct Rng(u64);
 
 impl Rng {
-    pub fn next(&mut self) -> f64 {
+    pub fn draw(&mut self) -> f64 {
         self.0 = self.0.wrapping_mul(6_364_136_223_846_793_005).wrapping_add(1_442_695_040_888_963_407);
         (self.0 >> 11) as f64 / (1u64 << 53) as f64
     }
@@ -218,7 +218,7 @@ fn main() -> ExitCode {
 /// Every row; whether each is within its bar.
 fn all() -> bool {
     let mut rng = Rng(1);
-    let positive: Vec<f32> = (0..CALLS).map(|_| (rng.next() * 1000.0) as f32).collect();
+    let positive: Vec<f32> = (0..CALLS).map(|_| (rng.draw() * 1000.0) as f32).collect();
     // Three visits, with the ticks between them: what disturbs the machine for a second or two meets one of them only.
     let mut least = (f64::INFINITY, f64::INFINITY);
     let mut visit = || {

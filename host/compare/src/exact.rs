@@ -1,7 +1,7 @@
 //! Document 01's exact values, worked out here from its words and not from our steps.
 
 /// P = 0x1921FB54442D1 / 2^48.
-const P: i128 = 0x1921_FB54_442D1;
+const P: i128 = 0x1_921F_B544_42D1;
 
 /// x, at most 8192 in size and a multiple of 2^-100, in units of 2^-100: exact for every f32 of at least 2^-77 in size.
 fn units(x: f32) -> i128 {

@@ -72,7 +72,7 @@ pub fn table() -> Result<String, Refusal> {
     let changes = flight.ticks.changes();
     let mut text = format!("A pass of three legs on a route, seed {}, our shield: {} ticks\n\n", pass::DRAWN, flight.ticks.len());
     let _ = writeln!(text, "{:6}   {:>7} {:>7} {:>7} {:>9} {:>10}", "", "seconds", "ticks", "changes", "planner", "furthest");
-    for at in 0..legs.len() {
+    for (at, leg) in legs.iter().enumerate() {
         let own = || flight.ticks.iter().filter(|tick| leg_of(tick) == at);
         let ticks = own().count();
         let planner = own().filter(|tick| tick.answer.pilot == Pilot::Planner).count();
@@ -82,7 +82,7 @@ pub fn table() -> Result<String, Refusal> {
             text,
             "leg {}    {:7.1} {ticks:7} {changed:7} {:7.1} % {furthest:8.2} m",
             at + 1,
-            legs[at].t,
+            leg.t,
             100.0 * planner as f64 / ticks.max(1) as f64
         );
     }

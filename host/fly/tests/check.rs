@@ -238,7 +238,7 @@ fn mistakes() {
 #[test]
 fn many_files() {
     let folder = checkout::scratch("checks-many");
-    let (right, wrong) = (log(&vec![HELD; 300]), log(&vec![FLOWN; 2]));
+    let (right, wrong) = (log(&[HELD; 300]), log(&[FLOWN; 2]));
     for n in 0..500 {
         put(&folder, &format!("night/{n:03}.log"), if n % 2 == 0 { right.as_bytes() } else { wrong.as_bytes() });
     }

@@ -3,6 +3,7 @@
 use compare::exact;
 use compare::joint::bytes::canonical;
 use compare::println;
+use std::f32::consts::{FRAC_PI_2, FRAC_PI_4, PI};
 
 fn main() {
     println!("        x |     root  hardware  nearest f32 by document 01");
@@ -17,7 +18,7 @@ fn main() {
     }
     println!();
     println!("        x |        sine  document 01's  this machine's |      cosine  document 01's  this machine's");
-    for x in [0.0f32, -0.0, 1e-4, 0.5, -0.785_398_2, 1.570_796_4, 3.141_592_7, 57.0, 128.000_02, 8192.0, 8192.001, f32::NAN] {
+    for x in [0.0f32, -0.0, 1e-4, 0.5, -FRAC_PI_4, FRAC_PI_2, PI, 57.0, 128.000_02, 8192.0, 8192.001, f32::NAN] {
         let (s, c) = faces::sincos(x);
         if x.abs() <= compare::numbers::LIMIT {
             let ((es, ec), (ts, tc)) = (exact::sincos(x), f64::from(x).sin_cos());

@@ -1,13 +1,15 @@
 /* Fosavalo: the C face of the proved flight core. Link libfosavalo.a, of this header's version.
  *
  * Every call is defined for every argument. Nothing here allocates, keeps state or writes anywhere but where it says. A buffer of length 0 may
- * be NULL: it is then one of a wrong length, as any other. */
+ * be NULL: it is then one of a wrong length, as any other.
+ *
+ * The archives are one proved module, compiled for each target. In it a length is 64 bits wide, so it is on every target: size_t would be 32 where addresses are.
+ * From outside an archive wants memset on x86-64 and aarch64; memset and memcpy on riscv64; on 32-bit Arm __aeabi_memset and __aeabi_memclr8, which a C library
+ * or compiler-rt has, and __aeabi_uldivmod and __aeabi_ul2f, which libgcc and compiler-rt have; on wasm32 nothing. This header wants no C library. */
 #ifndef FOSAVALO_H
 #define FOSAVALO_H
 
-#include <stddef.h>
 #include <stdint.h>
-#include <string.h>
 #if defined(__SSE__) && defined(__FLT_EVAL_METHOD__) && __FLT_EVAL_METHOD__ != 0
 #include <xmmintrin.h>
 #endif
@@ -41,13 +43,25 @@ static inline int fosavalo_header_fits(void) { return fosavalo_version() == FOSA
 #define FOSAVALO_ROUNDING_WRONG 1   /* not to nearest, ties to even */
 #define FOSAVALO_SUBNORMALS_WRONG 2 /* taken for zero, or made zero */
 
+/* A word's four bytes from one object to another, as memcpy does, whose header a target without a C library has not. */
+static inline void fosavalo_copy_word(void *to, const void *from) {
+#ifdef __cplusplus
+    unsigned char *there = static_cast<unsigned char *>(to);
+    const unsigned char *here = static_cast<const unsigned char *>(from);
+#else
+    unsigned char *there = to;
+    const unsigned char *here = from;
+#endif
+    for (int k = 0; k < 4; k++) there[k] = here[k];
+}
+
 /* A float from bits that no compiler knows, and the bits of a result that it has to have by then: volatile, so that nothing is worked out
  * before the program runs, nor moved past another call. */
 static inline float fosavalo_hidden(uint32_t bits) {
     volatile uint32_t hidden = bits;
     uint32_t seen = hidden;
     float x;
-    memcpy(&x, &seen, sizeof x);
+    fosavalo_copy_word(&x, &seen);
     return x;
 }
 
@@ -55,7 +69,7 @@ static inline uint32_t fosavalo_bits(float x) {
     volatile float kept = x;
     float seen = kept;
     uint32_t bits;
-    memcpy(&bits, &seen, sizeof bits);
+    fosavalo_copy_word(&bits, &seen);
     return bits;
 }
 
@@ -265,7 +279,7 @@ static inline const char *fosavalo_meaning(uint32_t number) {
  *
  * Returns 0, 1, 2, 10 or 11. Unless it is 0 no byte is changed; the input never is. Each pointer has to be good for its length, whatever
  * that is, and the two buffers must not overlap. */
-uint32_t fosavalo_setup(uint8_t *image, size_t image_len, const uint8_t *input, size_t input_len);
+uint32_t fosavalo_setup(uint8_t *image, uint64_t image_len, const uint8_t *input, uint64_t input_len);
 
 /* Another segment in flight: the words FOSAVALO_LEG_.., of which every bit pattern is taken and mended as at set-up. It is flown from its start: the
  * governor's time becomes 0, and the peaks are the new segment's. Every other word stays (a NaN is made 7fc00000), so who flies, the rate control and the
@@ -273,7 +287,7 @@ uint32_t fosavalo_setup(uint8_t *image, size_t image_len, const uint8_t *input, 
  *
  * Returns 0, 1, 2 or 4. Unless it is 0 no byte is changed; the segment never is. Each pointer has to be good for its length, whatever that is, and the two
  * buffers must not overlap. */
-uint32_t fosavalo_exchange(uint8_t *image, size_t image_len, const uint8_t *segment, size_t segment_len);
+uint32_t fosavalo_exchange(uint8_t *image, uint64_t image_len, const uint8_t *segment, uint64_t segment_len);
 
 /* One tick on an image that set-up, an exchange or the last tick left.
  *
@@ -288,11 +302,11 @@ uint32_t fosavalo_exchange(uint8_t *image, size_t image_len, const uint8_t *segm
  *
  * Returns 0 to 4. Unless it is 0 no byte of the image or the answer is changed; the input never is. Each pointer has to be good for
  * its length, whatever that is, and no two of the three buffers may overlap. */
-uint32_t fosavalo_tick(uint8_t *image, size_t image_len, const uint8_t *input, size_t input_len, uint8_t *answer, size_t answer_len);
+uint32_t fosavalo_tick(uint8_t *image, uint64_t image_len, const uint8_t *input, uint64_t input_len, uint8_t *answer, uint64_t answer_len);
 
 /* What a tick on this image, with an input and an answer of these lengths, would return: 0 to 4, by the lengths and the image alone.
  * Nothing is changed. For a caller that has a state of its own to keep in step. */
-uint32_t fosavalo_tick_refusal(const uint8_t *image, size_t image_len, size_t input_len, size_t answer_len);
+uint32_t fosavalo_tick_refusal(const uint8_t *image, uint64_t image_len, uint64_t input_len, uint64_t answer_len);
 
 /* One tick toward a route in place of the image's segment, which is not looked at and kept; image, input and answer are those of a tick.
  * Plain ticks and route ticks may follow each other in any order; the governor's time runs on over both.
@@ -305,7 +319,7 @@ uint32_t fosavalo_tick_refusal(const uint8_t *image, size_t image_len, size_t in
  * Returns 0 to 7. After 4 it is 6 for a route under 8 bytes, then 5, then 6, then 7. Unless it is 0 no byte of the image or the answer is
  * changed; the input and the route never are. Each pointer has to be good for its length, whatever that is, and no two of the four buffers
  * may overlap, but for the input and the route, which are only read. */
-uint32_t fosavalo_route_tick(uint8_t *image, size_t image_len, const uint8_t *input, size_t input_len, const uint8_t *route, size_t route_len, uint8_t *answer, size_t answer_len);
+uint32_t fosavalo_route_tick(uint8_t *image, uint64_t image_len, const uint8_t *input, uint64_t input_len, const uint8_t *route, uint64_t route_len, uint8_t *answer, uint64_t answer_len);
 
 /* A flight log is 0 to 65,535 records of 108 bytes, each a tick's input and then its answer, and behind them three words: the count, how many
  * bytes back from there the first record starts (108 times the count), and 108. It tells neither the thresholds nor the profile. A log of no record is
@@ -323,20 +337,20 @@ uint32_t fosavalo_route_tick(uint8_t *image, size_t image_len, const uint8_t *in
  * Returns 0; 2 or 3 if the input or the answer has not the length of a tick's; then 8; then 9. Unless it is 0 no byte is changed; the input
  * and the answer never are. Each pointer has to be good for its length, whatever that is (log_len may be anything), and the buffer must not
  * overlap the others. */
-uint32_t fosavalo_log_append(uint8_t *buffer, size_t buffer_len, uint64_t log_len, const uint8_t *input, size_t input_len, const uint8_t *answer, size_t answer_len);
+uint32_t fosavalo_log_append(uint8_t *buffer, uint64_t buffer_len, uint64_t log_len, const uint8_t *input, uint64_t input_len, const uint8_t *answer, uint64_t answer_len);
 
 /* How many records a log has: one word, little-endian, into the 4 bytes of count. The log is all log_len bytes.
  *
  * Returns 0; 2 if count_len is not 4; then 8. Unless it is 0 no byte is changed; the log never is. Each pointer has to be good for its length,
  * whatever that is, and the two buffers must not overlap. */
-uint32_t fosavalo_log_count(const uint8_t *log, size_t log_len, uint8_t *count, size_t count_len);
+uint32_t fosavalo_log_count(const uint8_t *log, uint64_t log_len, uint8_t *count, uint64_t count_len);
 
 /* The record at a place, counted from 0 in the order in which they were appended: a tick's input and then its answer. The log is all log_len
  * bytes.
  *
  * Returns 0; 14 if record_len is not FOSAVALO_RECORD_BYTES; then 8; then 13 if the place is at or beyond the count. Unless it is 0 no byte is
  * changed; the log never is. Each pointer has to be good for its length, whatever that is, and the two buffers must not overlap. */
-uint32_t fosavalo_log_record(const uint8_t *log, size_t log_len, uint64_t place, uint8_t *record, size_t record_len);
+uint32_t fosavalo_log_record(const uint8_t *log, uint64_t log_len, uint64_t place, uint8_t *record, uint64_t record_len);
 
 /* Whether a log, of any box that writes this form, is right: one word, little-endian, into the 4 bytes of verdict. It is FOSAVALO_LOG_RIGHT, or else the place of
  * the first wrong record, counted from 0.
@@ -349,7 +363,7 @@ uint32_t fosavalo_log_record(const uint8_t *log, size_t log_len, uint64_t place,
  * Returns 0; 2 if verdict_len is not 4; then 8; then 10. Unless it is 0 no byte is changed; the log never is. Each pointer has to be good for its length,
  * whatever that is, and the two buffers must not overlap. */
 #define FOSAVALO_LOG_RIGHT 0xffffffffu
-uint32_t fosavalo_log_check(const uint8_t *log, size_t log_len, uint32_t profile, float enter, float exit, uint8_t *verdict, size_t verdict_len);
+uint32_t fosavalo_log_check(const uint8_t *log, uint64_t log_len, uint32_t profile, float enter, float exit, uint8_t *verdict, uint64_t verdict_len);
 
 /* Who flies at each margin of a list, with no latch: for each the list is looked back through for a release with no later engagement, as those do who explain a
  * flight. The margins are words, as a record's last one; enter and exit are mended as at set-up; flags takes a byte for each margin, 1 the fallback and 0
@@ -358,7 +372,7 @@ uint32_t fosavalo_log_check(const uint8_t *log, size_t log_len, uint32_t profile
  *
  * Returns 0; or 9 if flags_len is above FOSAVALO_MOST_MARGINS or margins_len is not four times flags_len, and then no flag is written. An empty list
  * is 0. Each pointer has to be good for its length, whatever that is, and the two buffers must not overlap. */
-uint32_t fosavalo_flags(const uint8_t *margins, size_t margins_len, float enter, float exit, uint8_t *flags, size_t flags_len);
+uint32_t fosavalo_flags(const uint8_t *margins, uint64_t margins_len, float enter, float exit, uint8_t *flags, uint64_t flags_len);
 
 /* A pattern's legs in flown order, as a route. A pattern is items one after another, perhaps none: a leg is a byte 0 and a leg's 76 bytes; a repeat is a byte 1, a
  * count of 1 to 9, two bytes, the least first, of how many bytes it holds, and those bytes, a pattern again. Repeats stand inside repeats at most
@@ -368,7 +382,7 @@ uint32_t fosavalo_flags(const uint8_t *margins, size_t margins_len, float enter,
  * Returns 0; 2 if written_len is not 4; then 12; then 5 if no leg or more than FOSAVALO_MOST_LEGS are flown; then 9 if the route is longer than its buffer; then
  * 7 if two legs that are flown one after the other do not meet, also from one round of a repeat to the next. Unless it is 0 no byte is changed; the
  * pattern never is. Each pointer has to be good for its length, whatever that is, and the three buffers must not overlap. */
-uint32_t fosavalo_pattern_expand(const uint8_t *pattern, size_t pattern_len, uint8_t *route, size_t route_len, uint8_t *written, size_t written_len);
+uint32_t fosavalo_pattern_expand(const uint8_t *pattern, uint64_t pattern_len, uint8_t *route, uint64_t route_len, uint8_t *written, uint64_t written_len);
 
 #ifdef __cplusplus
 }

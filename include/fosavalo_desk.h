@@ -57,13 +57,13 @@ static inline const char *fosavalo_desk_meaning(uint32_t number) {
  *
  * Returns 0, 15 or 16. Unless it is 0 no byte is changed; the input never is. Each pointer has to be good for its length, whatever that is, and the two buffers
  * must not overlap. */
-uint32_t fosavalo_desk_setup(uint8_t *desk, size_t desk_len, const uint8_t *input, size_t input_len);
+uint32_t fosavalo_desk_setup(uint8_t *desk, uint64_t desk_len, const uint8_t *input, uint64_t input_len);
 
 /* The centre button: values and rates become 0, bandwidths and limits stay (a NaN is made 7fc00000). Nothing is stepped and nothing is flown: the next tick moves on
  * from there, so the heading it flies jumps to within a step of 0.
  *
  * Returns 0 or 15. Unless it is 0 no byte is changed. The pointer has to be good for its length, whatever that is. */
-uint32_t fosavalo_desk_centre(uint8_t *desk, size_t desk_len);
+uint32_t fosavalo_desk_centre(uint8_t *desk, uint64_t desk_len);
 
 /* One desk tick. Each stick's filter makes a step toward its stick, by the dt of the tick input as it stands there (the filter takes 1e-4 to 0.1 s, and 1e-3 for what
  * is no number); the values of the first two filters are written over the input's words FOSAVALO_TICK_YAW and FOSAVALO_TICK_YAW_RATE; and the core ticks on the input so
@@ -71,7 +71,7 @@ uint32_t fosavalo_desk_centre(uint8_t *desk, size_t desk_len);
  *
  * Returns 0; else 15, then 16, then what fosavalo_tick would return, 1 to 4. Unless it is 0 no byte of any buffer is changed; the sticks never are. Each pointer
  * has to be good for its length, whatever that is, and no two of the five buffers may overlap. */
-uint32_t fosavalo_desk_tick(uint8_t *desk, size_t desk_len, const uint8_t *sticks, size_t sticks_len, uint8_t *image, size_t image_len, uint8_t *input, size_t input_len, uint8_t *answer, size_t answer_len);
+uint32_t fosavalo_desk_tick(uint8_t *desk, uint64_t desk_len, const uint8_t *sticks, uint64_t sticks_len, uint8_t *image, uint64_t image_len, uint8_t *input, uint64_t input_len, uint8_t *answer, uint64_t answer_len);
 
 #ifdef __cplusplus
 }

@@ -307,7 +307,7 @@ fn stacks_on(run: &Run, route: &[u8]) -> Option<[usize; CALLS.len()]> {
     })
 }
 
-#[cfg(all(test, target_arch = "x86_64"))]
+#[cfg(all(test, any(target_arch = "x86_64", target_arch = "aarch64")))]
 mod tests {
     use super::*;
 

@@ -1,5 +1,5 @@
-//! How much of a long comparison is run: all of it, or the share that FOSAVALO_SHARE asks for, 10 for a tenth. `tools/as-x86-64` sets it where the
-//! programs run under an emulator. The right lengths are in every share, and so is all that is by hand.
+//! How much of a long comparison is run: all of it, or the share that FOSAVALO_SHARE asks for, 10 for a tenth, as between whole gates (`make quick`).
+//! The right lengths are in every share, and so is all that is by hand.
 
 use std::env::{var, VarError};
 use std::sync::OnceLock;

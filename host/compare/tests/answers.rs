@@ -125,12 +125,12 @@ fn the_flags_are_of_both_kinds() {
 
 /// What the proved program prints of a list.
 fn replayed(name: &str, list: &[u8]) -> Vec<String> {
-    let program = checkout::root().expect("a checkout").join("target/bin/replay");
+    let run = checkout::root().expect("a checkout").join("tools/run");
     let path = checkout::scratch(&format!("replayed-{name}")).join("list");
     fs::write(&path, list).expect("the list is written");
-    let run = Command::new(&program).stdin(File::open(&path).expect("the list is read")).output();
-    let printed = run.unwrap_or_else(|error| panic!("{}: {error}; `rt check replay` builds it", program.display())).stdout;
-    String::from_utf8(printed).expect("text").lines().map(str::to_string).collect()
+    let run = Command::new(run).arg("replay").stdin(File::open(&path).expect("the list is read")).output().expect("tools/run begins");
+    assert!(run.status.success(), "{}", String::from_utf8_lossy(&run.stderr));
+    String::from_utf8(run.stdout).expect("text").lines().map(str::to_string).collect()
 }
 
 /// Every row with one bit of its answer changed, in another word from row to row: each is named, and nothing else is.

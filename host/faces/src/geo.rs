@@ -12,6 +12,8 @@ pub struct Mat3(pub Vec3, pub Vec3, pub Vec3);
 #[derive(Clone, Copy, Debug)]
 pub struct Quat(pub f32, pub f32, pub f32, pub f32);
 
+by_place!(Mat3, Quat);
+
 structs! {
     /// A routine that refuses has `given` false, and zeros.
     AxisAnswer { given: bool, axis: Vec3 }

@@ -4,27 +4,84 @@
 //! The numbers of relay_math stand here; `geo`, `traj`, `adrc` and `pos` have the calls of those crates, a method `f` of a
 //! type `T` as `t_f`.
 
+/// How an argument is handed over: a number as itself, a struct by where it stands, so that every machine's rules for calls are alike.
+pub(crate) trait Given {
+    type Handed;
+    fn handed(&mut self) -> Self::Handed;
+}
+
+impl Given for f32 {
+    type Handed = f32;
+    fn handed(&mut self) -> f32 {
+        *self
+    }
+}
+
+impl<T> Given for &mut T {
+    type Handed = *mut T;
+    fn handed(&mut self) -> *mut T {
+        *self
+    }
+}
+
 /// Declares calls of the archive `probe`, each with a safe function of its own name without `probe_`.
 macro_rules! calls {
-    ($($symbol:ident = $name:ident($($given:ident: $kind:ty),*) -> $answer:ty;)*) => {
-        mod raw {
+    ($($symbol:ident = $name:ident($($given:ident: $kind:ty),*) -> $answer:ident;)*) => {
+        $(call! { $answer, $symbol = $name($($given: $kind),*) })*
+    };
+}
+
+/// One of them: a number or a flag is returned, any other answer is written where the first argument says.
+macro_rules! call {
+    (f32, $($call:tt)*) => { call! { plain f32, $($call)* } };
+    (bool, $($call:tt)*) => { call! { plain bool, $($call)* } };
+    (plain $answer:ident, $symbol:ident = $name:ident($($given:ident: $kind:ty),*)) => {
+        #[inline]
+        #[allow(unused_mut)]
+        pub fn $name($(mut $given: $kind),*) -> $answer {
             #[allow(unused_imports)]
-            use super::*;
+            use crate::Given;
             extern "C" {
-                $(pub fn $symbol($($given: $kind),*) -> $answer;)*
+                fn $symbol($($given: <$kind as Given>::Handed),*) -> $answer;
+            }
+            // SAFETY: numbers go in by value, structs are this function's own or are lent to it; the function is proved total.
+            unsafe { $symbol($($given.handed()),*) }
+        }
+    };
+    ($answer:ident, $symbol:ident = $name:ident($($given:ident: $kind:ty),*)) => {
+        #[inline]
+        #[allow(unused_mut)]
+        pub fn $name($(mut $given: $kind),*) -> $answer {
+            #[allow(unused_imports)]
+            use crate::Given;
+            extern "C" {
+                fn $symbol(answer: *mut $answer $(, $given: <$kind as Given>::Handed)*);
+            }
+            let mut answer = std::mem::MaybeUninit::uninit();
+            // SAFETY: as above; it writes the whole answer.
+            unsafe {
+                $symbol(answer.as_mut_ptr() $(, $given.handed())*);
+                answer.assume_init()
             }
         }
+    };
+}
+
+/// That structs are handed over by where they stand.
+macro_rules! by_place {
+    ($($name:ident),*) => {
         $(
-            #[inline]
-            pub fn $name($($given: $kind),*) -> $answer {
-                // SAFETY: numbers, flags and structs of them go in and out by value, or are lent for the call; the function is proved total.
-                unsafe { raw::$symbol($($given),*) }
+            impl crate::Given for $name {
+                type Handed = *mut $name;
+                fn handed(&mut self) -> *mut $name {
+                    self
+                }
             }
         )*
     };
 }
 
-/// Declares structs as the C face lays them out.
+/// Declares structs as the archive lays them out.
 macro_rules! structs {
     ($($(#[$note:meta])* $name:ident { $($field:ident: $kind:ty),* $(,)? })*) => {
         $(
@@ -35,6 +92,7 @@ macro_rules! structs {
                 $(pub $field: $kind,)*
             }
         )*
+        by_place!($($name),*);
     };
 }
 
@@ -61,6 +119,8 @@ pub struct BodyRate(pub Vec3);
 #[repr(C)]
 #[derive(Clone, Copy, Debug)]
 pub struct Torque(pub Vec3);
+
+by_place!(Vec3, BodyRate, Torque);
 
 mod raw {
     extern "C" {

@@ -15,6 +15,8 @@ structs! {
 #[derive(Clone, Copy, Debug)]
 pub struct Segment3(pub Quintic, pub Quintic, pub Quintic);
 
+by_place!(Segment3);
+
 calls! {
     probe_fin = fin(x: f32, fallback: f32) -> f32;
     probe_quintic_new = quintic_new(p0: f32, v0: f32, a0: f32, pf: f32, vf: f32, af: f32, t: f32) -> Quintic;

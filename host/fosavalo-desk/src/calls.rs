@@ -18,21 +18,22 @@
 //! assert_eq!(input[32..40], [0; 8]);
 //! ```
 
+// in the module a length is 64 bits wide, whatever an address is
 mod raw {
     extern "C" {
-        pub fn fosavalo_desk_setup(desk: *mut u8, desk_len: usize, input: *const u8, input_len: usize) -> u32;
-        pub fn fosavalo_desk_centre(desk: *mut u8, desk_len: usize) -> u32;
+        pub fn fosavalo_desk_setup(desk: *mut u8, desk_len: u64, input: *const u8, input_len: u64) -> u32;
+        pub fn fosavalo_desk_centre(desk: *mut u8, desk_len: u64) -> u32;
         pub fn fosavalo_desk_tick(
             desk: *mut u8,
-            desk_len: usize,
+            desk_len: u64,
             sticks: *const u8,
-            sticks_len: usize,
+            sticks_len: u64,
             image: *mut u8,
-            image_len: usize,
+            image_len: u64,
             input: *mut u8,
-            input_len: usize,
+            input_len: u64,
             answer: *mut u8,
-            answer_len: usize,
+            answer_len: u64,
         ) -> u32;
     }
 }
@@ -42,27 +43,27 @@ mod raw {
 pub fn setup(desk: &mut [u8], input: &[u8]) -> u32 {
     // SAFETY: each pointer goes with its slice's own length, the function is proved to stay within them, and borrowing keeps
     // the slices apart.
-    unsafe { raw::fosavalo_desk_setup(desk.as_mut_ptr(), desk.len(), input.as_ptr(), input.len()) }
+    unsafe { raw::fosavalo_desk_setup(desk.as_mut_ptr(), desk.len() as u64, input.as_ptr(), input.len() as u64) }
 }
 
 /// The centre button: it resets the filters and steps none. Gives 0 or 15.
 #[inline]
 pub fn centre(desk: &mut [u8]) -> u32 {
     // SAFETY: as above.
-    unsafe { raw::fosavalo_desk_centre(desk.as_mut_ptr(), desk.len()) }
+    unsafe { raw::fosavalo_desk_centre(desk.as_mut_ptr(), desk.len() as u64) }
 }
 
 /// One desk tick, which writes the heading and its rate into the input. Gives 0; 15, then 16, then 1 to 4.
 #[inline]
 pub fn tick(desk: &mut [u8], sticks: &[u8], image: &mut [u8], input: &mut [u8], answer: &mut [u8]) -> u32 {
-    let (desk_len, image_len, input_len, answer_len) = (desk.len(), image.len(), input.len(), answer.len());
+    let (desk_len, image_len, input_len, answer_len) = (desk.len() as u64, image.len() as u64, input.len() as u64, answer.len() as u64);
     // SAFETY: as above.
     unsafe {
         raw::fosavalo_desk_tick(
             desk.as_mut_ptr(),
             desk_len,
             sticks.as_ptr(),
-            sticks.len(),
+            sticks.len() as u64,
             image.as_mut_ptr(),
             image_len,
             input.as_mut_ptr(),

@@ -1,6 +1,7 @@
 //! The C header, by a program that is compiled and linked with both archives, in either order.
 
 use fosavalo_desk::Refusal;
+use std::env::consts::{ARCH, OS};
 use std::path::PathBuf;
 use std::process::Command;
 
@@ -20,7 +21,8 @@ fn beside_the_core_in_one_program() {
     let folder = std::env::temp_dir().join(format!("fosavalo-desk-{}", std::process::id()));
     std::fs::create_dir_all(&folder).expect("a folder for what is compiled");
     let (object, built) = (folder.join("desk.o"), folder.join("desk"));
-    let library = std::env::var_os("FOSAVALO_LIB_DIR").map_or(checkout().join("target/staticlib"), PathBuf::from);
+    let own = checkout().join("target/staticlib").join(format!("{ARCH}-{OS}"));
+    let library = std::env::var_os("FOSAVALO_LIB_DIR").map_or(own, PathBuf::from);
     let archives = ["libfosavalo.a", "libfosavalo_desk.a"].map(|name| library.join(name));
     let [core, desk] = &archives;
 

@@ -21,61 +21,55 @@ pub(crate) fn hidden(x: f32) -> f32 {
     unsafe { core::ptr::read_volatile(&x) }
 }
 
+// in the module a length is 64 bits wide, whatever an address is
 mod raw {
     extern "C" {
         pub fn fosavalo_version() -> u32;
         pub fn fosavalo_sinf(x: f32) -> f32;
         pub fn fosavalo_cosf(x: f32) -> f32;
-        pub fn fosavalo_setup(image: *mut u8, image_len: usize, input: *const u8, input_len: usize) -> u32;
-        pub fn fosavalo_exchange(image: *mut u8, image_len: usize, segment: *const u8, segment_len: usize) -> u32;
-        pub fn fosavalo_tick(
-            image: *mut u8,
-            image_len: usize,
-            input: *const u8,
-            input_len: usize,
-            answer: *mut u8,
-            answer_len: usize,
-        ) -> u32;
+        pub fn fosavalo_setup(image: *mut u8, image_len: u64, input: *const u8, input_len: u64) -> u32;
+        pub fn fosavalo_exchange(image: *mut u8, image_len: u64, segment: *const u8, segment_len: u64) -> u32;
+        pub fn fosavalo_tick(image: *mut u8, image_len: u64, input: *const u8, input_len: u64, answer: *mut u8, answer_len: u64) -> u32;
         pub fn fosavalo_route_tick(
             image: *mut u8,
-            image_len: usize,
+            image_len: u64,
             input: *const u8,
-            input_len: usize,
+            input_len: u64,
             route: *const u8,
-            route_len: usize,
+            route_len: u64,
             answer: *mut u8,
-            answer_len: usize,
+            answer_len: u64,
         ) -> u32;
-        pub fn fosavalo_tick_refusal(image: *const u8, image_len: usize, input_len: usize, answer_len: usize) -> u32;
+        pub fn fosavalo_tick_refusal(image: *const u8, image_len: u64, input_len: u64, answer_len: u64) -> u32;
         pub fn fosavalo_log_append(
             buffer: *mut u8,
-            buffer_len: usize,
+            buffer_len: u64,
             log_len: u64,
             input: *const u8,
-            input_len: usize,
+            input_len: u64,
             answer: *const u8,
-            answer_len: usize,
+            answer_len: u64,
         ) -> u32;
-        pub fn fosavalo_log_count(log: *const u8, log_len: usize, count: *mut u8, count_len: usize) -> u32;
-        pub fn fosavalo_log_record(log: *const u8, log_len: usize, place: u64, record: *mut u8, record_len: usize) -> u32;
+        pub fn fosavalo_log_count(log: *const u8, log_len: u64, count: *mut u8, count_len: u64) -> u32;
+        pub fn fosavalo_log_record(log: *const u8, log_len: u64, place: u64, record: *mut u8, record_len: u64) -> u32;
         pub fn fosavalo_log_check(
             log: *const u8,
-            log_len: usize,
+            log_len: u64,
             profile: u32,
             enter: f32,
             exit: f32,
             verdict: *mut u8,
-            verdict_len: usize,
+            verdict_len: u64,
         ) -> u32;
         pub fn fosavalo_pattern_expand(
             pattern: *const u8,
-            pattern_len: usize,
+            pattern_len: u64,
             route: *mut u8,
-            route_len: usize,
+            route_len: u64,
             written: *mut u8,
-            written_len: usize,
+            written_len: u64,
         ) -> u32;
-        pub fn fosavalo_flags(margins: *const u8, margins_len: usize, enter: f32, exit: f32, flags: *mut u8, flags_len: usize) -> u32;
+        pub fn fosavalo_flags(margins: *const u8, margins_len: u64, enter: f32, exit: f32, flags: *mut u8, flags_len: u64) -> u32;
     }
 }
 
@@ -120,7 +114,7 @@ pub fn cosf(x: f32) -> f32 {
 pub fn setup(image: &mut [u8], input: &[u8]) -> u32 {
     // SAFETY: each pointer goes with its slice's own length, the function is proved to stay within them, and borrowing keeps
     // the slices apart.
-    unsafe { raw::fosavalo_setup(image.as_mut_ptr(), image.len(), input.as_ptr(), input.len()) }
+    unsafe { raw::fosavalo_setup(image.as_mut_ptr(), image.len() as u64, input.as_ptr(), input.len() as u64) }
 }
 
 /// Another segment in flight, from a leg's 76 bytes. Gives 0, 1, 2 or 4.
@@ -137,14 +131,23 @@ pub fn setup(image: &mut [u8], input: &[u8]) -> u32 {
 #[inline]
 pub fn exchange(image: &mut [u8], segment: &[u8]) -> u32 {
     // SAFETY: as above.
-    unsafe { raw::fosavalo_exchange(image.as_mut_ptr(), image.len(), segment.as_ptr(), segment.len()) }
+    unsafe { raw::fosavalo_exchange(image.as_mut_ptr(), image.len() as u64, segment.as_ptr(), segment.len() as u64) }
 }
 
 /// One joint tick. Gives 0 to 4.
 #[inline]
 pub fn tick(image: &mut [u8], input: &[u8], answer: &mut [u8]) -> u32 {
     // SAFETY: as above.
-    unsafe { raw::fosavalo_tick(image.as_mut_ptr(), image.len(), input.as_ptr(), input.len(), answer.as_mut_ptr(), answer.len()) }
+    unsafe {
+        raw::fosavalo_tick(
+            image.as_mut_ptr(),
+            image.len() as u64,
+            input.as_ptr(),
+            input.len() as u64,
+            answer.as_mut_ptr(),
+            answer.len() as u64,
+        )
+    }
 }
 
 /// One joint tick toward a route in place of the image's segment. Gives 0 to 7.
@@ -160,16 +163,16 @@ pub fn tick(image: &mut [u8], input: &[u8], answer: &mut [u8]) -> u32 {
 /// ```
 #[inline]
 pub fn route_tick(image: &mut [u8], input: &[u8], route: &[u8], answer: &mut [u8]) -> u32 {
-    let (image_len, answer_len) = (image.len(), answer.len());
+    let (image_len, answer_len) = (image.len() as u64, answer.len() as u64);
     // SAFETY: as above.
     unsafe {
         raw::fosavalo_route_tick(
             image.as_mut_ptr(),
             image_len,
             input.as_ptr(),
-            input.len(),
+            input.len() as u64,
             route.as_ptr(),
-            route.len(),
+            route.len() as u64,
             answer.as_mut_ptr(),
             answer_len,
         )
@@ -187,7 +190,7 @@ pub fn route_tick(image: &mut [u8], input: &[u8], route: &[u8], answer: &mut [u8
 #[inline]
 pub fn tick_refusal(image: &[u8], input_len: usize, answer_len: usize) -> u32 {
     // SAFETY: as above.
-    unsafe { raw::fosavalo_tick_refusal(image.as_ptr(), image.len(), input_len, answer_len) }
+    unsafe { raw::fosavalo_tick_refusal(image.as_ptr(), image.len() as u64, input_len as u64, answer_len as u64) }
 }
 
 /// Appends a tick's input and its answer to the log in the first `log_len` bytes of the buffer, which is then 108 bytes longer; no other byte
@@ -206,10 +209,18 @@ pub fn tick_refusal(image: &[u8], input_len: usize, answer_len: usize) -> u32 {
 /// ```
 #[inline]
 pub fn log_append(buffer: &mut [u8], log_len: u64, input: &[u8], answer: &[u8]) -> u32 {
-    let buffer_len = buffer.len();
+    let buffer_len = buffer.len() as u64;
     // SAFETY: as above.
     unsafe {
-        raw::fosavalo_log_append(buffer.as_mut_ptr(), buffer_len, log_len, input.as_ptr(), input.len(), answer.as_ptr(), answer.len())
+        raw::fosavalo_log_append(
+            buffer.as_mut_ptr(),
+            buffer_len,
+            log_len,
+            input.as_ptr(),
+            input.len() as u64,
+            answer.as_ptr(),
+            answer.len() as u64,
+        )
     }
 }
 
@@ -224,7 +235,7 @@ pub fn log_append(buffer: &mut [u8], log_len: u64, input: &[u8], answer: &[u8]) 
 #[inline]
 pub fn log_count(log: &[u8], count: &mut [u8]) -> u32 {
     // SAFETY: as above.
-    unsafe { raw::fosavalo_log_count(log.as_ptr(), log.len(), count.as_mut_ptr(), count.len()) }
+    unsafe { raw::fosavalo_log_count(log.as_ptr(), log.len() as u64, count.as_mut_ptr(), count.len() as u64) }
 }
 
 /// The record at a place, counted from 0, into 108 bytes. Gives 0, 8, 13 or 14.
@@ -238,7 +249,7 @@ pub fn log_count(log: &[u8], count: &mut [u8]) -> u32 {
 #[inline]
 pub fn log_record(log: &[u8], place: u64, record: &mut [u8]) -> u32 {
     // SAFETY: as above.
-    unsafe { raw::fosavalo_log_record(log.as_ptr(), log.len(), place, record.as_mut_ptr(), record.len()) }
+    unsafe { raw::fosavalo_log_record(log.as_ptr(), log.len() as u64, place, record.as_mut_ptr(), record.len() as u64) }
 }
 
 /// Whether every record of a log is right, into four bytes: [`LOG_RIGHT`](crate::LOG_RIGHT), or the place of the first that is not, counted from 0. The profile is
@@ -256,7 +267,7 @@ pub fn log_record(log: &[u8], place: u64, record: &mut [u8]) -> u32 {
 #[inline]
 pub fn log_check(log: &[u8], profile: u32, enter: f32, exit: f32, verdict: &mut [u8]) -> u32 {
     // SAFETY: as above.
-    unsafe { raw::fosavalo_log_check(log.as_ptr(), log.len(), profile, enter, exit, verdict.as_mut_ptr(), verdict.len()) }
+    unsafe { raw::fosavalo_log_check(log.as_ptr(), log.len() as u64, profile, enter, exit, verdict.as_mut_ptr(), verdict.len() as u64) }
 }
 
 /// Who flies at each margin of a list, by looking back: margins as words in, a byte for each out, 1 the fallback and 0 the planner. Gives 0 or 9.
@@ -271,7 +282,7 @@ pub fn log_check(log: &[u8], profile: u32, enter: f32, exit: f32, verdict: &mut 
 #[inline]
 pub fn flags(margins: &[u8], enter: f32, exit: f32, flags: &mut [u8]) -> u32 {
     // SAFETY: as above.
-    unsafe { raw::fosavalo_flags(margins.as_ptr(), margins.len(), enter, exit, flags.as_mut_ptr(), flags.len()) }
+    unsafe { raw::fosavalo_flags(margins.as_ptr(), margins.len() as u64, enter, exit, flags.as_mut_ptr(), flags.len() as u64) }
 }
 
 /// Expands a pattern: its legs in the order in which they are flown, as a route in the first bytes of the buffer, whose other bytes stay; the route's
@@ -293,9 +304,16 @@ pub fn flags(margins: &[u8], enter: f32, exit: f32, flags: &mut [u8]) -> u32 {
 /// ```
 #[inline]
 pub fn pattern_expand(pattern: &[u8], route: &mut [u8], written: &mut [u8]) -> u32 {
-    let (route_len, written_len) = (route.len(), written.len());
+    let (route_len, written_len) = (route.len() as u64, written.len() as u64);
     // SAFETY: as above.
     unsafe {
-        raw::fosavalo_pattern_expand(pattern.as_ptr(), pattern.len(), route.as_mut_ptr(), route_len, written.as_mut_ptr(), written_len)
+        raw::fosavalo_pattern_expand(
+            pattern.as_ptr(),
+            pattern.len() as u64,
+            route.as_mut_ptr(),
+            route_len,
+            written.as_mut_ptr(),
+            written_len,
+        )
     }
 }

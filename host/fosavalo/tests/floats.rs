@@ -1,21 +1,84 @@
 //! Floating-point environments that the core does not compute in: each is told, and nothing is made or changed.
-#![cfg(target_arch = "x86_64")]
+#![cfg(any(target_arch = "x86_64", target_arch = "aarch64"))]
 
 use fosavalo::{calls, looked_back, FloatFault, GyroFilter, Image, Leg, Log, Profile, Refusal, Route, SetUp, TickInput, IMAGE_BYTES};
-use std::arch::asm;
+use unit::{control, load, FLUSHED, WRONG};
 
-/// The bits of MXCSR: operands that are subnormal count as zero, results that are become zero, and the direction of rounding.
-const OPERANDS: u32 = 1 << 6;
-const RESULTS: u32 = 1 << 15;
-const DOWN: u32 = 1 << 13;
-const UP: u32 = 2 << 13;
-const TO_ZERO: u32 = 3 << 13;
+/// The processor's word for it, MXCSR.
+#[cfg(target_arch = "x86_64")]
+mod unit {
+    use fosavalo::FloatFault;
+    use std::arch::asm;
 
-fn control() -> u32 {
-    let mut word = 0u32;
-    // SAFETY: it writes the four bytes.
-    unsafe { asm!("stmxcsr [{}]", in(reg) &mut word, options(nostack)) };
-    word
+    /// Operands that are subnormal count as zero, results that are become zero, and the direction of rounding.
+    const OPERANDS: u32 = 1 << 6;
+    const RESULTS: u32 = 1 << 15;
+    const DOWN: u32 = 1 << 13;
+    const UP: u32 = 2 << 13;
+    const TO_ZERO: u32 = 3 << 13;
+
+    /// Subnormal operands count as zero.
+    pub const FLUSHED: u32 = OPERANDS;
+
+    pub const WRONG: [(u32, FloatFault); 9] = [
+        (DOWN, FloatFault::Rounding),
+        (UP, FloatFault::Rounding),
+        (TO_ZERO, FloatFault::Rounding),
+        (OPERANDS, FloatFault::Subnormals),
+        (RESULTS, FloatFault::Subnormals),
+        (OPERANDS | RESULTS, FloatFault::Subnormals),
+        (DOWN | RESULTS, FloatFault::Both),
+        (UP | OPERANDS, FloatFault::Both),
+        (TO_ZERO | OPERANDS | RESULTS, FloatFault::Both),
+    ];
+
+    pub fn control() -> u32 {
+        let mut word = 0u32;
+        // SAFETY: it writes the four bytes.
+        unsafe { asm!("stmxcsr [{}]", in(reg) &mut word, options(nostack)) };
+        word
+    }
+
+    pub fn load(word: u32) {
+        // SAFETY: every bit set is one that the processor has. No float is worked out in Rust until the old word is back.
+        unsafe { asm!("ldmxcsr [{}]", in(reg) &word, options(nostack)) };
+    }
+}
+
+/// FPCR. One bit is for operands and results; of 32-bit Arm's FPSCR these bits are the same ones.
+#[cfg(target_arch = "aarch64")]
+mod unit {
+    use fosavalo::FloatFault;
+    use std::arch::asm;
+
+    const UP: u32 = 1 << 22;
+    const DOWN: u32 = 2 << 22;
+    const TO_ZERO: u32 = 3 << 22;
+
+    /// Subnormal operands count as zero, and results that are become zero.
+    pub const FLUSHED: u32 = 1 << 24;
+
+    pub const WRONG: [(u32, FloatFault); 7] = [
+        (DOWN, FloatFault::Rounding),
+        (UP, FloatFault::Rounding),
+        (TO_ZERO, FloatFault::Rounding),
+        (FLUSHED, FloatFault::Subnormals),
+        (DOWN | FLUSHED, FloatFault::Both),
+        (UP | FLUSHED, FloatFault::Both),
+        (TO_ZERO | FLUSHED, FloatFault::Both),
+    ];
+
+    pub fn control() -> u32 {
+        let word: u64;
+        // SAFETY: it is only read.
+        unsafe { asm!("mrs {}, fpcr", out(reg) word, options(nostack)) };
+        word as u32
+    }
+
+    pub fn load(word: u32) {
+        // SAFETY: as on x86-64.
+        unsafe { asm!("msr fpcr, {}", in(reg) u64::from(word), options(nostack)) };
+    }
 }
 
 /// This thread's environment for as long as it lives.
@@ -24,19 +87,14 @@ struct Set(u32);
 impl Set {
     fn with(bits: u32) -> Self {
         let before = control();
-        Set::load(before | bits);
+        load(before | bits);
         Set(before)
-    }
-
-    fn load(word: u32) {
-        // SAFETY: every bit set is one that the processor has. No float is worked out in Rust until the old word is back.
-        unsafe { asm!("ldmxcsr [{}]", in(reg) &word, options(nostack)) };
     }
 }
 
 impl Drop for Set {
     fn drop(&mut self) {
-        Set::load(self.0);
+        load(self.0);
     }
 }
 
@@ -48,18 +106,6 @@ fn under<T>(bits: u32, what: impl FnOnce() -> T) -> (T, Result<(), FloatFault>) 
     drop(set);
     (given, said)
 }
-
-const WRONG: [(u32, FloatFault); 9] = [
-    (DOWN, FloatFault::Rounding),
-    (UP, FloatFault::Rounding),
-    (TO_ZERO, FloatFault::Rounding),
-    (OPERANDS, FloatFault::Subnormals),
-    (RESULTS, FloatFault::Subnormals),
-    (OPERANDS | RESULTS, FloatFault::Subnormals),
-    (DOWN | RESULTS, FloatFault::Both),
-    (UP | OPERANDS, FloatFault::Both),
-    (TO_ZERO | OPERANDS | RESULTS, FloatFault::Both),
-];
 
 #[test]
 fn every_wrong_environment_is_told() {
@@ -82,7 +128,7 @@ fn the_core_is_another_there() {
         image
     };
     let right = image(0);
-    for bits in [OPERANDS, RESULTS, DOWN, UP, TO_ZERO] {
+    for (bits, _) in WRONG {
         assert!(image(bits) != right, "{bits:x}");
     }
 }
@@ -121,14 +167,14 @@ fn legs_that_only_seem_to_meet() {
     let rest = SetUp::falcon_quad().segment;
     let near = Leg { p0: [f32::from_bits(1), 0.0, 0.0], ..rest };
     assert_eq!(Route::new(&[rest, rest, near]), Err(Refusal::LegsApart(Some(2))));
-    assert_eq!(under(OPERANDS, || Route::new(&[rest, near])).0, Err(Refusal::Floats(FloatFault::Subnormals)));
+    assert_eq!(under(FLUSHED, || Route::new(&[rest, near])).0, Err(Refusal::Floats(FloatFault::Subnormals)));
 }
 
 /// A thread has its own.
 #[test]
 fn the_thread_that_ticks_is_asked() {
     let mut image = Image::set_up(&SetUp::falcon_quad()).expect("the environment is right");
-    let elsewhere = std::thread::spawn(move || under(RESULTS, || image.tick(&TickInput::default()).err()).0);
+    let elsewhere = std::thread::spawn(move || under(FLUSHED, || image.tick(&TickInput::default()).err()).0);
     assert_eq!(elsewhere.join().ok(), Some(Some(Refusal::Floats(FloatFault::Subnormals))));
     assert_eq!(FloatFault::check(), Ok(()));
 }

@@ -2,6 +2,7 @@
 #include "fosavalo_desk.h"
 
 #include <stdio.h>
+#include <string.h>
 
 static void put(uint8_t *bytes, size_t at, float x) { memcpy(bytes + 4 * at, &x, 4); }
 

@@ -1,16 +1,33 @@
 /* What the header tells of the floating-point environment as the program was started, in each direction of rounding, and with each of the processor's
- * two bits that lose subnormal numbers; then the thresholds that set-up keeps of a subnormal enter, and of no exit. */
+ * bits that lose subnormal numbers; then the thresholds that set-up keeps of a subnormal enter, and of no exit. */
 #include "fosavalo.h"
 
 #include <fenv.h>
 #include <stdio.h>
-#include <xmmintrin.h>
+#include <string.h>
 
-static uint32_t told_with(unsigned bit) {
-    unsigned before = _mm_getcsr();
-    _mm_setcsr(before | bit);
+#ifdef __aarch64__
+/* FPCR's one bit, for operands and results */
+static const uint32_t losing[] = {1u << 24};
+static uint32_t control(void) {
+    uint64_t word;
+    __asm__ volatile("mrs %0, fpcr" : "=r"(word) : : "memory");
+    return (uint32_t)word;
+}
+static void load(uint32_t word) { __asm__ volatile("msr fpcr, %0" : : "r"((uint64_t)word) : "memory"); }
+#else
+#include <xmmintrin.h>
+/* MXCSR's two, for operands and for results */
+static const uint32_t losing[] = {1u << 6, 1u << 15};
+static uint32_t control(void) { return _mm_getcsr(); }
+static void load(uint32_t word) { _mm_setcsr(word); }
+#endif
+
+static uint32_t told_with(uint32_t bit) {
+    uint32_t before = control();
+    load(before | bit);
     uint32_t wrong = fosavalo_float_environment();
-    _mm_setcsr(before);
+    load(before);
     return wrong;
 }
 
@@ -35,8 +52,8 @@ int main(void) {
 
     uint32_t first = fosavalo_float_environment();
     uint32_t up = told(FE_UPWARD), down = told(FE_DOWNWARD), zero = told(FE_TOWARDZERO), nearest = told(FE_TONEAREST);
-    printf("%u, %u %u %u %u", (unsigned)first, (unsigned)up, (unsigned)down, (unsigned)zero, (unsigned)nearest);
-    printf(", %u %u", (unsigned)told_with(1u << 6), (unsigned)told_with(1u << 15));
+    printf("%u, %u %u %u %u,", (unsigned)first, (unsigned)up, (unsigned)down, (unsigned)zero, (unsigned)nearest);
+    for (size_t k = 0; k < sizeof losing / sizeof losing[0]; k++) printf(" %u", (unsigned)told_with(losing[k]));
     if (fosavalo_setup(image, sizeof image, input, sizeof input) != FOSAVALO_DONE) return 1;
     printf(", %08x %08x\n", word(image, FOSAVALO_IMAGE_ENTER), word(image, FOSAVALO_IMAGE_EXIT));
     return 0;

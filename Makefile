@@ -14,7 +14,11 @@
 #                  `make expand FILE=host/fly/scenarios/loop.txt` (docs/FLYING.md); OUT as above
 # make choices     the pass with other choices of set, filter and noise: what hangs on them
 # make test        the gate: proofs, must-fail edits, programs, the host's comparisons; its last line is `N passed, 0 failed`.
-#                  What the prover says is kept in gate/. On an Arm machine it may end with `, M skipped` (README.md)
+#                  What the prover says is kept in gate/. Where an emulator cannot be had it ends with `, M skipped` (README.md)
+# make quick       between whole gates: the libraries that changed and those above them are proved, the host takes a tenth of its cases; its last line
+#                  says what it left out
+# make edits       every must-fail edit by the toolchain's own way, each with its whole crate proved anew (some forty minutes); `make edits CRATE=calls`
+#                  has those of one crate
 # make table       roots, sines and cosines beside the hardware's and document 01's
 # make exhaustive  every f32 (some minutes)
 # make routines    every routine beside the Rust's, ROWS rows of input each: `make routines ROWS=100000000` (without it, the gate's million)
@@ -22,56 +26,66 @@
 #                  then half as many, mixed with ticks on routes
 # make answers     makes the oracle's stored answers again, which the program `replay` runs (docs/ORACLE.md)
 # make bench       times, as ratios to the other side in one run; `make bench BEFORE=../old/libfosavalo.a` has an earlier archive's tick beside ours;
-#                  on a machine that is no x86-64 what is timed is the core compiled for that machine
+#                  that archive has to be for this machine
 # make stack       the stack that each C call takes, painted and looked at on the compiled archive
-# make core        proves the core and the desk above it and builds their archives, target/staticlib/libfosavalo.a and libfosavalo_desk.a; where nothing
-#                  changed, nothing is proved
-# make archives    these, and the archive of the test face
-# make dist        what a simulator links without the toolchain, in dist/ and there as a tar: archive, header, fosavalo.pc, licence, checksums
+# make core        proves the core and the desk above it and makes their archives for this machine and for x86-64, libfosavalo.a and libfosavalo_desk.a in
+#                  target/staticlib/TARGET/; where nothing changed, nothing is proved
+# make archives    these, and this machine's archive of the test face
+# make targets     the archives of all five targets, of the same proved modules, and each driven with the same calls: x86-64, aarch64, riscv64, Cortex-M
+#                  and WebAssembly. What runs another machine's code is installed as gnuplot is (INSTALL=no)
+# make dist        what links without the toolchain, for every target, in dist/ and there as a tar: archives, headers, .pc files, the modules of
+#                  WebAssembly with their JavaScript, licence, checksums
 # make docs        the safe crates' pages, host/target/doc/fosavalo/index.html and fosavalo_desk beside it
 # make map         docs/MAP.md and docs/PROMISES.md anew, from the sources
 # make clean       removes all that was built, and no flight
 # make help        these lines
-.PHONY: fly log explain check expand choices test table archives core exhaustive routines ticks answers bench stack dist docs map clean help
+.PHONY: fly log explain check expand choices test quick edits table archives targets core exhaustive routines ticks answers bench stack dist docs map clean help
 
-# the archives are for x86-64, and so is what links them (tools/as-x86-64)
-CARGO = "$(CURDIR)/tools/as-x86-64" cargo
-HOST = cd host && $(CARGO)
+HOST = cd host && cargo
 
 fly: core
-	@$(CARGO) build --manifest-path host/Cargo.toml --release --offline --package fly
-	@INSTALL=$(INSTALL) tools/gnuplot
+	@cargo build --manifest-path host/Cargo.toml --release --offline --package fly
+	@INSTALL=$(INSTALL) tools/have gnuplot gnuplot-nox 'The picture' || true
 	@echo && host/target/release/fly $(if $(SCENARIO),"$(SCENARIO)") $(if $(OUT),--out "$(OUT)")
 
 log: core
-	@$(CARGO) build --manifest-path host/Cargo.toml --release --offline --quiet --package fly
-	@INSTALL=$(INSTALL) tools/gnuplot
+	@cargo build --manifest-path host/Cargo.toml --release --offline --quiet --package fly
+	@INSTALL=$(INSTALL) tools/have gnuplot gnuplot-nox 'The picture' || true
 	@host/target/release/log $(if $(FILE),"$(FILE)") $(if $(ENTER),--enter "$(ENTER)") $(if $(EXIT),--exit "$(EXIT)") $(if $(OUT),--out "$(OUT)")
 
 explain: core
-	@$(CARGO) build --manifest-path host/Cargo.toml --release --offline --quiet --package fly
+	@cargo build --manifest-path host/Cargo.toml --release --offline --quiet --package fly
 	@host/target/release/explain $(if $(FILE),"$(FILE)") $(if $(ENTER),--enter "$(ENTER)") $(if $(EXIT),--exit "$(EXIT)") $(if $(filter yes,$(CSV)),--csv)
 
 check: core
-	@$(CARGO) build --manifest-path host/Cargo.toml --release --offline --quiet --package fly
+	@cargo build --manifest-path host/Cargo.toml --release --offline --quiet --package fly
 	@host/target/release/check $(LOGS) $(if $(ENTER),--enter "$(ENTER)") $(if $(EXIT),--exit "$(EXIT)") $(if $(PROFILE),--profile "$(PROFILE)")
 
 expand: core
-	@$(CARGO) build --manifest-path host/Cargo.toml --release --offline --quiet --package fly
+	@cargo build --manifest-path host/Cargo.toml --release --offline --quiet --package fly
 	@host/target/release/expand $(if $(FILE),"$(FILE)") $(if $(OUT),--out "$(OUT)")
 
 choices: core
-	@$(CARGO) build --manifest-path host/Cargo.toml --release --offline --quiet --package fly
+	@cargo build --manifest-path host/Cargo.toml --release --offline --quiet --package fly
 	@host/target/release/fly --choices
 
 test:
 	@tools/gate
+
+quick:
+	@tools/gate quick
+
+edits:
+	@tools/edits --plain $(CRATE)
 
 core:
 	@tools/archives fosavalo fosavalo_desk
 
 archives:
 	@tools/archives
+
+targets:
+	@INSTALL=$(INSTALL) tools/targets
 
 table: archives
 	@$(HOST) run --release --offline --quiet --bin table
@@ -92,9 +106,9 @@ bench:
 	@tools/bench $(if $(BEFORE),"$(abspath $(BEFORE))")
 
 stack: archives
-	@export FOSAVALO_SHARE=1 && $(HOST) run --release --offline --quiet --bin bench stack
+	@$(HOST) run --release --offline --quiet --bin bench stack
 
-dist: core
+dist:
 	@tools/dist
 
 docs: core

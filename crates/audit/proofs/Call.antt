@@ -1,32 +1,11 @@
 -- Request Ten on bytes: what the call writes and when it is refused. Assumes nothing.
-use Prim.Native.Nat.{ℕ, _<_, _≤_}
-use mathlib.Core.Path.{_≡_, refl, sym, ap, _∙_}
-use mathlib.Core.Logic.{_↔_}
-use mathlib.Core.Bool.{true, false}
-use mathlib.Core.List.{List, [], _∷_}
-use native.Mathlib.Nat.{mod-eq-of-lt}
-use native.Mathlib.Omega.{arith}
-use lib.Dec.{T, lit<}
-use lib.Ieee.{Float, binary32, fits, lt}
-use lib.ListN.{length}
-use Rattle.words.specs.Words.{word, bytesOf}
-use Rattle.words.proofs.Back.{word-bytesOf}
-use Rattle.relay_geo.specs.declared.shield.Thresholds.{Thresholds}
-use Rattle.relay_geo.specs.Shield.{mend}
-use Rattle.relay_geo.proofs.SetUp.{enter-below-exit}
-use Rattle.joint_tick.specs.declared.profile.Profile.{Profile}
-use Rattle.joint_tick.specs.Profile.{isProfile, profileOf}
-use Rattle.outcome.specs.declared.Outcome.the-variants.{Done, BrokenLog, PassThrough}
-use Rattle.outcome.specs.Outcomes.{firstOf, left, Filled}
-use Rattle.outcome.proofs.Tables.{never-given}
-use Rattle.log.specs.Form.{MOST-RECORDS, isLog}
-use Rattle.log.specs.Records.{records}
-use Rattle.log.proofs.Taken.{is-a-log}
-use Rattle.log.proofs.Reading.{records-count}
-use Rattle.audit.specs.declared.Verdict.{Verdict}
-use Rattle.audit.specs.declared.Verdict.the-variants.{AllRight, FirstWrong}
-use Rattle.audit.specs.Verdict.{verdictOf, verdictWord, Says}
-use Rattle.audit.specs.Entry.{verdictOn, checkTable, checkCall}
+use Rattle.laws.proofs.Prelude.{ℕ, _<_, _≤_, _≡_, refl, sym, ap, _∙_, _↔_, true, false, List, [], _∷_, mod-eq-of-lt, arith, T, lit<, Float, binary32, fits, lt, length}
+use Rattle.words.{specs.Words.{word, bytesOf}, proofs.Back.word-bytesOf}
+use Rattle.relay_geo.{specs.{declared.shield.Thresholds.Thresholds, Shield.mend}, proofs.SetUp.enter-below-exit}
+use Rattle.joint_tick.specs.{declared.profile.Profile.Profile, Profile.{isProfile, profileOf}}
+use Rattle.outcome.{specs.{declared.Outcome.the-variants.{Done, BrokenLog, PassThrough}, Outcomes.{firstOf, left, Filled}}, proofs.Tables.never-given}
+use Rattle.log.{specs.{Form.{MOST-RECORDS, isLog}, Records.records}, proofs.{Taken.is-a-log, Reading.records-count}}
+use Rattle.audit.specs.{declared.Verdict.{Verdict, the-variants.{AllRight, FirstWrong}}, Verdict.{verdictOf, verdictWord, Says}, Entry.{verdictOn, checkTable, checkCall}}
 use Rattle.audit.proofs.Said.{verdict-says}
 
 -- thresholds as set-up mends them are in order

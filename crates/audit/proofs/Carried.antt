@@ -1,20 +1,9 @@
 -- The flag carried along a list of records, as the shield does: if each is right by it, the verdict is "all right". Assumes nothing.
-use Prim.Native.Nat.{ℕ, zero, suc, _<_}
-use mathlib.Core.Path.{_≡_, refl, sym, ap, _∙_}
-use mathlib.Core.Bool.{Bool, true, false}
-use mathlib.Core.List.{List, [], _∷_}
-use native.Mathlib.Nat.{le-of-suc-le-suc}
-use native.Mathlib.Omega.{arith}
-use lib.Ieee.{Float, lt}
-use lib.ListN.{length, getD, take, length-map}
-use Rattle.latch.specs.Latch.{latch, after}
-use Rattle.latch.proofs.LatchFlies.{flag-from, flag-flies-at}
+use Rattle.laws.proofs.Prelude.{ℕ, zero, suc, _<_, _≡_, refl, sym, ap, _∙_, Bool, true, false, List, [], _∷_, le-of-suc-le-suc, arith, Float, lt, length, getD, take, length-map}
+use Rattle.latch.{specs.Latch.{latch, after}, proofs.LatchFlies.{flag-from, flag-flies-at}}
 use Rattle.joint_tick.specs.declared.profile.Profile.{Profile}
-use Rattle.slow.specs.Back.{lookBack}
-use Rattle.slow.proofs.Slow.{looks-back}
-use Rattle.audit.specs.declared.Verdict.the-variants.{AllRight}
-use Rattle.audit.specs.Right.{marginIn, marginsIn, right, rightAt}
-use Rattle.audit.specs.Verdict.{verdictOf}
+use Rattle.slow.{specs.Back.lookBack, proofs.Slow.looks-back}
+use Rattle.audit.specs.{declared.Verdict.the-variants.AllRight, Right.{marginIn, marginsIn, right, rightAt}, Verdict.verdictOf}
 use Rattle.audit.proofs.Said.{verdict-says}
 
 -- each record is right by the latch of its margin, from a flag on

@@ -1,17 +1,10 @@
 -- The verdict at work, with thresholds 0.5 and 1: each line of the rule can make a record wrong. Assumes nothing.
-use mathlib.Core.Path.{_≡_, refl}
-use mathlib.Core.List.{List, [], _∷_, _++_}
-use Prim.Native.Nat.{ℕ}
-use lib.Ieee.{lt, ofBits, toBits}
-use lib.ListN.{replicate}
+use Rattle.laws.proofs.Prelude.{_≡_, refl, List, [], _∷_, _++_, ℕ, lt, ofBits, toBits, replicate}
 use Rattle.relay_math.specs.F32.{0·5, 1·0, isFinite}
 use Rattle.words.specs.Words.{word, float, bytesOf}
 use Rattle.joint_tick.specs.declared.profile.Profile.the-variants.{Whole}
 use Rattle.slow.specs.Back.{lookBack}
-use Rattle.audit.specs.declared.Verdict.{Verdict}
-use Rattle.audit.specs.declared.Verdict.the-variants.{FirstWrong}
-use Rattle.audit.specs.Right.{passedOn, passes, passesThird, planners, finiteOn, finites, right, rightAt}
-use Rattle.audit.specs.Verdict.{verdictFrom, verdictOf}
+use Rattle.audit.specs.{declared.Verdict.{Verdict, the-variants.FirstWrong}, Right.{passedOn, passes, passesThird, planners, finiteOn, finites, right, rightAt}, Verdict.{verdictFrom, verdictOf}}
 
 -- a record by its first agile word, its first command word, its flag and its margin; every other word is 0
 abbrev kept : ℕ → ℕ → ℕ → ℕ → List ℕ

@@ -1,5 +1,5 @@
 -- Of each public function here: no second answer fits its promise. Assumes nothing.
-use mathlib.Core.Path.{refl, ap}
+use Rattle.laws.proofs.Prelude.{refl, ap}
 use Rattle.laws.proofs.Determined.{OneAnswer, no-second, both}
 use Rattle.outcome.specs.Outcomes.{Filled}
 use Rattle.audit.proofs.check_into

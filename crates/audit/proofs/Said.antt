@@ -1,27 +1,13 @@
 -- What the verdict says of a list of records, exactly. Assumes nothing.
-use Prim.Native.Nat.{ℕ, zero, suc, _+_, _<_}
-use mathlib.Core.Path.{_≡_, refl, sym, ap, subst, _∙_}
-use mathlib.Core.Logic.{inl, inr, _↔_}
-use mathlib.Core.Bool.{Bool, true, false, _&&_, cond}
-use mathlib.Core.List.{List, []}
-use native.Mathlib.Nat.{le-of-suc-le-suc, eq-or-lt-of-le}
-use native.Mathlib.Omega.{arith}
-use borrow.Author.Tests.{eqb-true, eq-eqb}
-use lib.Dec.{eqb}
-use lib.Ieee.{Float}
-use lib.ListN.{length, getD}
-use Rattle.laws.proofs.Tests.{no, both, le-or-lt}
+use Rattle.laws.proofs.Prelude.{ℕ, zero, suc, _+_, _<_, _≡_, refl, sym, ap, subst, _∙_, inl, inr, _↔_, Bool, true, false, _&&_, cond, List, [], le-of-suc-le-suc, eq-or-lt-of-le, arith, eqb-true}
+use Rattle.laws.proofs.Prelude.{eq-eqb, eqb, Float, length, getD, no, both, le-or-lt}
 use Rattle.relay_math.specs.F32.{isFinite}
 use Rattle.words.specs.Words.{floatOf, flag}
 use Rattle.latch.specs.Latch.{FliesAt}
-use Rattle.joint_tick.specs.declared.profile.Profile.{Profile}
-use Rattle.joint_tick.specs.declared.profile.Profile.the-variants.{Whole, LostRotor}
-use Rattle.slow.specs.Back.{lookBack}
-use Rattle.slow.proofs.Slow.{looks-back}
-use Rattle.audit.specs.declared.Verdict.{Verdict}
-use Rattle.audit.specs.declared.Verdict.the-variants.{AllRight, FirstWrong}
-use Rattle.audit.specs.Right.{commandWord, flagWord, passes, passesThird, planners, finiteOn, finites, right, plannersWord, marginsIn, rightAt, RightAt}
-use Rattle.audit.specs.Verdict.{verdictFrom, verdictOf, Says}
+use Rattle.joint_tick.specs.declared.profile.Profile.{Profile, the-variants.{Whole, LostRotor}}
+use Rattle.slow.{specs.Back.lookBack, proofs.Slow.looks-back}
+use Rattle.audit.specs.declared.Verdict.{Verdict, the-variants.{AllRight, FirstWrong}}
+use Rattle.audit.specs.{Right.{commandWord, flagWord, passes, passesThird, planners, finiteOn, finites, right, plannersWord, marginsIn, rightAt, RightAt}, Verdict.{verdictFrom, verdictOf, Says}}
 
 -- ---- "Answer yes exactly if all hold, else the first wrong record, counted from 0."
 

@@ -1,32 +1,13 @@
 -- One turn of the pass over a log: the latch that is carried along says what looking back does. Assumes nothing.
-use Prim.Native.Nat.{ℕ, zero, suc, _+_, _-_, _*_, _/_, _<_, _≤_}
-use mathlib.Core.Path.{_≡_, refl, _∙_}
-use mathlib.Core.Bool.{Bool, true, false, not, _&&_, cond}
-use mathlib.Core.List.{List, [], _∷_}
-use native.Mathlib.Nat.{le-of-suc-le-suc}
-use native.Mathlib.Numerals.{add-one}
-use native.Mathlib.Omega.{arith}
-use borrow.Author.Tests.{lt-ltb, not-true, not-false}
-use lib.Dec.{ltb}
-use lib.Ieee.{Float, nan, lt, ofBits, toBits}
-use lib.ListN.{length, getD, take, drop, length-drop}
-use lib.Seq.{length-take-le}
-use Rattle.laws.proofs.Tests.{held}
-use Rattle.relay_math.specs.F32.{isFinite}
-use Rattle.relay_math.proofs.Order.{finite-number}
-use Rattle.words.specs.Words.{floatOf}
-use Rattle.words.proofs.Back.{canon-itself}
-use Rattle.latch.specs.Latch.{releases, engages, latch}
-use Rattle.latch.proofs.LatchFlies.{released-is-calm}
+use Rattle.laws.proofs.Prelude.{ℕ, zero, suc, _+_, _-_, _*_, _/_, _<_, _≤_, _≡_, refl, _∙_, Bool, true, false, not, _&&_, cond, List, [], _∷_, le-of-suc-le-suc, add-one, arith, lt-ltb, not-true}
+use Rattle.laws.proofs.Prelude.{not-false, ltb, Float, nan, lt, ofBits, toBits, length, getD, take, drop, length-drop, length-take-le, held}
+use Rattle.relay_math.{specs.F32.isFinite, proofs.Order.finite-number}
+use Rattle.words.{specs.Words.floatOf, proofs.Back.canon-itself}
+use Rattle.latch.{specs.Latch.{releases, engages, latch}, proofs.LatchFlies.released-is-calm}
 use Rattle.joint_tick.specs.declared.profile.Profile.{Profile}
 use Rattle.slow.specs.Back.{lookBack}
-use Rattle.log.specs.Form.{RECORD-BYTES, TRAILER-BYTES, MOST-RECORDS, countOf, isLog}
-use Rattle.log.specs.Records.{bytesAt, records, hasRecord, recordAt}
-use Rattle.log.proofs.Taken.{is-a-log}
-use Rattle.log.proofs.Reading.{records-count, record-is}
-use Rattle.audit.specs.declared.Verdict.the-variants.{FirstWrong}
-use Rattle.audit.specs.Right.{passedOn, marginIn, marginsIn, right, rightAt}
-use Rattle.audit.specs.Verdict.{verdictFrom}
+use Rattle.log.{specs.{Form.{RECORD-BYTES, TRAILER-BYTES, MOST-RECORDS, countOf, isLog}, Records.{bytesAt, records, hasRecord, recordAt}}, proofs.{Taken.is-a-log, Reading.{records-count, record-is}}}
+use Rattle.audit.specs.{declared.Verdict.the-variants.FirstWrong, Right.{passedOn, marginIn, marginsIn, right, rightAt}, Verdict.verdictFrom}
 
 -- ---- a word that is passed on, by the float x that it was read as
 

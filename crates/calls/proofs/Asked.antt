@@ -1,14 +1,6 @@
 -- A tick is refused for what `tickRefusal` says, and so by the lengths and the image alone: for callers above the core. Assumes nothing.
-use mathlib.Core.Path.{_≡_, refl, sym, _∙_}
-use mathlib.Core.Bool.{true, false, not}
-use mathlib.Core.List.{List, [], _∷_}
-use Prim.Native.Nat.{ℕ}
-use borrow.Author.Tests.{not-true}
-use lib.ListN.{length}
-use Rattle.laws.proofs.Tests.{no, both}
-use Rattle.outcome.specs.declared.Outcome.the-variants.{Done}
-use Rattle.outcome.specs.Outcomes.{isDone, Table, firstOf, left, lent, Called}
-use Rattle.outcome.proofs.Tables.{refuses, refused-keeps, either}
+use Rattle.laws.proofs.Prelude.{_≡_, refl, sym, _∙_, true, false, not, List, [], _∷_, ℕ, not-true, length, no, both}
+use Rattle.outcome.{specs.{declared.Outcome.the-variants.Done, Outcomes.{isDone, Table, firstOf, left, lent, Called}}, proofs.Tables.{refuses, refused-keeps, either}}
 use Rattle.calls.specs.Entry.{tickTable, tickRefusal, tickFrom, tickCall}
 
 -- of a table whose every row refuses, nothing but `Done` is done

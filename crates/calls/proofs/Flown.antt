@@ -1,41 +1,15 @@
 -- What a tick that is not refused has, and what a tick from any source of references, and an exchange, leaves by what its stages gave. Assumes nothing.
-use mathlib.Core.Path.{_≡_, refl, sym, ap, _∙_}
-use mathlib.Core.Bool.{Bool, true, false, not, _||_, _&&_, cond}
-use mathlib.Core.List.{List}
-use Prim.Native.Nat.{ℕ}
-use lib.Dec.{eqb}
-use lib.Ieee.{Float}
-use lib.ListN.{length}
-use borrow.Author.Tests.{not-false, eq-eqb, eqb-true}
-use Rattle.laws.proofs.Tests.{both, no}
+use Rattle.laws.proofs.Prelude.{_≡_, refl, sym, ap, _∙_, Bool, true, false, not, _||_, _&&_, cond, List, ℕ, eqb, Float, length, not-false, eq-eqb, eqb-true, both, no}
 use Rattle.words.specs.Words.{word, flag}
-use Rattle.relay_adrc.specs.declared.rate.AdrcRate.{AdrcRate}
-use Rattle.relay_adrc.specs.Biquad.{biquadFilter, gyroFilter}
+use Rattle.relay_adrc.specs.{declared.rate.AdrcRate.AdrcRate, Biquad.{biquadFilter, gyroFilter}}
 use Rattle.relay_traj.specs.Governor.{advance}
-use Rattle.joint_tick.specs.declared.profile.Profile.the-variants.{Whole, LostRotor}
-use Rattle.joint_tick.specs.declared.state.Fixed.{Fixed}
-use Rattle.joint_tick.specs.declared.state.State.{State}
-use Rattle.joint_tick.specs.declared.state.Leg.{Leg}
-use Rattle.joint_tick.specs.declared.state.TickInput.{TickInput}
-use Rattle.joint_tick.specs.declared.stages.Prepared.{Prepared}
-use Rattle.joint_tick.specs.declared.stages.Reference.{Reference}
-use Rattle.joint_tick.specs.declared.stages.Ticked.{Ticked}
-use Rattle.joint_tick.specs.Profile.{profileWord, isProfile, profileOf}
-use Rattle.joint_tick.specs.SetUp.{exchange}
-use Rattle.joint_tick.specs.Tick.{prepare, finish, ticked, stateAfter}
-use Rattle.joint_tick.specs.Good.{good}
+use Rattle.joint_tick.specs.declared.{profile.Profile.the-variants.{Whole, LostRotor}, state.{Fixed.Fixed, State.State, Leg.Leg, TickInput.TickInput}, stages.{Prepared.Prepared, Reference.Reference}}
+use Rattle.joint_tick.specs.{declared.stages.Ticked.Ticked, Profile.{profileWord, isProfile, profileOf}, SetUp.exchange, Tick.{prepare, finish, ticked, stateAfter}, Good.good}
 use Rattle.joint_tick.proofs.Kept.{tick-keeps}
-use Rattle.outcome.specs.declared.Outcome.{Outcome}
-use Rattle.outcome.specs.declared.Outcome.the-variants.{Done}
-use Rattle.outcome.specs.Outcomes.{isDone, left, lent}
-use Rattle.outcome.proofs.Tables.{done-none, same}
-use Rattle.image.specs.Layout.{COUNT, ENGAGED, PROFILE, IMAGE-WORDS, IMAGE-BYTES, LEG-BYTES, INPUT-BYTES, ANSWER-BYTES}
-use Rattle.image.specs.Parts.{legAt}
-use Rattle.image.specs.Image.{fixedAt, movingAt, stateAt, imageOf, peaksStand}
-use Rattle.image.specs.Inner.{overAxis, Judged, Unmoved}
-use Rattle.image.specs.Inputs.{inputAt}
-use Rattle.calls.specs.Entry.{intact, tickTable, exchangeRefusal, tickRefusal, exchangeCall, tickFrom}
-use Rattle.calls.specs.Inner.{ReadOf, leftMoving, Leaves}
+use Rattle.outcome.{specs.{declared.Outcome.{Outcome, the-variants.Done}, Outcomes.{isDone, left, lent}}, proofs.Tables.{done-none, same}}
+use Rattle.image.specs.{Layout.{COUNT, ENGAGED, PROFILE, IMAGE-WORDS, IMAGE-BYTES, LEG-BYTES, INPUT-BYTES, ANSWER-BYTES}, Parts.legAt, Image.{fixedAt, movingAt, stateAt, imageOf, peaksStand}}
+use Rattle.image.specs.{Inner.{overAxis, Judged, Unmoved}, Inputs.inputAt}
+use Rattle.calls.specs.{Entry.{intact, tickTable, exchangeRefusal, tickRefusal, exchangeCall, tickFrom}, Inner.{ReadOf, leftMoving, Leaves}}
 
 -- row 4's five tests, each by itself
 abbrev pub Tests : List ℕ → Type 0

@@ -1,37 +1,18 @@
 -- Runs exist and go on for ever: the image that set-up writes is never refused, nor the one that an accepted tick or exchange writes. Assumes nothing.
-use mathlib.Core.Path.{_≡_, refl, ap}
-use mathlib.Core.Bool.{Bool, true, false, _||_, _&&_}
-use mathlib.Core.List.{List}
-use Prim.Native.Nat.{ℕ, _+_}
-use lib.Dec.{T, eqb}
-use borrow.Author.Tests.{eqb-true}
-use lib.Ieee.{Float, binary32, fits, lt}
-use Rattle.words.specs.Words.{word, vec, bits, flag}
-use Rattle.words.proofs.Back.{float-fits}
+use Rattle.laws.proofs.Prelude.{_≡_, refl, ap, Bool, true, false, _||_, _&&_, List, ℕ, _+_, T, eqb, eqb-true, Float, binary32, fits, lt, no}
+use Rattle.words.{specs.Words.{word, vec, bits, flag}, proofs.Back.float-fits}
 use Rattle.relay_math.specs.F32.{0·0, isFinite}
-use Rattle.laws.proofs.Tests.{no}
 use Rattle.relay_geo.specs.Shield.{newShield}
-use Rattle.joint_tick.specs.declared.state.State.{State}
-use Rattle.joint_tick.specs.declared.profile.Profile.{Profile}
-use Rattle.joint_tick.specs.declared.profile.Profile.the-variants.{Whole, LostRotor}
-use Rattle.joint_tick.specs.declared.stages.Reference.{Reference}
-use Rattle.joint_tick.specs.Profile.{profileWord, isProfile}
-use Rattle.joint_tick.specs.SetUp.{setUp, segmentOf, exchange}
-use Rattle.joint_tick.specs.Tick.{ticked, prepare, pick, finish, stateAfter}
-use Rattle.joint_tick.specs.Good.{thresholdsOk, good}
+use Rattle.joint_tick.specs.{declared.{state.State.State, profile.Profile.{Profile, the-variants.{Whole, LostRotor}}, stages.Reference.Reference}, Profile.{profileWord, isProfile}}
+use Rattle.joint_tick.specs.{SetUp.{setUp, segmentOf, exchange}, Tick.{ticked, prepare, pick, finish, stateAfter}, Good.{thresholdsOk, good}}
 use Rattle.joint_tick.proofs.Kept.{Good, good-parts, set-up-good, tick-good, exchange-good}
-use Rattle.outcome.specs.Outcomes.{isDone}
-use Rattle.outcome.proofs.Tables.{done-none}
-use Rattle.image.specs.Layout.{COUNT, ENGAGED, PROFILE, PEAKS, IMAGE-WORDS, INPUT-BYTES, ANSWER-BYTES, SETUP-ENTER}
-use Rattle.image.specs.Parts.{gainsAt, setAt, legAt, adrcGainsAt, profileAt}
-use Rattle.image.specs.Image.{fixedAt, movingAt, stateAt, imageOf, peaksOf}
-use Rattle.image.specs.Inputs.{setupAt, inputAt}
-use Rattle.calls.specs.Entry.{intact, tickTable, tickRefusal}
-use Rattle.calls.specs.Ticks.{Accepted}
-use Rattle.calls.proofs.Flown.{Tests, tests, bit, profile-of-word}
-use Rattle.image.specs.Fits.{Fits}
+use Rattle.outcome.{specs.Outcomes.isDone, proofs.Tables.done-none}
+use Rattle.image.specs.{Layout.{COUNT, ENGAGED, PROFILE, PEAKS, IMAGE-WORDS, INPUT-BYTES, ANSWER-BYTES, SETUP-ENTER}, Parts.{gainsAt, setAt, legAt, adrcGainsAt, profileAt}}
+use Rattle.image.specs.{Image.{fixedAt, movingAt, stateAt, imageOf, peaksOf}, Inputs.{setupAt, inputAt}, Fits.Fits}
 use Rattle.image.proofs.Decoded.{image-length, count-written, engaged-written, profile-written, peaks-stand, standing, decode-encode, state-fits}
 use Rattle.image.proofs.Fitting.{new-shield-fits, governor-fits, advance-fits, segment-fits, rate-new-fits, rate-fraction-fits, rate-tick-fits, gyro-new-fits, gyro-filter-fits}
+use Rattle.calls.specs.{Entry.{intact, tickTable, tickRefusal}, Ticks.Accepted}
+use Rattle.calls.proofs.Flown.{Tests, tests, bit, profile-of-word}
 
 -- ---- every state that set-up and ticks make is one of f32 values
 

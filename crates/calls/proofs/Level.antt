@@ -1,40 +1,20 @@
 -- Level flight at rest: its margin is 1.75, so that a fresh shield whose exit is 1 gives the planner control in the very first tick, in either profile. Assumes nothing.
-use mathlib.Core.Path.{_≡_, refl, ap, _∙_}
-use mathlib.Core.Bool.{true, false}
-use Prim.Native.Nat.{ℕ}
-use lib.Ieee.{Float, ofBits, toBits, round, add, sub, mul, div, neg, lt, le, eq}
+use Rattle.laws.proofs.Prelude.{_≡_, refl, ap, _∙_, true, false, ℕ, Float, ofBits, toBits, round, add, sub, mul, div, neg, lt, le, eq}
 use Rattle.words.specs.Words.{word, float, vec}
-use Rattle.relay_math.specs.F32.{f32, 0·0, 0·5, 1·0, 1·75, isFinite, grains}
-use Rattle.relay_math.specs.Sqrt.{sqrtf}
-use Rattle.relay_math.specs.Steps.{sinf, cosf, sincos, cutSquare, sinPoly, cosPoly, toFloat, fixed, reduceOf, turned, large}
-use Rattle.relay_math.specs.declared.Vec3.{Vec3}
-use Rattle.relay_math.specs.declared.BodyRate.{BodyRate}
-use Rattle.relay_geo.specs.declared.attitude.Attitude.the-variants.{Matrix}
-use Rattle.relay_geo.specs.declared.attitude.Feedforward.the-variants.{Rate}
-use Rattle.relay_geo.specs.declared.vectors.Direction.the-variants.{Axis}
+use Rattle.relay_math.specs.{F32.{f32, 0·0, 0·5, 1·0, 1·75, isFinite, grains}, Sqrt.sqrtf, Steps.{sinf, cosf, sincos, cutSquare, sinPoly, cosPoly, toFloat, fixed, reduceOf, turned, large}}
+use Rattle.relay_math.specs.declared.{Vec3.Vec3, BodyRate.BodyRate}
+use Rattle.relay_geo.specs.declared.{attitude.{Attitude.the-variants.Matrix, Feedforward.the-variants.Rate}, vectors.Direction.the-variants.Axis}
 use Rattle.relay_geo.specs.Vectors.{9·81, cross, dot, normalize, identity3, prod3, matmul3, transposedTimes}
-use Rattle.relay_geo.specs.Attitude.{quatToRotmat, thrustForce, thrustAxisNed, thrustAttitude, bodyRate, flatnessOmegaFf}
-use Rattle.relay_geo.specs.Controller.{psi}
-use Rattle.relay_geo.specs.Set.{newSet, margin}
+use Rattle.relay_geo.specs.{Attitude.{quatToRotmat, thrustForce, thrustAxisNed, thrustAttitude, bodyRate, flatnessOmegaFf}, Controller.psi, Set.{newSet, margin}, Shield.{mend, newShield}}
+use Rattle.relay_geo.{proofs.Figures.level, specs.declared.shield.SimplexShield.SimplexShield}
 use Rattle.latch.specs.Latch.{latch}
-use Rattle.relay_geo.specs.Shield.{mend, newShield}
-use Rattle.relay_geo.proofs.Figures.{level}
-use Rattle.relay_traj.specs.Quintic.{quintic, ofMended, eval, sampleAt, timeOn}
-use Rattle.relay_traj.specs.Quintic.{mend as mend-leg}
-use Rattle.relay_traj.specs.Segment.{segment, eval3}
-use Rattle.relay_traj.specs.Governor.{advance, gate, gateFactor, clampTo}
+use Rattle.relay_traj.specs.{Quintic.{quintic, ofMended, eval, sampleAt, timeOn, mend as mend-leg}, Segment.{segment, eval3}, Governor.{advance, gate, gateFactor, clampTo}}
 use Rattle.relay_adrc.specs.Biquad.{filterAt, lowpass, biquadFilter, gyroNew, gyroFilter}
-use Rattle.relay_geo.specs.declared.shield.SimplexShield.{SimplexShield}
-use Rattle.joint_tick.specs.declared.profile.Profile.the-variants.{Whole, LostRotor}
-use Rattle.joint_tick.specs.declared.state.State.{State}
-use Rattle.joint_tick.specs.declared.state.TickInput.{TickInput}
-use Rattle.joint_tick.specs.declared.stages.Reference.{Reference}
-use Rattle.joint_tick.specs.declared.stages.Guided.{Guided}
+use Rattle.joint_tick.specs.declared.{profile.Profile.the-variants.{Whole, LostRotor}, state.{State.State, TickInput.TickInput}, stages.{Reference.Reference, Guided.Guided}}
 use Rattle.joint_tick.specs.SetUp.{setUp, segmentOf}
 use Rattle.joint_tick.specs.Tick.{prepare, referenceAt, cleaned, commanded, rateError, rateSq, guideWhole, psiToAxis, tiltRateSq, guideLostRotor, guide, guidance, shieldOf, ticked}
 use Rattle.joint_tick.proofs.Shielding.{filtered, wantedAt, by-profile, tick-latch}
-use Rattle.image.specs.Parts.{setAt, legAt, quatAt, profileAt}
-use Rattle.image.specs.Inputs.{setupAt, inputAt}
+use Rattle.image.specs.{Parts.{setAt, legAt, quatAt, profileAt}, Inputs.{setupAt, inputAt}}
 use Rattle.calls.specs.Shams.{levelSetUpBy, headedInput}
 
 abbrev zeros : Vec3

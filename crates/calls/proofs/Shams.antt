@@ -1,31 +1,16 @@
 -- Sham builds: a program that keeps the promises does not refuse all calls and does not leave the image untouched, by one run, at whose first tick the
 -- planner gets control (specs/Shams.antt). The other two shams fall to demand 3 alone (crate `runs`, proofs/Shams.antt). Assumes nothing.
-use mathlib.Core.Path.{_≡_, refl, sym, ap, _∙_}
-use mathlib.Core.Bool.{Bool, true, false}
-use mathlib.Core.List.{List}
-use Prim.Native.Nat.{ℕ}
+use Rattle.laws.proofs.Prelude.{_≡_, refl, sym, ap, _∙_, Bool, true, false, List, ℕ, lt, le, mul, ofBits, length}
 use native.Mathlib.Nat.{suc-ne-zero}
-use lib.Ieee.{lt, le, mul, ofBits}
-use lib.ListN.{length}
 use Rattle.words.specs.Words.{word, float}
 use Rattle.relay_geo.specs.Shield.{newShield}
-use Rattle.joint_tick.specs.declared.state.State.{State}
-use Rattle.joint_tick.specs.declared.stages.Ticked.{Ticked}
-use Rattle.joint_tick.specs.Profile.{isProfile}
-use Rattle.joint_tick.specs.SetUp.{setUp}
-use Rattle.joint_tick.specs.Tick.{referenceAt, ticked, stateAfter}
-use Rattle.joint_tick.proofs.Shielding.{tick-keeps-flag}
-use Rattle.outcome.specs.declared.Outcome.the-variants.{Done}
-use Rattle.outcome.specs.Outcomes.{left, Filled, lent, Called}
-use Rattle.image.specs.Layout.{COUNT, ENGAGED, SETUP-PROFILE, INPUT-BYTES}
-use Rattle.image.specs.Image.{stateAt, imageOf}
-use Rattle.image.specs.Inputs.{setupAt, inputAt, answerOf}
-use Rattle.calls.specs.Entry.{setUpRefusal, onSegment, tickFrom, setUpCall, tickCall}
-use Rattle.calls.specs.Ticks.{SetsUp, Accepted}
-use Rattle.calls.specs.Shams.{Program, Keeps, RefusesSetUps, RefusesTicks, LeavesSetUp, LeavesTicked, blankAnswer, blankImage, levelSetUp, levelInput}
+use Rattle.joint_tick.{specs.{declared.{state.State.State, stages.Ticked.Ticked}, Profile.isProfile, SetUp.setUp, Tick.{referenceAt, ticked, stateAfter}}, proofs.Shielding.tick-keeps-flag}
+use Rattle.outcome.specs.{declared.Outcome.the-variants.Done, Outcomes.{left, Filled, lent, Called}}
+use Rattle.image.specs.{Layout.{COUNT, ENGAGED, SETUP-PROFILE, INPUT-BYTES}, Image.{stateAt, imageOf}, Inputs.{setupAt, inputAt, answerOf}}
 use Rattle.image.proofs.Decoded.{count-written, engaged-written, decode-encode}
-use Rattle.calls.proofs.Going.{set-up-fits, set-up-never-refused}
-use Rattle.calls.proofs.Level.{planner-first}
+use Rattle.calls.specs.{Entry.{setUpRefusal, onSegment, tickFrom, setUpCall, tickCall}, Ticks.{SetsUp, Accepted}}
+use Rattle.calls.specs.Shams.{Program, Keeps, RefusesSetUps, RefusesTicks, LeavesSetUp, LeavesTicked, blankAnswer, blankImage, levelSetUp, levelInput}
+use Rattle.calls.proofs.{Going.{set-up-fits, set-up-never-refused}, Level.planner-first}
 
 -- ---- what an accepted call leaves
 

@@ -1,35 +1,15 @@
 -- What a tick on bytes does in a run, from any source of references and refused for anything: it steps the shield by its margin, or keeps it, and its
 -- clock does not go back. A call that is such a tick needs no other lemma about runs. Assumes nothing.
-use mathlib.Core.Path.{_≡_, refl, ap, _∙_}
-use mathlib.Core.List.{List, [], _∷_}
-use Prim.Native.Nat.{ℕ}
-use lib.Dec.{T}
-use lib.ListN.{length}
-use lib.Ieee.{Float, le}
+use Rattle.laws.proofs.Prelude.{_≡_, refl, ap, _∙_, List, [], _∷_, ℕ, T, length, Float, le}
 use Rattle.words.specs.Words.{float}
 use Rattle.latch.specs.Latch.{after}
 use Rattle.relay_math.proofs.Order.{le-refl-of}
-use Rattle.relay_traj.specs.Governor.{Running}
-use Rattle.relay_traj.proofs.Clock.{never-nan}
-use Rattle.joint_tick.specs.declared.state.State.{State}
-use Rattle.joint_tick.specs.declared.state.TickInput.{TickInput}
-use Rattle.joint_tick.specs.declared.stages.Reference.{Reference}
-use Rattle.joint_tick.specs.SetUp.{exchange}
-use Rattle.joint_tick.specs.Tick.{guidance, stateAfter}
-use Rattle.joint_tick.specs.Tick.{shieldOf as shieldOfState}
-use Rattle.joint_tick.proofs.Shielding.{tick-latch, tick-keeps-flag}
-use Rattle.joint_tick.proofs.Kept.{good-runs}
-use Rattle.joint_tick.proofs.Clock.{time-never-back}
-use Rattle.outcome.specs.declared.Outcome.{Outcome}
-use Rattle.outcome.specs.Outcomes.{Filled, Called}
-use Rattle.outcome.proofs.Tables.{either}
-use Rattle.image.specs.Layout.{GOVERNOR}
-use Rattle.image.specs.Parts.{governorAt, legAt}
-use Rattle.image.specs.Image.{movingAt, stateAt, imageOf}
-use Rattle.image.specs.Inputs.{inputAt}
-use Rattle.image.proofs.Decoded.{decode-encode, time-written, state-fits}
-use Rattle.calls.specs.Entry.{exchangeRefusal, exchangeCall, tickFrom}
-use Rattle.calls.specs.Ticks.{Accepted, marginsIf, shieldOf, stepped, Steps}
+use Rattle.relay_traj.{specs.Governor.Running, proofs.Clock.never-nan}
+use Rattle.joint_tick.specs.{declared.{state.{State.State, TickInput.TickInput}, stages.Reference.Reference}, SetUp.exchange, Tick.{guidance, stateAfter, shieldOf as shieldOfState}}
+use Rattle.joint_tick.proofs.{Shielding.{tick-latch, tick-keeps-flag}, Kept.good-runs, Clock.time-never-back}
+use Rattle.outcome.{specs.{declared.Outcome.Outcome, Outcomes.{Filled, Called}}, proofs.Tables.either}
+use Rattle.image.{specs.{Layout.GOVERNOR, Parts.{governorAt, legAt}, Image.{movingAt, stateAt, imageOf}, Inputs.inputAt}, proofs.Decoded.{decode-encode, time-written, state-fits}}
+use Rattle.calls.specs.{Entry.{exchangeRefusal, exchangeCall, tickFrom}, Ticks.{Accepted, marginsIf, shieldOf, stepped, Steps}}
 use Rattle.calls.proofs.Going.{tick-fits, exchange-fits, good-image, tick-never-refused, exchange-never-refused}
 
 -- the time that an image holds is one that a governor can have

@@ -1,19 +1,9 @@
 -- What a call on a desk leaves: a refused one leaves all as it was, and an accepted tick is the core's tick of the input that it leaves. Assumes nothing.
-use mathlib.Core.Path.{_≡_, refl, sym, ap, _∙_}
-use mathlib.Core.Bool.{Bool, true, false, cond}
-use mathlib.Core.List.{List}
-use Prim.Native.Nat.{ℕ}
-use lib.ListN.{length}
-use Rattle.laws.proofs.Tests.{no}
-use Rattle.outcome.specs.declared.Outcome.{Outcome}
-use Rattle.outcome.specs.declared.Outcome.the-variants.{Done}
-use Rattle.outcome.specs.Outcomes.{isDone, differs, Left, left, lent, Called}
+use Rattle.laws.proofs.Prelude.{_≡_, refl, sym, ap, _∙_, Bool, true, false, cond, List, ℕ, length, no}
+use Rattle.outcome.specs.{declared.Outcome.{Outcome, the-variants.Done}, Outcomes.{isDone, differs, Left, left, lent, Called}}
 use Rattle.image.specs.Layout.{INPUT-BYTES, ANSWER-BYTES}
-use Rattle.calls.specs.Entry.{tickRefusal, tickCall}
-use Rattle.calls.specs.Ticks.{Accepted}
-use Rattle.desk.specs.declared.entry.DeskOutcome.{DeskOutcome}
-use Rattle.desk.specs.declared.entry.DeskOutcome.the-variants.{DeskLength, SticksLength, Core}
-use Rattle.desk.specs.Filters.{DESK-BYTES, STICKS-BYTES, deskAt, deskOf, deskCentre}
+use Rattle.calls.specs.{Entry.{tickRefusal, tickCall}, Ticks.Accepted}
+use Rattle.desk.specs.{declared.entry.DeskOutcome.{DeskOutcome, the-variants.{DeskLength, SticksLength, Core}}, Filters.{DESK-BYTES, STICKS-BYTES, deskAt, deskOf, deskCentre}}
 use Rattle.desk.specs.Entry.{deskDone, deskLeft, centreCall, flownInput, LentToDesk, lentToDesk, tickRefusalAt, deskTickCall}
 use Rattle.desk.proofs.Flown.{flown-length, core-done}
 

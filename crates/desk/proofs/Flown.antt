@@ -1,28 +1,11 @@
 -- What a desk tick leaves by what its calls gave. Of the core it takes the promises and two laws: a tick is refused for what `tickRefusal` says, and then changes nothing. Assumes nothing.
-use mathlib.Core.Path.{_≡_, refl, sym, ap, _∙_}
-use mathlib.Core.Bool.{Bool, true, false, not}
-use mathlib.Core.List.{List, [], _∷_}
-use Prim.Native.Nat.{ℕ, suc, _*_}
-use lib.Ieee.{Float}
-use lib.ListN.{length}
-use lib.Seq.{length-sets}
-use borrow.Author.Tests.{not-true, not-false}
-use Rattle.words.specs.Words.{word, float, vec, bits, bytesOf, Put}
-use Rattle.words.proofs.Written.{then, put-over}
-use Rattle.words.proofs.Standing.{Bytes, word-stands}
+use Rattle.laws.proofs.Prelude.{_≡_, refl, sym, ap, _∙_, Bool, true, false, not, List, [], _∷_, ℕ, suc, _*_, Float, length, length-sets, not-true, not-false}
+use Rattle.words.{specs.Words.{word, float, vec, bits, bytesOf, Put}, proofs.{Written.{then, put-over}, Standing.{Bytes, word-stands}}}
 use Rattle.relay_math.specs.declared.Vec3.{Vec3}
 use Rattle.image.specs.Layout.{YAW, DT, INPUT-BYTES}
-use Rattle.outcome.specs.declared.Outcome.{Outcome}
-use Rattle.outcome.specs.declared.Outcome.the-variants.{Done}
-use Rattle.outcome.specs.Outcomes.{isDone, Left, left, lent, Called}
-use Rattle.outcome.proofs.Tables.{accepted}
-use Rattle.calls.specs.Entry.{tickRefusal, tickCall}
-use Rattle.calls.proofs.Asked.{refusal-done, tick-asked, refused-changes-nothing}
-use Rattle.calls.proofs.Flown.{sized}
-use Rattle.desk.specs.declared.filters.Desk.{Desk}
-use Rattle.desk.specs.declared.entry.DeskOutcome.{DeskOutcome}
-use Rattle.desk.specs.declared.entry.DeskOutcome.the-variants.{Core}
-use Rattle.desk.specs.Filters.{DESK-BYTES, STICKS-BYTES, deskAt, deskOf, deskStep}
+use Rattle.outcome.{specs.{declared.Outcome.{Outcome, the-variants.Done}, Outcomes.{isDone, Left, left, lent, Called}}, proofs.Tables.accepted}
+use Rattle.calls.{specs.Entry.{tickRefusal, tickCall}, proofs.{Asked.{refusal-done, tick-asked, refused-changes-nothing}, Flown.sized}}
+use Rattle.desk.specs.{declared.{filters.Desk.Desk, entry.DeskOutcome.{DeskOutcome, the-variants.Core}}, Filters.{DESK-BYTES, STICKS-BYTES, deskAt, deskOf, deskStep}}
 use Rattle.desk.specs.Entry.{withHeading, moved, flownInput, LentToDesk, lentToDesk, tickRefusalAt, deskTickCall}
 
 -- the lent input keeps its length

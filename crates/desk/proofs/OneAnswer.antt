@@ -1,11 +1,8 @@
 -- Of each public function here: no second answer fits its promise. Assumes nothing.
-use mathlib.Core.Path.{refl, ap}
-use mathlib.Core.List.{List}
-use Prim.Native.Nat.{ℕ}
+use Rattle.laws.proofs.Prelude.{refl, ap, List, ℕ}
 use Rattle.laws.proofs.Determined.{OneAnswer, no-second, both}
 use Rattle.outcome.specs.Outcomes.{Left}
-use Rattle.desk.specs.declared.entry.DeskOutcome.{DeskOutcome}
-use Rattle.desk.specs.Entry.{LentToDesk}
+use Rattle.desk.specs.{declared.entry.DeskOutcome.DeskOutcome, Entry.LentToDesk}
 use Rattle.desk.proofs.entry
 
 pub desk-number-once : OneAnswer entry.desk_number.ended entry.desk_number.Reads.Post

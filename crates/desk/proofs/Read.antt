@@ -1,20 +1,11 @@
 -- A desk that was written is read again: what the filters make of f32 values are f32 values. Assumes nothing.
-use mathlib.Core.Path.{_≡_, refl}
-use mathlib.Core.List.{List, [], _∷_}
-use Prim.Native.Nat.{ℕ, _+_}
-use lib.Ieee.{Float}
-use lib.Ieee.Fits.{cond-fits, neg-fits, add-fits}
-use lib.Ieee.Bits.{ofBits-fits}
-use lib.ListN.{length, take, drop}
-use Rattle.words.specs.Words.{wordsOf, AllFit, Holds}
-use Rattle.words.proofs.Back.{first-back, floats-back, float-fits}
-use Rattle.words.proofs.Written.{length-bytesOf}
+use Rattle.laws.proofs.Prelude.{_≡_, refl, List, [], _∷_, ℕ, _+_, Float, length, take, drop}
+use lib.Ieee.{Fits.{cond-fits, neg-fits, add-fits}, Bits.ofBits-fits}
+use Rattle.words.{specs.Words.{wordsOf, AllFit, Holds}, proofs.{Back.{first-back, floats-back, float-fits}, Written.length-bytesOf}}
 use Rattle.relay_math.specs.declared.Vec3.{Vec3}
-use Rattle.relay_adrc.specs.declared.filter.CommandFilter.{CommandFilter}
-use Rattle.relay_adrc.specs.Filter.{clampSym, filterNew, filterStep, filterReset}
+use Rattle.relay_adrc.specs.{declared.filter.CommandFilter.CommandFilter, Filter.{clampSym, filterNew, filterStep, filterReset}}
 use Rattle.image.specs.Fits.{F32}
-use Rattle.desk.specs.declared.filters.Desk.{Desk}
-use Rattle.desk.specs.Filters.{FILTER-WORDS, DESK-BYTES, filterAt, deskAt, floatsOfFilter, floatsOfDesk, deskOf, newAt, deskSetUp, deskStep, deskCentre}
+use Rattle.desk.specs.{declared.filters.Desk.Desk, Filters.{FILTER-WORDS, DESK-BYTES, filterAt, deskAt, floatsOfFilter, floatsOfDesk, deskOf, newAt, deskSetUp, deskStep, deskCentre}}
 
 abbrev pub FitsFilter : CommandFilter → Type 0
 FitsFilter f = AllFit (floatsOfFilter f)

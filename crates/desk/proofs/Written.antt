@@ -1,28 +1,12 @@
 -- What a desk tick writes over the lent input: the values of the first two filters, always finite, and no other word. Assumes nothing.
-use mathlib.Core.Path.{_≡_, refl, ap, _∙_}
-use mathlib.Core.Logic.{_⊎_, inl, inr, ⊎-elim}
-use mathlib.Core.Bool.{Bool, true, false, _||_, cond}
-use mathlib.Core.List.{List, [], _∷_}
-use Prim.Native.Nat.{ℕ, _+_, _*_, _%_, _<_}
-use native.Mathlib.Nat.{mod-eq-of-lt}
-use native.Mathlib.Omega.{arith}
-use lib.Dec.{T, lit<}
-use lib.Ieee.{Float, nan, inf, fin, lt, neg, isNan, ofBits, binary32}
+use Rattle.laws.proofs.Prelude.{_≡_, refl, ap, _∙_, _⊎_, inl, inr, ⊎-elim, Bool, true, false, _||_, cond, List, [], _∷_, ℕ, _+_, _*_, _%_, _<_, mod-eq-of-lt, arith, T, lit<, Float, nan, inf, fin, lt}
+use Rattle.laws.proofs.Prelude.{neg, isNan, ofBits, binary32, length, getD, sets}
 use lib.Ieee.Bits.{ofBits-toBits}
-use lib.ListN.{length, getD}
-use lib.Seq.{sets}
-use Rattle.words.specs.Words.{word, float, vec, floatOf, bits, bytesOf, Put}
-use Rattle.words.proofs.Back.{bits-lt}
-use Rattle.words.proofs.Written.{sets-other, put-word}
-use Rattle.relay_math.specs.F32.{0·0, isFinite, finiteOr}
-use Rattle.relay_math.proofs.Finite.{or-zero-finite}
-use Rattle.relay_adrc.specs.declared.filter.CommandFilter.{CommandFilter}
-use Rattle.relay_adrc.specs.Filter.{clampSym, filterStep}
-use Rattle.image.specs.Layout.{YAW, YAW-RATE, DT, INPUT-BYTES}
-use Rattle.image.specs.Fits.{F32}
-use Rattle.desk.specs.declared.filters.Desk.{Desk}
-use Rattle.desk.specs.Filters.{deskAt, deskStep}
-use Rattle.desk.specs.Entry.{withHeading, moved, flownInput}
+use Rattle.words.{specs.Words.{word, float, vec, floatOf, bits, bytesOf, Put}, proofs.{Back.bits-lt, Written.{sets-other, put-word}}}
+use Rattle.relay_math.{specs.F32.{0·0, isFinite, finiteOr}, proofs.Finite.or-zero-finite}
+use Rattle.relay_adrc.specs.{declared.filter.CommandFilter.CommandFilter, Filter.{clampSym, filterStep}}
+use Rattle.image.specs.{Layout.{YAW, YAW-RATE, DT, INPUT-BYTES}, Fits.F32}
+use Rattle.desk.specs.{declared.filters.Desk.Desk, Filters.{deskAt, deskStep}, Entry.{withHeading, moved, flownInput}}
 use Rattle.desk.proofs.Read.{FitsDesk, stepped-fits}
 
 -- ---- a filter's value is finite, whatever its limits, its state, the stick and dt are

@@ -1,20 +1,13 @@
 -- The user's third demand over runs by the desk. Assumes nothing.
-use mathlib.Core.Path.{_≡_, refl, sym, ap, subst, _∙_}
-use mathlib.Core.Bool.{true}
-use mathlib.Core.List.{List, [], _∷_, _++_}
+use mathlib.Core.{Path.{_≡_, refl, sym, ap, subst, _∙_}, Bool.true, List.{List, [], _∷_, _++_}}
 use Prim.Native.Nat.{ℕ}
 use lib.ListN.{length}
 use Rattle.latch.specs.Latch.{Flies}
 use Rattle.image.specs.Layout.{INPUT-BYTES, ANSWER-BYTES}
 use Rattle.outcome.specs.Outcomes.{isDone, Called}
 use Rattle.calls.specs.Ticks.{Accepted}
-use Rattle.runs.specs.Runs.{flying, tickOf, guided, start, imageAfter, marginsAlong, Right}
-use Rattle.runs.specs.DemandThree.{enterOf, exitOf, Shows}
-use Rattle.runs.proofs.Going.{ran}
-use Rattle.runs.proofs.DemandThree.{demand-three}
-use Rattle.desk.specs.Filters.{DESK-BYTES, STICKS-BYTES}
-use Rattle.desk.specs.Entry.{deskNumber, deskDone}
-use Rattle.desk.proofs.Calls.{tick-accepted, input-length, is-core-tick}
+use Rattle.runs.{specs.{Runs.{flying, tickOf, guided, start, imageAfter, marginsAlong, Right}, DemandThree.{enterOf, exitOf, Shows}}, proofs.{Going.ran, DemandThree.demand-three}}
+use Rattle.desk.{specs.{Filters.{DESK-BYTES, STICKS-BYTES}, Entry.{deskNumber, deskDone}}, proofs.Calls.{tick-accepted, input-length, is-core-tick}}
 use Rattle.desk_runs.specs.Runs.{Held, held, Given, AnyCall, deskTick, heldAfter, flownTick, coreAlong}
 use Rattle.desk_runs.proofs.Seen.{core-sees, desk-size}
 

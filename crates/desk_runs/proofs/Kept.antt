@@ -1,18 +1,10 @@
 -- "so that a log keeps what was flown". Assumes nothing.
-use mathlib.Core.Path.{_≡_, _∙_}
-use mathlib.Core.Bool.{true}
-use mathlib.Core.List.{List, [], _∷_, _++_}
+use mathlib.Core.{Path.{_≡_, _∙_}, Bool.true, List.{List, [], _∷_, _++_}}
 use Prim.Native.Nat.{ℕ}
-use Rattle.outcome.specs.declared.Outcome.the-variants.{Done}
-use Rattle.outcome.specs.Outcomes.{isDone, Left, left, lent}
+use Rattle.outcome.specs.{declared.Outcome.the-variants.Done, Outcomes.{isDone, Left, left, lent}}
 use Rattle.calls.specs.Entry.{tickCall}
-use Rattle.log.specs.Form.{isLog}
-use Rattle.log.specs.Records.{records}
-use Rattle.log.specs.Runs.{Held, Given, logIn, appended, afterOne, afterAll, keptAlong}
-use Rattle.log.proofs.Reading.{after-appends}
-use Rattle.desk.specs.declared.entry.DeskOutcome.{DeskOutcome}
-use Rattle.desk.specs.Entry.{deskDone, LentToDesk, deskTickCall}
-use Rattle.desk.proofs.Calls.{is-core-tick}
+use Rattle.log.{specs.{Form.isLog, Records.records, Runs.{Held, Given, logIn, appended, afterOne, afterAll, keptAlong}}, proofs.Reading.after-appends}
+use Rattle.desk.{specs.{declared.entry.DeskOutcome.DeskOutcome, Entry.{deskDone, LentToDesk, deskTickCall}}, proofs.Calls.is-core-tick}
 
 module _ (desk sticks image input answer : List ℕ) where
   abbrev call : Left DeskOutcome LentToDesk

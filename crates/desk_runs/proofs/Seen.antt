@@ -1,19 +1,12 @@
 -- A run with a desk is, for the core, a run of its own calls, and for the desk one of the desk's. Assumes nothing.
-use mathlib.Core.Path.{_≡_, refl, sym, ap, _∙_}
-use mathlib.Core.Bool.{Bool, true, false, cond}
-use mathlib.Core.List.{List, [], _∷_, _++_}
+use mathlib.Core.{Path.{_≡_, refl, sym, ap, _∙_}, Bool.{Bool, true, false, cond}, List.{List, [], _∷_, _++_}}
 use Prim.Native.Nat.{ℕ}
 use lib.ListN.{length}
 use Rattle.outcome.specs.Outcomes.{Called}
-use Rattle.runs.specs.Runs.{Call, flying, leftBy, imageAfter}
-use Rattle.runs.specs.Runs.{Ticks as CoreTicks}
-use Rattle.relay_adrc.proofs.Limits.{Limit}
-use Rattle.relay_adrc.proofs.Limits.{Held as Within}
-use Rattle.desk.specs.Entry.{deskDone, LentToDesk}
-use Rattle.desk.specs.Filters.{DESK-BYTES, deskAt}
-use Rattle.desk.specs.Runs.{Stick, filterOf, magLimit, rateLimit, DeskCall, deskBy, deskAfter, deskStart}
-use Rattle.desk.proofs.Calls.{refused-changes-nothing, is-core-tick}
-use Rattle.desk.proofs.Held.{size-kept, sticks-held}
+use Rattle.runs.specs.Runs.{Call, flying, leftBy, imageAfter, Ticks as CoreTicks}
+use Rattle.relay_adrc.proofs.Limits.{Limit, Held as Within}
+use Rattle.desk.specs.{Entry.{deskDone, LentToDesk}, Filters.{DESK-BYTES, deskAt}, Runs.{Stick, filterOf, magLimit, rateLimit, DeskCall, deskBy, deskAfter, deskStart}}
+use Rattle.desk.proofs.{Calls.{refused-changes-nothing, is-core-tick}, Held.{size-kept, sticks-held}}
 use Rattle.desk_runs.specs.Runs.{Held, held, AnyCall, ByDesk, Button, OnCore, deskTick, heldBy, heldAfter, flownTick, coreCalls, coreAlong, deskCalls, deskAlong}
 
 -- ---- the core

@@ -1,7 +1,5 @@
 -- Of each public function here: no second answer fits its promise. Assumes nothing.
-use mathlib.Core.Path.{refl, ap}
-use mathlib.Core.List.{List}
-use Prim.Native.Nat.{ℕ}
+use Rattle.laws.proofs.Prelude.{refl, ap, List, ℕ}
 use Rattle.outcome.specs.Outcomes.{Left}
 use Rattle.laws.proofs.Determined.{OneAnswer, no-second, both}
 use Rattle.desk.specs.Entry.{LentToDesk}

@@ -1,36 +1,18 @@
 -- Margin and command of a tick are f32 values, so that their words are read again. Assumes nothing.
-use mathlib.Core.Bool.{Bool, true, false, cond}
-use mathlib.Core.List.{List}
-use Prim.Native.Nat.{ℕ}
-use lib.Ieee.{Float}
+use Rattle.laws.proofs.Prelude.{Bool, true, false, cond, List, ℕ, Float}
 use lib.Ieee.Fits.{inf-fits}
-use Rattle.words.specs.Words.{vec}
-use Rattle.words.proofs.Back.{float-fits}
-use Rattle.relay_math.specs.declared.Vec3.{Vec3}
-use Rattle.relay_math.specs.declared.BodyRate.{BodyRate}
-use Rattle.relay_geo.specs.declared.vectors.Mat3.{Mat3}
-use Rattle.relay_geo.specs.declared.vectors.Direction.{Direction}
-use Rattle.relay_geo.specs.declared.vectors.Direction.the-variants as direction
-use Rattle.relay_geo.specs.declared.attitude.Attitude.{Attitude}
-use Rattle.relay_geo.specs.declared.attitude.Attitude.the-variants.{Matrix, Refused}
-use Rattle.relay_geo.specs.declared.attitude.Feedforward.{Feedforward}
-use Rattle.relay_geo.specs.declared.attitude.Feedforward.the-variants as rate
-use Rattle.relay_geo.specs.declared.controller.GeoGains.{GeoGains}
-use Rattle.relay_geo.specs.declared.set.RecoverableSet.{RecoverableSet}
-use Rattle.relay_geo.specs.Vectors.{sanitise3}
-use Rattle.relay_geo.specs.Attitude.{quatToRotmat, thrustAxisNed, thrustAttitude, flatnessOmegaFf}
-use Rattle.relay_geo.specs.Set.{margin}
+use Rattle.words.{specs.Words.vec, proofs.Back.float-fits}
+use Rattle.relay_math.specs.declared.{Vec3.Vec3, BodyRate.BodyRate}
+use Rattle.relay_geo.specs.declared.{vectors.{Mat3.Mat3, Direction.Direction}, attitude.{Attitude.{Attitude, the-variants.{Matrix, Refused}}, Feedforward.Feedforward}, controller.GeoGains.GeoGains}
+use Rattle.relay_geo.specs.{declared.set.RecoverableSet.RecoverableSet, Vectors.sanitise3, Attitude.{quatToRotmat, thrustAxisNed, thrustAttitude, flatnessOmegaFf}, Set.margin}
 use Rattle.relay_geo.specs.Controller.{rateToward, desiredRate}
-use Rattle.joint_tick.specs.declared.profile.Profile.{Profile}
-use Rattle.joint_tick.specs.declared.profile.Profile.the-variants.{Whole, LostRotor}
-use Rattle.joint_tick.specs.declared.state.State.{State}
-use Rattle.joint_tick.specs.declared.state.TickInput.{TickInput}
-use Rattle.joint_tick.specs.declared.stages.Reference.{Reference}
+use Rattle.joint_tick.specs.declared.{profile.Profile.{Profile, the-variants.{Whole, LostRotor}}, state.{State.State, TickInput.TickInput}, stages.Reference.Reference}
 use Rattle.joint_tick.specs.Tick.{plannerOf, cleaned, desired, ahead, plus, rateError, rateSq, marginOf, guideWhole, rateTowardAxis, tiltRateSq, marginToAxis, guideLostRotor, guide, guidance, ticked}
 use Rattle.joint_tick.proofs.Shielding.{filtered, wantedAt, tick-command}
-use Rattle.image.specs.Inputs.{inputAt}
-use Rattle.image.specs.Fits.{F32, FitsVec}
+use Rattle.image.specs.{Inputs.inputAt, Fits.{F32, FitsVec}}
 use Rattle.image.proofs.Fitting.{fitting}
+use Rattle.relay_geo.specs.declared.vectors.Direction.the-variants as direction
+use Rattle.relay_geo.specs.declared.attitude.Feedforward.the-variants as rate
 
 margin-of-fits : (set : RecoverableSet) (r : Mat3) (a : Attitude) (wSq : Float) → F32 (marginOf set r a wSq)
 unfolding margin

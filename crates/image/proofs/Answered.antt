@@ -1,14 +1,8 @@
 -- The answer's words. Assumes nothing.
-use mathlib.Core.Path.{_≡_, refl, ap, _∙_}
-use Prim.Native.Nat.{_+_}
-use lib.ListN.{length}
-use Rattle.words.specs.Words.{word, float, vec, bits, flag, Holds}
-use Rattle.words.proofs.Back.{word-back, bits-back, float-back, vec-back, flag-lt}
-use Rattle.words.proofs.Written.{length-bytesOf}
+use Rattle.laws.proofs.Prelude.{_≡_, refl, ap, _∙_, _+_, length}
+use Rattle.words.{specs.Words.{word, float, vec, bits, flag, Holds}, proofs.{Back.{word-back, bits-back, float-back, vec-back, flag-lt}, Written.length-bytesOf}}
 use Rattle.joint_tick.specs.declared.state.Answer.{Answer}
-use Rattle.image.specs.Layout.{TORQUE, COMMAND, FLAG, MARGIN, ANSWER-BYTES}
-use Rattle.image.specs.Inputs.{wordsOfAnswer, answerOf}
-use Rattle.image.specs.Fits.{F32, FitsVec}
+use Rattle.image.specs.{Layout.{TORQUE, COMMAND, FLAG, MARGIN, ANSWER-BYTES}, Inputs.{wordsOfAnswer, answerOf}, Fits.{F32, FitsVec}}
 
 answer-is : (a : Answer) → Holds (answerOf a) (wordsOfAnswer a)
 unfolding answerOf

@@ -1,32 +1,15 @@
 -- The state image holds the state: what is written is read again, and what is read is written again in canonical words. Assumes nothing.
-use mathlib.Core.Path.{_≡_, refl, sym, ap, _∙_}
-use mathlib.Core.Bool.{true, _&&_}
-use mathlib.Core.List.{List, [], _∷_, _++_}
-use Prim.Native.Nat.{ℕ, _+_, _-_, _<_}
-use native.Mathlib.Nat.{add-assoc}
-use lib.Dec.{eqb, lit<}
-use borrow.Author.Tests.{eq-eqb, eqb-true}
-use lib.ListN.{length, getD, take, drop}
-use lib.Ieee.{Float}
-use Rattle.laws.proofs.Tests.{both}
+use Rattle.laws.proofs.Prelude.{_≡_, refl, sym, ap, _∙_, true, _&&_, List, [], _∷_, _++_, ℕ, _+_, _-_, _<_, add-assoc, eqb, lit<, eq-eqb, eqb-true, length, getD, take, drop, Float, both}
 use Rattle.words.specs.Words.{word, float, vec, floatsOfVec, bits, flag, wordsOf, bytesOf, Holds, canons}
-use Rattle.words.proofs.Back.{word-back, bits-back, float-back, floats-back, first-back, float-fits, flag-back, flag-lt}
-use Rattle.words.proofs.Written.{length-bytesOf}
+use Rattle.words.proofs.{Back.{word-back, bits-back, float-back, floats-back, first-back, float-fits, flag-back, flag-lt}, Written.length-bytesOf}
 use Rattle.relay_math.specs.declared.Vec3.{Vec3}
-use Rattle.relay_geo.specs.declared.controller.GeoGains.{GeoGains}
-use Rattle.relay_geo.specs.declared.set.RecoverableSet.{RecoverableSet}
-use Rattle.relay_traj.specs.declared.governor.RefGovernor.{RefGovernor}
-use Rattle.relay_traj.specs.declared.quintic.Quintic.{Quintic}
-use Rattle.relay_adrc.specs.declared.axis.AdrcAxis.{AdrcAxis}
-use Rattle.relay_adrc.specs.declared.biquad.Biquad.{Biquad}
-use Rattle.relay_traj.specs.Segment.{peakAbsJerk3}
-use Rattle.joint_tick.specs.declared.profile.Profile.{Profile}
-use Rattle.joint_tick.specs.declared.profile.Profile.the-variants.{Whole, LostRotor}
-use Rattle.joint_tick.specs.declared.state.State.{State}
-use Rattle.joint_tick.specs.Profile.{profileWord, profileOf}
+use Rattle.relay_geo.specs.declared.{controller.GeoGains.GeoGains, set.RecoverableSet.RecoverableSet}
+use Rattle.relay_traj.specs.{declared.{governor.RefGovernor.RefGovernor, quintic.Quintic.Quintic}, Segment.peakAbsJerk3}
+use Rattle.relay_adrc.specs.declared.{axis.AdrcAxis.AdrcAxis, biquad.Biquad.Biquad}
+use Rattle.joint_tick.specs.{declared.{profile.Profile.{Profile, the-variants.{Whole, LostRotor}}, state.State.State}, Profile.{profileWord, profileOf}}
 use Rattle.image.specs.Layout.{QUINTIC-WORDS, AXIS-WORDS, BIQUAD-WORDS, COUNT, GAINS, SET, ENTER, EXIT, ENGAGED, GOVERNOR, SEGMENT, RATE, LPF, PROFILE, PEAKS, IMAGE-WORDS, IMAGE-BYTES}
-use Rattle.image.specs.Parts.{gainsAt, setAt, governorAt, quinticAt, segmentAt, adrcGainsAt, axisAt, rateAt, biquadAt, lpfAt, profileAt, floatsOfGains, floatsOfSet, floatsOfGovernor, floatsOfQuintic, floatsOfAxis, floatsOfBiquad}
-use Rattle.image.specs.Image.{fixedAt, movingAt, stateAt, wordsOfState, imageOf, peaksOf, peaksStand, canonicalImage}
+use Rattle.image.specs.Parts.{gainsAt, setAt, governorAt, quinticAt, segmentAt, adrcGainsAt, axisAt, rateAt, biquadAt, lpfAt, profileAt, floatsOfGains, floatsOfSet, floatsOfGovernor}
+use Rattle.image.specs.{Parts.{floatsOfQuintic, floatsOfAxis, floatsOfBiquad}, Image.{fixedAt, movingAt, stateAt, wordsOfState, imageOf, peaksOf, peaksStand, canonicalImage}}
 use Rattle.image.specs.Fits.{F32, FitsGains, FitsSet, FitsGovernor, FitsQuintic, FitsSegment, FitsAxis, FitsRate, FitsBiquad, FitsLpf, Fits}
 use Rattle.image.proofs.Fitting.{peaks-fit}
 

@@ -1,29 +1,13 @@
 -- What the routines make of f32 values are f32 values: the premise of `decode-encode` holds of every state that set-up and ticks make. Assumes nothing.
-use mathlib.Core.Bool.{Bool, true, false, cond}
-use lib.Ieee.{Float}
-use lib.Ieee.Fits.{cond-fits, add-fits, sub-fits, mul-fits, div-fits}
-use lib.Ieee.Bits.{ofBits-fits}
-use Rattle.relay_math.specs.declared.Vec3.{Vec3}
-use Rattle.relay_math.specs.declared.BodyRate.{BodyRate}
-use Rattle.relay_geo.specs.declared.set.RecoverableSet.{RecoverableSet}
-use Rattle.relay_geo.specs.Shield.{newShield}
-use Rattle.relay_traj.specs.declared.governor.RefGovernor.{RefGovernor}
-use Rattle.relay_traj.specs.Governor.{governor, advance}
-use Rattle.relay_traj.specs.declared.quintic.Quintic.{Quintic}
-use Rattle.relay_traj.specs.declared.segment.Segment3.{Segment3}
-use Rattle.relay_traj.specs.Quintic.{quintic, peakAbsJerk}
+use Rattle.laws.proofs.Prelude.{Bool, true, false, cond, Float}
+use lib.Ieee.{Fits.{cond-fits, add-fits, sub-fits, mul-fits, div-fits}, Bits.ofBits-fits}
+use Rattle.relay_math.specs.declared.{Vec3.Vec3, BodyRate.BodyRate}
+use Rattle.relay_geo.specs.{declared.set.RecoverableSet.RecoverableSet, Shield.newShield}
+use Rattle.relay_traj.specs.{declared.{governor.RefGovernor.RefGovernor, quintic.Quintic.Quintic, segment.Segment3.Segment3}, Governor.{governor, advance}, Quintic.{quintic, peakAbsJerk}}
 use Rattle.relay_traj.specs.Segment.{segment, peakAbsJerk3}
-use Rattle.relay_adrc.specs.declared.gains.AdrcGains.{AdrcGains}
-use Rattle.relay_adrc.specs.declared.axis.AdrcAxis.{AdrcAxis}
-use Rattle.relay_adrc.specs.declared.rate.AdrcRate.{AdrcRate}
-use Rattle.relay_adrc.specs.declared.biquad.Biquad.{Biquad}
-use Rattle.relay_adrc.specs.declared.biquad.GyroLpf.{GyroLpf}
-use Rattle.relay_adrc.specs.Axis.{axisNew, axisTick, axisSetDeliveredFraction}
-use Rattle.relay_adrc.specs.Rate.{rateNew}
-use Rattle.relay_adrc.specs.Biquad.{passesThrough, passthrough, filterAt, lowpass, biquadFilter, gyroNew, gyroFilter}
-use Rattle.joint_tick.specs.declared.profile.Profile.{Profile}
-use Rattle.joint_tick.specs.declared.profile.Profile.the-variants.{Whole, LostRotor}
-use Rattle.joint_tick.specs.Tick.{fractionThird, fractions, tickThird, follow}
+use Rattle.relay_adrc.specs.declared.{gains.AdrcGains.AdrcGains, axis.AdrcAxis.AdrcAxis, rate.AdrcRate.AdrcRate, biquad.{Biquad.Biquad, GyroLpf.GyroLpf}}
+use Rattle.relay_adrc.specs.{Axis.{axisNew, axisTick, axisSetDeliveredFraction}, Rate.rateNew, Biquad.{passesThrough, passthrough, filterAt, lowpass, biquadFilter, gyroNew, gyroFilter}}
+use Rattle.joint_tick.specs.{declared.profile.Profile.{Profile, the-variants.{Whole, LostRotor}}, Tick.{fractionThird, fractions, tickThird, follow}}
 use Rattle.image.specs.Fits.{F32, FitsVec, FitsGovernor, FitsQuintic, FitsSegment, FitsAdrcGains, FitsAxis, FitsRate, FitsBiquad, FitsLpf}
 
 -- each operation rounds to an f32, a literal is one, and a choice of two is one of them

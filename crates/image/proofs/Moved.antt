@@ -1,25 +1,11 @@
 -- An image over which only what a tick moved is written. Assumes nothing.
-use mathlib.Core.Path.{_≡_, refl, sym, ap, subst, _∙_}
-use mathlib.Core.Bool.{Bool, true, false}
-use mathlib.Core.List.{List, [], _∷_}
-use Prim.Native.Nat.{ℕ, _+_, _≤_}
-use lib.Dec.{lit≤, eqb}
-use lib.ListN.{length}
-use lib.Ieee.{binary32, toBits, ofBits}
+use Rattle.laws.proofs.Prelude.{_≡_, refl, sym, ap, subst, _∙_, Bool, true, false, List, [], _∷_, ℕ, _+_, _≤_, lit≤, eqb, length, binary32, toBits, ofBits}
 use lib.Ieee.Bits.{ofBits-toBits}
-use Rattle.words.specs.Words.{word, bits, canon, flag, wordsOf, bytesOf, Put, Holds, canons}
-use Rattle.words.proofs.Standing.{put-holds}
-use Rattle.joint_tick.specs.declared.profile.Profile.{Profile}
-use Rattle.joint_tick.specs.declared.profile.Profile.the-variants.{Whole, LostRotor}
-use Rattle.joint_tick.specs.declared.state.Moving.{Moving}
-use Rattle.joint_tick.specs.declared.state.State.{State}
-use Rattle.joint_tick.specs.Profile.{profileWord, profileOf}
-use Rattle.image.specs.Layout.{AXIS-WORDS, BIQUAD-WORDS, COUNT, ENGAGED, GOVERNOR, SEGMENT, RATE, LPF, PROFILE, IMAGE-WORDS, IMAGE-BYTES}
-use Rattle.image.specs.Parts.{segmentAt}
-use Rattle.image.specs.Image.{fixedAt, movingAt, stateAt, wordsOfState, imageOf, canonicalImage, peaksOf}
-use Rattle.image.specs.Inner.{Judged, movedOfAxis, movedOfBiquad, over, Unmoved}
-use Rattle.image.proofs.Decoded.{image-is, image-length, standing, decode-encode, encode-decode, state-fits}
-use Rattle.image.proofs.Fitting.{peaks-fit}
+use Rattle.words.{specs.Words.{word, bits, canon, flag, wordsOf, bytesOf, Put, Holds, canons}, proofs.Standing.put-holds}
+use Rattle.joint_tick.specs.{declared.{profile.Profile.{Profile, the-variants.{Whole, LostRotor}}, state.{Moving.Moving, State.State}}, Profile.{profileWord, profileOf}}
+use Rattle.image.specs.{Layout.{AXIS-WORDS, BIQUAD-WORDS, COUNT, ENGAGED, GOVERNOR, SEGMENT, RATE, LPF, PROFILE, IMAGE-WORDS, IMAGE-BYTES}, Parts.segmentAt}
+use Rattle.image.specs.{Image.{fixedAt, movingAt, stateAt, wordsOfState, imageOf, canonicalImage, peaksOf}, Inner.{Judged, movedOfAxis, movedOfBiquad, over, Unmoved}}
+use Rattle.image.proofs.{Decoded.{image-is, image-length, standing, decode-encode, encode-decode, state-fits}, Fitting.peaks-fit}
 
 -- ---- an image that row 4 took, each of its words made canonical, is the image of its own state
 

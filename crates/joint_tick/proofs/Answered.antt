@@ -1,35 +1,13 @@
 -- What the answer can hold: of its numbers only psi can be a NaN. Assumes nothing.
-use mathlib.Core.Path.{sym, subst}
-use mathlib.Core.Logic.{inl, inr}
-use mathlib.Core.Bool.{Bool, true, false, not, cond}
-use lib.Dec.{T}
-use lib.Ieee.{Float, isNan, ofBits}
-use Rattle.relay_math.specs.F32.{isFinite}
-use Rattle.relay_math.specs.declared.Vec3.{Vec3}
-use Rattle.relay_math.specs.declared.BodyRate.{BodyRate}
-use Rattle.laws.proofs.Tests.{held}
-use Rattle.relay_math.proofs.Order.{finite-number}
-use Rattle.relay_adrc.specs.declared.rate.AdrcRate.{AdrcRate}
-use Rattle.relay_adrc.proofs.Tick.{tick-finite}
-use Rattle.relay_geo.specs.declared.controller.GeoGains.{GeoGains}
-use Rattle.relay_geo.specs.declared.set.RecoverableSet.{RecoverableSet}
-use Rattle.relay_geo.specs.Vectors.{sanitise3, Finite3}
-use Rattle.relay_geo.specs.Attitude.{quatToRotmat, thrustAxisNed}
-use Rattle.relay_geo.specs.Set.{minusInfinity}
-use Rattle.relay_geo.proofs.Finite.{sanitise3-finite}
-use Rattle.relay_geo.proofs.MarginRange.{Ranges, margin-finite-or-minus-infinity}
-use Rattle.relay_traj.specs.Governor.{Running}
-use Rattle.relay_traj.proofs.Clock.{never-nan}
-use Rattle.joint_tick.specs.declared.profile.Profile.{Profile}
-use Rattle.joint_tick.specs.declared.profile.Profile.the-variants.{Whole, LostRotor}
-use Rattle.joint_tick.specs.declared.state.State.{State}
-use Rattle.joint_tick.specs.declared.state.TickInput.{TickInput}
-use Rattle.joint_tick.specs.declared.state.Answer.{Answer}
-use Rattle.joint_tick.specs.declared.stages.Reference.{Reference}
+use Rattle.laws.proofs.Prelude.{sym, subst, inl, inr, Bool, true, false, not, cond, T, Float, isNan, ofBits, held}
+use Rattle.relay_math.{specs.{F32.isFinite, declared.{Vec3.Vec3, BodyRate.BodyRate}}, proofs.Order.finite-number}
+use Rattle.relay_adrc.{specs.declared.rate.AdrcRate.AdrcRate, proofs.Tick.tick-finite}
+use Rattle.relay_geo.specs.{declared.{controller.GeoGains.GeoGains, set.RecoverableSet.RecoverableSet}, Vectors.{sanitise3, Finite3}, Attitude.{quatToRotmat, thrustAxisNed}, Set.minusInfinity}
+use Rattle.relay_geo.proofs.{Finite.sanitise3-finite, MarginRange.{Ranges, margin-finite-or-minus-infinity}}
+use Rattle.relay_traj.{specs.Governor.Running, proofs.Clock.never-nan}
+use Rattle.joint_tick.specs.declared.{profile.Profile.{Profile, the-variants.{Whole, LostRotor}}, state.{State.State, TickInput.TickInput, Answer.Answer}, stages.Reference.Reference}
 use Rattle.joint_tick.specs.Tick.{cleaned, desired, ahead, rateError, rateSq, psiOf, psiToAxis, tiltRateSq, guideWhole, guideLostRotor, guide, guidance, follow, ticked}
-use Rattle.joint_tick.proofs.Once.{one-margin, one-margin-to-axis}
-use Rattle.joint_tick.proofs.Shielding.{filtered, wantedAt, planner-finite, tick-margin, tick-command, tick-torque}
-use Rattle.joint_tick.proofs.Clock.{tick-time, time-never-back}
+use Rattle.joint_tick.proofs.{Once.{one-margin, one-margin-to-axis}, Shielding.{filtered, wantedAt, planner-finite, tick-margin, tick-command, tick-torque}, Clock.{tick-time, time-never-back}}
 
 -- ---- the margin is finite or minus infinity, with R_d and without
 

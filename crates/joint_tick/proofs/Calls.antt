@@ -1,19 +1,10 @@
 -- The fraction of the last torque, and where the segment is sampled. Assumes nothing.
-use mathlib.Core.Path.{_≡_, refl}
-use mathlib.Core.Bool.{true, false}
-use lib.Ieee.{Float, nan, inf, fin, eq, ofBits}
+use Rattle.laws.proofs.Prelude.{_≡_, refl, true, false, Float, nan, inf, fin, eq, ofBits, no}
 use Rattle.relay_math.specs.F32.{_⊗_, 0·0, isFinite, finiteOr}
-use Rattle.laws.proofs.Tests.{no}
-use Rattle.relay_adrc.specs.declared.gains.AdrcGains.{AdrcGains}
-use Rattle.relay_adrc.specs.declared.axis.AdrcAxis.{AdrcAxis}
-use Rattle.relay_adrc.specs.Axis.{mendDt, lag, deliveredFraction, axisSetDeliveredFraction}
+use Rattle.relay_adrc.specs.{declared.{gains.AdrcGains.AdrcGains, axis.AdrcAxis.AdrcAxis}, Axis.{mendDt, lag, deliveredFraction, axisSetDeliveredFraction}}
 use Rattle.relay_adrc.proofs.Tick.{fraction-scales-the-command-before}
-use Rattle.relay_traj.specs.declared.segment.Segment3.{Segment3}
-use Rattle.relay_traj.specs.Segment.{duration}
-use Rattle.joint_tick.specs.declared.profile.Profile.the-variants.{Whole}
-use Rattle.joint_tick.specs.declared.state.State.{State}
-use Rattle.joint_tick.specs.declared.state.TickInput.{TickInput}
-use Rattle.joint_tick.specs.declared.stages.Reference.{Reference}
+use Rattle.relay_traj.specs.{declared.segment.Segment3.Segment3, Segment.duration}
+use Rattle.joint_tick.specs.declared.{profile.Profile.the-variants.Whole, state.{State.State, TickInput.TickInput}, stages.Reference.Reference}
 use Rattle.joint_tick.specs.Tick.{prepare, sampleTime, follow, pick, finish, ticked, stateAfter}
 
 -- ---- "The delivered fraction set after one tick is used in the next": a tick's fraction scales the torque that the tick before it answered.

@@ -1,20 +1,9 @@
 -- The governor's time over a tick, and the two rules for dt. Assumes nothing.
-use mathlib.Core.Path.{_≡_, refl}
-use mathlib.Core.Bool.{false}
-use lib.Dec.{T}
-use lib.Ieee.{Float, lt, le, eq, ofBits}
-use Rattle.relay_math.specs.F32.{0·0, 1e-3, isFinite, finiteAbove}
-use Rattle.relay_math.specs.declared.BodyRate.{BodyRate}
-use Rattle.relay_adrc.specs.declared.axis.AdrcAxis.{AdrcAxis}
-use Rattle.relay_adrc.specs.declared.rate.AdrcRate.{AdrcRate}
-use Rattle.relay_adrc.specs.Axis.{axisTick}
-use Rattle.relay_traj.specs.Governor.{advance, Running}
-use Rattle.relay_traj.proofs.Clock.{clock-never-back, no-dt-keeps-number}
-use Rattle.joint_tick.specs.declared.profile.Profile.{Profile}
-use Rattle.joint_tick.specs.declared.profile.Profile.the-variants.{Whole, LostRotor}
-use Rattle.joint_tick.specs.declared.state.State.{State}
-use Rattle.joint_tick.specs.declared.state.TickInput.{TickInput}
-use Rattle.joint_tick.specs.declared.stages.Reference.{Reference}
+use Rattle.laws.proofs.Prelude.{_≡_, refl, false, T, Float, lt, le, eq, ofBits}
+use Rattle.relay_math.specs.{F32.{0·0, 1e-3, isFinite, finiteAbove}, declared.BodyRate.BodyRate}
+use Rattle.relay_adrc.specs.{declared.{axis.AdrcAxis.AdrcAxis, rate.AdrcRate.AdrcRate}, Axis.axisTick}
+use Rattle.relay_traj.{specs.Governor.{advance, Running}, proofs.Clock.{clock-never-back, no-dt-keeps-number}}
+use Rattle.joint_tick.specs.declared.{profile.Profile.{Profile, the-variants.{Whole, LostRotor}}, state.{State.State, TickInput.TickInput}, stages.Reference.Reference}
 use Rattle.joint_tick.specs.Tick.{fractions, prepare, tickThird, follow, pick, finish, ticked, stateAfter}
 
 axis-by-1ms : (a : AdrcAxis) (measured wanted dt : Float) → isFinite dt ≡ false → axisTick a measured wanted dt ≡ axisTick a measured wanted 1e-3

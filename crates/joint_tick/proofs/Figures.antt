@@ -1,13 +1,9 @@
 -- Document 01's proved set, worked out from the definitions. Assumes nothing.
-use mathlib.Core.Path.{refl}
-use lib.Ieee.{ofBits, add, sub, mul, div, neg, lt, le, eq, isNan}
-use Rattle.relay_math.specs.F32.{isFinite, fabsf, grains}
-use Rattle.relay_math.specs.Sqrt.{sqrtf}
+use Rattle.laws.proofs.Prelude.{refl, ofBits, add, sub, mul, div, neg, lt, le, eq, isNan}
+use Rattle.relay_math.specs.{F32.{isFinite, fabsf, grains}, Sqrt.sqrtf}
 use Rattle.relay_geo.specs.Set.{margin}
-use Rattle.relay_traj.specs.Quintic.{quintic, eval, peakAbsJerk}
-use Rattle.relay_traj.specs.Governor.{gate}
-use Rattle.relay_adrc.specs.Axis.{axisTick}
-use Rattle.relay_adrc.specs.Filter.{clampSym, filterStep}
+use Rattle.relay_traj.specs.{Quintic.{quintic, eval, peakAbsJerk}, Governor.gate}
+use Rattle.relay_adrc.specs.{Axis.axisTick, Filter.{clampSym, filterStep}}
 use Rattle.joint_tick.specs.Figures.{StarredFigures}
 
 pub starred-figures : StarredFigures

@@ -1,32 +1,12 @@
 -- What a tick keeps, and that every state from set-up on is one that a tick takes. Assumes nothing.
-use mathlib.Core.Path.{_≡_, refl}
-use mathlib.Core.Bool.{Bool, true, false, not, _&&_}
-use lib.Dec.{T}
-use lib.Ieee.{Float, nan, inf, fin, binary32, fits, lt, le, isNan, ofBits}
+use Rattle.laws.proofs.Prelude.{_≡_, refl, Bool, true, false, not, _&&_, T, Float, nan, inf, fin, binary32, fits, lt, le, isNan, ofBits, no, held}
 use lib.Ieee.Bits.{is-true}
-use Rattle.relay_math.specs.F32.{0·0, 1e-3, isFinite}
-use Rattle.laws.proofs.Tests.{no, held}
-use Rattle.relay_math.proofs.Order.{le-is-not-above}
-use Rattle.relay_adrc.specs.declared.axis.AdrcAxis.{AdrcAxis}
-use Rattle.relay_adrc.specs.Axis.{axisTick}
-use Rattle.relay_geo.specs.declared.set.RecoverableSet.{RecoverableSet}
-use Rattle.relay_geo.specs.Shield.{newShield}
-use Rattle.relay_geo.proofs.SetUp.{enter-finite-positive, fresh-in-order}
-use Rattle.relay_traj.specs.Governor.{Running}
-use Rattle.relay_traj.specs.Quintic.{Lasts}
-use Rattle.relay_traj.specs.Segment.{segment}
-use Rattle.relay_traj.proofs.Clock.{starts-at-zero}
-use Rattle.relay_traj.proofs.Leg.{segment-lasts}
-use Rattle.joint_tick.specs.declared.profile.Profile.{Profile}
-use Rattle.joint_tick.specs.declared.profile.Profile.the-variants.{Whole, LostRotor}
-use Rattle.joint_tick.specs.declared.state.Leg.{Leg}
-use Rattle.joint_tick.specs.declared.state.SetUp.{SetUp}
-use Rattle.joint_tick.specs.declared.state.Moving.{Moving}
-use Rattle.joint_tick.specs.declared.state.State.{State}
-use Rattle.joint_tick.specs.declared.state.TickInput.{TickInput}
-use Rattle.joint_tick.specs.declared.stages.Reference.{Reference}
-use Rattle.joint_tick.specs.SetUp.{segmentOf, setUp, exchange}
-use Rattle.joint_tick.specs.Tick.{fractionThird, prepare, tickThird, follow, pick, finish, ticked, stateAfter}
+use Rattle.relay_math.{specs.F32.{0·0, 1e-3, isFinite}, proofs.Order.le-is-not-above}
+use Rattle.relay_adrc.specs.{declared.axis.AdrcAxis.AdrcAxis, Axis.axisTick}
+use Rattle.relay_geo.{specs.{declared.set.RecoverableSet.RecoverableSet, Shield.newShield}, proofs.SetUp.{enter-finite-positive, fresh-in-order}}
+use Rattle.relay_traj.{specs.{Governor.Running, Quintic.Lasts, Segment.segment}, proofs.{Clock.starts-at-zero, Leg.segment-lasts}}
+use Rattle.joint_tick.specs.declared.{profile.Profile.{Profile, the-variants.{Whole, LostRotor}}, state.{Leg.Leg, SetUp.SetUp, Moving.Moving, State.State, TickInput.TickInput}}
+use Rattle.joint_tick.specs.{declared.stages.Reference.Reference, SetUp.{segmentOf, setUp, exchange}, Tick.{fractionThird, prepare, tickThird, follow, pick, finish, ticked, stateAfter}}
 use Rattle.joint_tick.specs.Good.{thresholdsOk, timeOk, lasts, segmentOk, good}
 use Rattle.joint_tick.proofs.Clock.{time-never-back}
 

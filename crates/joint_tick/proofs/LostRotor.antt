@@ -1,26 +1,12 @@
 -- Request Six: a tick with a rotor lost. Assumes nothing.
-use mathlib.Core.Path.{_≡_, refl, ap, _∙_}
-use mathlib.Core.Bool.{Bool, true, false, cond}
-use lib.Ieee.{Float, ofBits}
-use Rattle.relay_math.specs.F32.{0·0, isFinite}
-use Rattle.relay_math.specs.declared.BodyRate.{BodyRate}
-use Rattle.relay_adrc.specs.declared.rate.AdrcRate.{AdrcRate}
-use Rattle.relay_adrc.specs.Rate.{rateTick, rateSetDeliveredFraction}
-use Rattle.relay_geo.specs.declared.vectors.Mat3.{Mat3}
-use Rattle.relay_geo.specs.declared.vectors.Direction.{Direction}
-use Rattle.relay_geo.specs.declared.vectors.Direction.the-variants as direction
-use Rattle.relay_geo.specs.declared.controller.GeoGains.{GeoGains}
-use Rattle.relay_geo.specs.Vectors.{sanitise3}
-use Rattle.relay_geo.specs.Attitude.{quatToRotmat, thrustAxisNed}
-use Rattle.relay_math.specs.declared.Vec3.{Vec3}
-use Rattle.joint_tick.specs.declared.profile.Profile.{Profile}
-use Rattle.joint_tick.specs.declared.profile.Profile.the-variants.{Whole, LostRotor}
-use Rattle.joint_tick.specs.declared.state.State.{State}
-use Rattle.joint_tick.specs.declared.state.TickInput.{TickInput}
-use Rattle.joint_tick.specs.declared.stages.Reference.{Reference}
-use Rattle.joint_tick.specs.declared.stages.Guided.{Guided}
+use Rattle.laws.proofs.Prelude.{_≡_, refl, ap, _∙_, Bool, true, false, cond, Float, ofBits}
+use Rattle.relay_math.specs.{F32.{0·0, isFinite}, declared.{BodyRate.BodyRate, Vec3.Vec3}}
+use Rattle.relay_adrc.specs.{declared.rate.AdrcRate.AdrcRate, Rate.{rateTick, rateSetDeliveredFraction}}
+use Rattle.relay_geo.specs.{declared.{vectors.{Mat3.Mat3, Direction.Direction}, controller.GeoGains.GeoGains}, Vectors.sanitise3, Attitude.{quatToRotmat, thrustAxisNed}}
+use Rattle.joint_tick.specs.declared.{profile.Profile.{Profile, the-variants.{Whole, LostRotor}}, state.{State.State, TickInput.TickInput}, stages.{Reference.Reference, Guided.Guided}}
 use Rattle.joint_tick.specs.Tick.{cleaned, plannerOf, fractions, prepare, rateTowardAxis, guideLostRotor, guide, follow, pick, finish, ticked, stateAfter}
 use Rattle.joint_tick.proofs.Shielding.{wantedAt, by-profile, tick-command}
+use Rattle.relay_geo.specs.declared.vectors.Direction.the-variants as direction
 
 -- ---- the old rules are as they were: each part that goes by the profile is the routine that stood there (`guide Whole` is `guideWhole` as it is written)
 

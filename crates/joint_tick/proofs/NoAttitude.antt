@@ -1,33 +1,15 @@
 -- A tick with no desired attitude, by the old rules: in free fall, and at a heading that is no number, infinite or beyond the limit. Assumes nothing.
-use mathlib.Core.Path.{_≡_, refl, _∙_, ap}
-use mathlib.Core.Bool.{Bool, true, false, not, cond}
-use lib.Dec.{T}
-use lib.Ieee.{Float, nan, ofBits}
-use Rattle.relay_math.specs.F32.{0·0, isFinite}
-use Rattle.relay_math.specs.Exact.{inRange}
-use Rattle.relay_math.specs.declared.Vec3.{Vec3}
-use Rattle.relay_math.specs.declared.BodyRate.{BodyRate}
-use Rattle.relay_geo.specs.declared.vectors.Direction.the-variants as direction
-use Rattle.relay_geo.specs.declared.attitude.Attitude.the-variants.{Refused}
-use Rattle.relay_geo.specs.declared.attitude.Feedforward.{Feedforward}
-use Rattle.relay_geo.specs.declared.attitude.Feedforward.the-variants as rate
-use Rattle.relay_geo.specs.declared.controller.GeoGains.{GeoGains}
-use Rattle.relay_geo.specs.declared.set.RecoverableSet.{RecoverableSet}
-use Rattle.relay_geo.specs.Vectors.{norm, sanitise3}
-use Rattle.relay_geo.specs.Attitude.{thrustForce, thrustAxisNed, thrustAttitude, tooWeak, flatnessOmegaFf}
-use Rattle.relay_geo.specs.Inner.{feedforwardFrom, thrustOf, feedforwardOn}
-use Rattle.relay_geo.specs.Set.{minusInfinity}
+use Rattle.laws.proofs.Prelude.{_≡_, refl, _∙_, ap, Bool, true, false, not, cond, T, Float, nan, ofBits}
+use Rattle.relay_math.specs.{F32.{0·0, isFinite}, Exact.inRange, declared.{Vec3.Vec3, BodyRate.BodyRate}}
+use Rattle.relay_geo.specs.{declared.{attitude.{Attitude.the-variants.Refused, Feedforward.Feedforward}, controller.GeoGains.GeoGains, set.RecoverableSet.RecoverableSet}, Vectors.{norm, sanitise3}}
+use Rattle.relay_geo.specs.{Attitude.{thrustForce, thrustAxisNed, thrustAttitude, tooWeak, flatnessOmegaFf}, Inner.{feedforwardFrom, thrustOf, feedforwardOn}, Set.minusInfinity}
+use Rattle.relay_geo.proofs.{Accepts.feedforward-shares, NoAttitude.bad-heading-none}
 use Rattle.latch.specs.Latch.{latch}
-use Rattle.relay_geo.proofs.Accepts.{feedforward-shares}
-use Rattle.relay_geo.proofs.NoAttitude.{bad-heading-none}
-use Rattle.joint_tick.specs.declared.profile.Profile.the-variants.{Whole, LostRotor}
-use Rattle.joint_tick.specs.declared.state.State.{State}
-use Rattle.joint_tick.specs.declared.state.TickInput.{TickInput}
-use Rattle.joint_tick.specs.declared.stages.Reference.{Reference}
-use Rattle.joint_tick.specs.declared.stages.Guided.{Guided}
+use Rattle.joint_tick.specs.declared.{profile.Profile.the-variants.{Whole, LostRotor}, state.{State.State, TickInput.TickInput}, stages.{Reference.Reference, Guided.Guided}}
 use Rattle.joint_tick.specs.Tick.{cleaned, desired, plannerOf, guideWhole, guideLostRotor, guide, guidance, ticked}
-use Rattle.joint_tick.proofs.Once.{one-attitude}
-use Rattle.joint_tick.proofs.Shielding.{filtered, wantedAt, by-profile, tick-latch, tick-margin, tick-psi, tick-fallback}
+use Rattle.joint_tick.proofs.{Once.one-attitude, Shielding.{filtered, wantedAt, by-profile, tick-latch, tick-margin, tick-psi, tick-fallback}}
+use Rattle.relay_geo.specs.declared.vectors.Direction.the-variants as direction
+use Rattle.relay_geo.specs.declared.attitude.Feedforward.the-variants as rate
 
 abbrev zeros : BodyRate
 zeros = record { 0 = (0·0, 0·0, 0·0) }

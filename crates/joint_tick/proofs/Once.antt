@@ -1,42 +1,16 @@
 -- `guide_whole` builds R and R_d once, and takes the length of g - a once; ADRC's tick is taken in two halves, and follows the command as it was chosen: that is the Rust's own calls, bit for bit. Assumes nothing.
-use mathlib.Core.Path.{_≡_, refl, _∙_}
-use mathlib.Core.Bool.{cond}
-use lib.Ieee.{Float}
-use Rattle.relay_math.specs.F32.{0·0, isFinite, finiteOr}
-use Rattle.relay_math.specs.declared.Vec3.{Vec3}
-use Rattle.relay_math.specs.declared.BodyRate.{BodyRate}
-use Rattle.relay_math.proofs.Finite.{finite-or-keeps, or-zero-finite}
-use Rattle.relay_geo.specs.declared.vectors.Mat3.{Mat3}
-use Rattle.relay_geo.specs.declared.vectors.Quat.{Quat}
-use Rattle.relay_geo.specs.declared.vectors.Direction.{Direction}
-use Rattle.relay_geo.specs.declared.vectors.Direction.the-variants as direction
-use Rattle.relay_geo.specs.declared.attitude.Attitude.{Attitude}
-use Rattle.relay_geo.specs.declared.attitude.Attitude.the-variants.{Matrix, Refused}
-use Rattle.relay_geo.specs.declared.controller.GeoGains.{GeoGains}
-use Rattle.relay_geo.specs.declared.set.RecoverableSet.{RecoverableSet}
-use Rattle.relay_geo.specs.Vectors.{sanitise3}
-use Rattle.relay_geo.specs.Attitude.{quatToRotmat, thrustAxisNed, thrustAttitude}
-use Rattle.relay_geo.specs.Inner.{thrustOf, attitudeOn, feedforwardOn}
-use Rattle.relay_geo.specs.Controller.{rateToward, desiredRate}
-use Rattle.relay_geo.specs.Set.{margin}
-use Rattle.relay_geo.specs.Shield.{step}
-use Rattle.relay_geo.proofs.Accepts.{shared-attitude, shared-feedforward}
+use Rattle.laws.proofs.Prelude.{_≡_, refl, _∙_, cond, Float}
+use Rattle.relay_math.{specs.{F32.{0·0, isFinite, finiteOr}, declared.{Vec3.Vec3, BodyRate.BodyRate}}, proofs.Finite.{finite-or-keeps, or-zero-finite}}
+use Rattle.relay_geo.specs.declared.{vectors.{Mat3.Mat3, Quat.Quat, Direction.Direction}, attitude.Attitude.{Attitude, the-variants.{Matrix, Refused}}, controller.GeoGains.GeoGains}
+use Rattle.relay_geo.specs.{declared.set.RecoverableSet.RecoverableSet, Vectors.sanitise3, Attitude.{quatToRotmat, thrustAxisNed, thrustAttitude}, Inner.{thrustOf, attitudeOn, feedforwardOn}}
+use Rattle.relay_geo.{specs.{Controller.{rateToward, desiredRate}, Set.margin, Shield.step}, proofs.Accepts.{shared-attitude, shared-feedforward}}
 use Rattle.relay_geo.proofs.Finite.{sanitise3-finite, sanitise3-keeps, sanitised-after}
-use Rattle.joint_tick.specs.declared.profile.Profile.{Profile}
-use Rattle.joint_tick.specs.declared.profile.Profile.the-variants.{Whole, LostRotor}
-use Rattle.joint_tick.specs.declared.state.Fixed.{Fixed}
-use Rattle.joint_tick.specs.declared.state.TickInput.{TickInput}
-use Rattle.joint_tick.specs.declared.stages.Reference.{Reference}
-use Rattle.relay_adrc.specs.declared.axis.AdrcAxis.{AdrcAxis}
-use Rattle.relay_adrc.specs.declared.axis.Observed.{Observed}
-use Rattle.relay_adrc.specs.declared.rate.AdrcRate.{AdrcRate}
-use Rattle.relay_adrc.specs.Inner.{axisAct}
-use Rattle.relay_adrc.proofs.Tick.{tick-in-halves}
-use Rattle.joint_tick.specs.declared.stages.Prepared.{Prepared}
-use Rattle.joint_tick.specs.declared.stages.Guided.{Guided}
-use Rattle.joint_tick.specs.declared.stages.Observed3.{Observed3}
-use Rattle.joint_tick.specs.Tick.{cleaned, plus, rateError, rateSq, psiOf, marginOf, guideWhole, rateTowardAxis, psiToAxis, tiltRateSq, marginToAxis, guideLostRotor, picked, tickThird, follow, pick}
-use Rattle.joint_tick.specs.Inner.{observeThird, observe, actThird, followOn, pickOn}
+use Rattle.joint_tick.specs.declared.{profile.Profile.{Profile, the-variants.{Whole, LostRotor}}, state.{Fixed.Fixed, TickInput.TickInput}, stages.{Reference.Reference, Prepared.Prepared}}
+use Rattle.joint_tick.specs.declared.stages.{Guided.Guided, Observed3.Observed3}
+use Rattle.joint_tick.specs.Tick.{cleaned, plus, rateError, rateSq, psiOf, marginOf, guideWhole, rateTowardAxis, psiToAxis, tiltRateSq, marginToAxis, guideLostRotor, picked, tickThird, follow}
+use Rattle.joint_tick.specs.{Tick.pick, Inner.{observeThird, observe, actThird, followOn, pickOn}}
+use Rattle.relay_adrc.{specs.{declared.{axis.{AdrcAxis.AdrcAxis, Observed.Observed}, rate.AdrcRate.AdrcRate}, Inner.axisAct}, proofs.Tick.tick-in-halves}
+use Rattle.relay_geo.specs.declared.vectors.Direction.the-variants as direction
 
 -- `desired_rate` cleans its acceleration, which is clean already: its R_d is the tick's
 pub one-attitude : (g : GeoGains) (q : Quat) (a : Vec3) (yaw : Float) → desiredRate g q (sanitise3 a) yaw ≡ rateToward g (quatToRotmat q) (thrustAttitude (sanitise3 a) yaw)

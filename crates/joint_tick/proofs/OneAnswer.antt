@@ -1,5 +1,5 @@
 -- Of each public function here: no second answer fits its promise. Assumes nothing.
-use mathlib.Core.Path.{refl}
+use Rattle.laws.proofs.Prelude.{refl}
 use Rattle.laws.proofs.Determined.{OneAnswer, no-second}
 use Rattle.joint_tick.proofs.profile
 use Rattle.joint_tick.proofs.setup

@@ -1,20 +1,9 @@
 -- The flag, the latch and the command of a tick, from any source of references: Assumes nothing.
-use mathlib.Core.Path.{_≡_, refl, sym, subst, _∙_, ap}
-use mathlib.Core.Bool.{Bool, true, false, cond}
-use lib.Ieee.{Float, ofBits}
-use Rattle.relay_math.specs.F32.{isFinite}
-use Rattle.relay_math.specs.declared.Vec3.{Vec3}
-use Rattle.relay_math.specs.declared.BodyRate.{BodyRate}
-use Rattle.relay_geo.specs.Vectors.{sanitise3, Finite3}
+use Rattle.laws.proofs.Prelude.{_≡_, refl, sym, subst, _∙_, ap, Bool, true, false, cond, Float, ofBits}
+use Rattle.relay_math.specs.{F32.isFinite, declared.{Vec3.Vec3, BodyRate.BodyRate}}
+use Rattle.relay_geo.{specs.{Vectors.{sanitise3, Finite3}, Shield.step}, proofs.{Finite.{sanitise3-finite, sanitise3-keeps}, Steps.{step-latches, planner-passed-on, fallback-passed-on}}}
 use Rattle.latch.specs.Latch.{latch}
-use Rattle.relay_geo.proofs.Finite.{sanitise3-finite, sanitise3-keeps}
-use Rattle.relay_geo.specs.Shield.{step}
-use Rattle.relay_geo.proofs.Steps.{step-latches, planner-passed-on, fallback-passed-on}
-use Rattle.joint_tick.specs.declared.profile.Profile.{Profile}
-use Rattle.joint_tick.specs.declared.profile.Profile.the-variants.{Whole, LostRotor}
-use Rattle.joint_tick.specs.declared.state.State.{State}
-use Rattle.joint_tick.specs.declared.state.TickInput.{TickInput}
-use Rattle.joint_tick.specs.declared.stages.Reference.{Reference}
+use Rattle.joint_tick.specs.declared.{profile.Profile.{Profile, the-variants.{Whole, LostRotor}}, state.{State.State, TickInput.TickInput}, stages.Reference.Reference}
 use Rattle.joint_tick.specs.Tick.{shieldOf, plannerOf, fractions, prepare, guideWhole, guideLostRotor, guide, follow, pick, finish, guidance, ticked}
 
 -- the planner's command is clean already, in either profile

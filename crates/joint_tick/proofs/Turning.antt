@@ -1,35 +1,15 @@
 -- Request Four, by the old rules: where nothing is commanded, the margin is document 01's, bit for bit. Assumes nothing.
-use mathlib.Core.Path.{_≡_, refl, _∙_, ap}
-use mathlib.Core.Bool.{Bool, true, false, not, cond}
-use Prim.Native.Nat.{ℕ, zero, suc, _*_, _^_}
-use native.Mathlib.Nat.{zero-mul, mul-one, add-zero, sub-zero}
-use native.Mathlib.Omega.{arith}
-use borrow.Author.Tests.{le-ltb, lt-ltb}
-use lib.IntN.{ℤ, pos}
-use lib.Dec.{T, ltb}
-use lib.Ieee.{Float, nan, inf, fin, binary32, fits, up, down, odd, units, round, neg, sum, add, sub, mul, eq}
-use lib.Ieee.Bits.{ofBits-fits}
-use lib.Ieee.Fits.{cond-fits, neg-fits, add-fits, sub-fits}
-use Rattle.relay_math.specs.F32.{_⊖_, _⊗_, 0·0}
-use Rattle.relay_math.specs.declared.Vec3.{Vec3}
-use Rattle.relay_math.specs.declared.BodyRate.{BodyRate}
-use Rattle.relay_math.proofs.Signs.{zero-is, size-pos}
-use Rattle.relay_math.proofs.Sums.{round-zero, round-own}
+use Rattle.laws.proofs.Prelude.{_≡_, refl, _∙_, ap, Bool, true, false, not, cond, ℕ, zero, suc, _*_, _^_, zero-mul, mul-one, add-zero, sub-zero, arith, le-ltb, lt-ltb, ℤ, pos, T, ltb, Float, nan, inf}
+use Rattle.laws.proofs.Prelude.{fin, binary32, fits, up, down, odd, units, round, neg, sum, add, sub, mul, eq}
+use lib.Ieee.{Bits.ofBits-fits, Fits.{cond-fits, neg-fits, add-fits, sub-fits}}
+use Rattle.relay_math.{specs.{F32.{_⊖_, _⊗_, 0·0}, declared.{Vec3.Vec3, BodyRate.BodyRate}}, proofs.{Signs.{zero-is, size-pos}, Sums.{round-zero, round-own}}}
 use Rattle.relay_math.proofs.Zeros.{IsZero, none, is-zero, times, plus, minus}
-use Rattle.relay_adrc.specs.declared.biquad.Biquad.{Biquad}
-use Rattle.relay_adrc.specs.Biquad.{biquadFilter, gyroFilter}
-use Rattle.relay_geo.specs.declared.vectors.Mat3.{Mat3}
-use Rattle.relay_geo.specs.declared.attitude.Attitude.the-variants.{Matrix}
-use Rattle.relay_geo.specs.declared.attitude.Feedforward.the-variants as rate
-use Rattle.relay_geo.specs.Vectors.{dot, transpose3, matmul3, Finite3}
-use Rattle.relay_geo.specs.Attitude.{quatToRotmat}
-use Rattle.joint_tick.specs.declared.profile.Profile.the-variants.{Whole}
-use Rattle.joint_tick.specs.declared.state.State.{State}
-use Rattle.joint_tick.specs.declared.state.TickInput.{TickInput}
-use Rattle.joint_tick.specs.declared.stages.Reference.{Reference}
-use Rattle.joint_tick.specs.declared.stages.Guided.{Guided}
+use Rattle.relay_adrc.specs.{declared.biquad.Biquad.Biquad, Biquad.{biquadFilter, gyroFilter}}
+use Rattle.relay_geo.specs.{declared.{vectors.Mat3.Mat3, attitude.Attitude.the-variants.Matrix}, Vectors.{dot, transpose3, matmul3, Finite3}, Attitude.quatToRotmat}
+use Rattle.joint_tick.specs.declared.{profile.Profile.the-variants.Whole, state.{State.State, TickInput.TickInput}, stages.{Reference.Reference, Guided.Guided}}
 use Rattle.joint_tick.specs.Tick.{prepare, desired, ahead, commanded, rateSq, marginOf, guideWhole, guide, ticked}
 use Rattle.joint_tick.proofs.Shielding.{filtered, wantedAt, by-profile, tick-margin}
+use Rattle.relay_geo.specs.declared.attitude.Feedforward.the-variants as rate
 
 -- ---- a zero of either sign, taken off an f32, leaves its square: only a -0.0 may become +0.0
 

@@ -1,17 +1,10 @@
 -- The latch over any list of margins, with no image and no tick. Assumes nothing.
-use Prim.Native.Nat.{ℕ, zero, suc, _+_, _-_, _<_, _≤_, suc-le-suc}
-use mathlib.Core.Path.{_≡_, refl, sym, ap, _∙_, subst}
-use mathlib.Core.Logic.{_⊎_, inl, inr, _↔_}
-use mathlib.Core.Bool.{Bool, true, false, not, _&&_, _||_, cond}
-use mathlib.Core.List.{List, [], _∷_, _++_, List·Memᴰ, List·Memᴰ·head, List·Memᴰ·tail, List·Memᴰ·not-nil, List·Memᴰ·cases-cons}
-use native.Mathlib.Nat.{le-of-suc-le-suc, zero-lt-suc, add-zero}
-use native.Mathlib.Omega.{arith}
-use lib.Ieee.{Float, nan, inf, fin, lt}
-use lib.ListN.{length, getD, take, drop, length-append, length-drop}
-use lib.Seq.{split-at, length-take-le, getD-append-add, getD-take, getD-drop}
-use Rattle.relay_math.specs.F32.{isFinite}
-use Rattle.laws.proofs.Tests.{no}
-use Rattle.relay_math.proofs.Order.{lt-above}
+use Rattle.laws.proofs.Prelude.{ℕ, zero, suc, _+_, _-_, _<_, _≤_, suc-le-suc, _≡_, refl, sym, ap, _∙_, subst, _⊎_, inl, inr, _↔_, Bool, true, false, not, _&&_, _||_, cond, List, [], _∷_, _++_}
+use Rattle.laws.proofs.Prelude.{le-of-suc-le-suc, zero-lt-suc, add-zero, arith, Float, nan, inf, fin, lt, length, getD, take, drop, length-append, length-drop, length-take-le, getD-append-add}
+use Rattle.laws.proofs.Prelude.{getD-take, getD-drop, no}
+use mathlib.Core.List.{List·Memᴰ, List·Memᴰ·head, List·Memᴰ·tail, List·Memᴰ·not-nil, List·Memᴰ·cases-cons}
+use lib.Seq.{split-at}
+use Rattle.relay_math.{specs.F32.isFinite, proofs.Order.lt-above}
 use Rattle.latch.specs.Latch.{releases, engages, latch, after, flagsFrom, engagedAfter, flags, Flies, FliesAt}
 
 -- ---- one step, as tests on plain Bools: r that the margin releases, g that it engages

@@ -3,3 +3,4 @@ pub mod Tests
 pub mod Determined
 pub mod Lent
 pub mod Walk
+pub mod Prelude

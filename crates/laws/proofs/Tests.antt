@@ -1,10 +1,7 @@
 -- Tests as facts: a true one, a false one, an order of two numbers. Assumes nothing.
-use mathlib.Core.Path.{_≡_, refl, sym, _∙_, subst}
-use mathlib.Core.Logic.{_⊎_, inl, inr}
-use mathlib.Core.Bool.{Bool, true, false, not, _&&_, _||_, true≢false}
+use mathlib.Core.{Path.{_≡_, refl, sym, _∙_, subst}, Logic.{_⊎_, inl, inr}, Bool.{Bool, true, false, not, _&&_, _||_, true≢false}}
 use Prim.Native.Nat.{ℕ, _≤_, _<_}
-use native.Mathlib.Nat.{le-of-eq, eq-or-lt-of-le}
-use native.Mathlib.Omega.{arith}
+use native.Mathlib.{Nat.{le-of-eq, eq-or-lt-of-le}, Omega.arith}
 use borrow.Author.Tests.{leb-true, leb-false, le-leb, lt-leb, lt-ltb, le-ltb, eq-eqb, ne-eqb}
 use lib.Dec.{T, leb, ltb, eqb}
 

@@ -1,17 +1,13 @@
 -- Steps that the walks by hand over a reader share: it is taken apart into the lent log and the place. The struct is Copy, so what it owns is had twice:
 -- one copy is kept whole, and of the other what the log owns goes to a callee on the slice and the number. Assumes nothing.
-use mathlib.Core.Path.{_≡_, refl}
-use Prim.Native.Nat.{_<_, _^_}
-use mathlib.Core.List.{[], _∷_}
-use lib.ListN.{length}
+use Rattle.laws.proofs.Prelude.{_≡_, refl, _<_, _^_, [], _∷_, length}
 use contract.Lifetimes.{Lfts}
 use types.Kit.{given, learn}
-use denote.Struct.Declared.{Declared}
-use denote.Struct.Laws as LL
-use denote.Struct.Rest.{all-own, ownAt, rest, own-open, own-out}
-use denote.Struct.Values.{Values}
-use Rattle.laws.proofs.Walk.{URA, named, w64, Val, vint, SProp, ent, sep, Lft, Share, Fml, ftrue, flft, Heap, Atoms, sem, Given, ‵, _⊛_, _$_, _∵_, !, qed, move, drop, use1, split, join, fsplit, fjoin, frame, done, RattleType, owns, Is, uint-makes, u8, usize, namedLft, sliceVal, ShrSlice, owned, nothing}
+use denote.Struct.{Declared.Declared, Rest.{all-own, ownAt, rest, own-open, own-out}, Values.Values}
+use Rattle.laws.proofs.Walk.{URA, named, w64, Val, vint, SProp, ent, sep, Lft, Share, Fml, ftrue, flft, Heap, Atoms, sem, Given, ‵, _⊛_, _$_, _∵_, !, qed, move, drop, use1, split, join, fsplit, fjoin}
+use Rattle.laws.proofs.Walk.{frame, done, RattleType, owns, Is, uint-makes, u8, usize, namedLft, sliceVal, ShrSlice, owned, nothing}
 use Rattle.log.specs.declared.reader.Reader.{Reader}
+use denote.Struct.Laws as LL
 use Rattle.log.proofs.reader.Reader as T
 use Rattle.log.proofs.reader.Reader.Laws as T′
 

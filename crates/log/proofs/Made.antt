@@ -1,19 +1,9 @@
 -- What append makes is a log, with one record more. Assumes nothing.
-use mathlib.Core.Path.{_≡_, refl, sym, ap, _∙_}
-use mathlib.Core.Bool.{true}
-use mathlib.Core.List.{List, [], _∷_, _++_, append-assoc}
-use Prim.Native.Nat.{ℕ, zero, suc, _+_, _-_, _*_, _≤_}
-use native.Mathlib.Nat.{add-zero, mod-eq-of-lt}
-use native.Mathlib.Numerals.{add-one}
-use native.Mathlib.Omega.{arith}
-use borrow.Author.Tests.{le-leb, eq-eqb}
-use lib.ListN.{length, take, drop, length-append, length-drop, take-append-drop}
-use lib.Seq.{sets-eq, length-take-le, take-take, take-at, drop-at, take-append-le, drop-append-le}
-use Rattle.words.specs.Words.{fourBytes, word}
-use Rattle.words.proofs.Back.{word-bytesOf, four-after}
-use Rattle.log.specs.Form.{RECORD-BYTES, TRAILER-BYTES, MOST-RECORDS, trailerWords, trailer, fromEnd, countOf, isLog}
-use Rattle.log.specs.Records.{bytesAt, recordsFrom, records}
-use Rattle.log.specs.Entry.{withRecord}
+use Rattle.laws.proofs.Prelude.{_≡_, refl, sym, ap, _∙_, true, List, [], _∷_, _++_, append-assoc, ℕ, zero, suc, _+_, _-_, _*_, _≤_, add-zero, mod-eq-of-lt, add-one, arith, le-leb, eq-eqb, length}
+use Rattle.laws.proofs.Prelude.{take, drop, length-append, length-drop, take-append-drop, sets-eq, length-take-le, take-take, take-at, drop-at}
+use lib.Seq.{take-append-le, drop-append-le}
+use Rattle.words.{specs.Words.{fourBytes, word}, proofs.Back.{word-bytesOf, four-after}}
+use Rattle.log.specs.{Form.{RECORD-BYTES, TRAILER-BYTES, MOST-RECORDS, trailerWords, trailer, fromEnd, countOf, isLog}, Records.{bytesAt, recordsFrom, records}, Entry.withRecord}
 use Rattle.log.proofs.Taken.{Taken}
 
 -- ---- the trailer is read as it was written, whatever stands before it

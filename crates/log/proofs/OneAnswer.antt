@@ -1,13 +1,10 @@
 -- Of each public function here: no second answer fits its promise. Assumes nothing.
-use mathlib.Core.Path.{_≡_, refl, ap}
+use Rattle.laws.proofs.Prelude.{_≡_, refl, ap}
 use contract.Lifetimes.{Lfts}
-use denote.Ref.{now}
-use denote.Triple.Entry.{Args, Res}
-use denote.Triple.Clauses.{Ended, Lasts, atExit}
+use denote.{Ref.now, Triple.{Entry.{Args, Res}, Clauses.{Ended, Lasts, atExit}}}
 use Rattle.laws.proofs.Determined.{Promise, OneAnswer, Says, no-second, both}
 use Rattle.outcome.specs.Outcomes.{Filled}
-use Rattle.log.specs.declared.reader.Reader.{Reader}
-use Rattle.log.specs.Records.{hasRecord, recordAt, placeAfter}
+use Rattle.log.specs.{declared.reader.Reader.Reader, Records.{hasRecord, recordAt, placeAfter}}
 use Rattle.log.proofs.form
 use Rattle.log.proofs.reader
 use Rattle.log.proofs.reader.open as opened

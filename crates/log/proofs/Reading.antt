@@ -1,21 +1,10 @@
 -- Over any sequence of appends from the empty log: what is read back, and that none of it is refused. Assumes nothing.
-use mathlib.Core.Path.{_≡_, refl, sym, ap, _∙_}
-use mathlib.Core.Bool.{true, false, cond}
-use mathlib.Core.List.{List, [], _∷_, _++_, append-assoc, append-nil}
-use Prim.Native.Nat.{ℕ, zero, suc, _+_, _<_}
-use native.Mathlib.Nat.{zero-add, add-zero}
-use native.Mathlib.Numerals.{add-one}
-use native.Mathlib.Omega.{arith}
-use borrow.Author.Tests.{lt-ltb, le-ltb}
-use lib.ListN.{length, take, getD, replicate}
-use Rattle.outcome.specs.Outcomes.{isDone, Filled}
-use Rattle.outcome.proofs.Tables.{either}
-use Rattle.log.specs.Form.{RECORD-BYTES, emptyLog, fromEnd, countOf, isLog}
-use Rattle.log.specs.Records.{bytesAt, recordsFrom, records, hasRecord, recordAt, placeAfter, handedOut}
-use Rattle.log.specs.Entry.{appendRefusal, appendCall}
-use Rattle.log.specs.Runs.{Held, logIn, Given, afterOne, keptBy, afterAll, keptAlong, NoneRefused, recordsOf, atFirst}
-use Rattle.log.proofs.Taken.{taken}
-use Rattle.log.proofs.Made.{records-of, one-more-record}
+use Rattle.laws.proofs.Prelude.{_≡_, refl, sym, ap, _∙_, true, false, cond, List, [], _∷_, _++_, append-assoc, append-nil, ℕ, zero, suc, _+_, _<_, zero-add, add-zero, add-one, arith, lt-ltb, le-ltb}
+use Rattle.laws.proofs.Prelude.{length, take, getD, replicate}
+use Rattle.outcome.{specs.Outcomes.{isDone, Filled}, proofs.Tables.either}
+use Rattle.log.specs.{Form.{RECORD-BYTES, emptyLog, fromEnd, countOf, isLog}, Records.{bytesAt, recordsFrom, records, hasRecord, recordAt, placeAfter, handedOut}}
+use Rattle.log.specs.{Entry.{appendRefusal, appendCall}, Runs.{Held, logIn, Given, afterOne, keptBy, afterAll, keptAlong, NoneRefused, recordsOf, atFirst}}
+use Rattle.log.proofs.{Taken.taken, Made.{records-of, one-more-record}}
 
 -- ---- one append, accepted or refused, and any number of them
 

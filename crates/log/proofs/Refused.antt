@@ -1,24 +1,12 @@
 -- What is refused, by append and by the reader alike; and what a call leaves as it was. Assumes nothing.
-use mathlib.Core.Path.{_≡_, refl, sym, ap}
-use mathlib.Core.Logic.{_⊎_, inl, inr, _↔_}
-use mathlib.Core.Bool.{Bool, true, false, not}
-use mathlib.Core.List.{List, [], _∷_, _++_}
-use Prim.Native.Nat.{ℕ, _+_, _-_, _≤_, _<_}
-use native.Mathlib.Omega.{arith}
-use borrow.Author.Tests.{ltb-true, lt-ltb}
-use lib.Dec.{ltb, eqb}
-use lib.ListN.{length, take, getD, length-append}
+use Rattle.laws.proofs.Prelude.{_≡_, refl, sym, ap, _⊎_, inl, inr, _↔_, Bool, true, false, not, List, [], _∷_, _++_, ℕ, _+_, _-_, _≤_, _<_, arith, ltb-true, lt-ltb, ltb, eqb, length, take, getD}
+use Rattle.laws.proofs.Prelude.{length-append, no}
 use lib.Seq.{take-length}
-use Rattle.words.specs.Words.{bytesOf}
-use Rattle.laws.proofs.Tests.{no}
-use Rattle.words.proofs.Written.{sets-other}
+use Rattle.words.{specs.Words.bytesOf, proofs.Written.sets-other}
 use Rattle.image.specs.Layout.{INPUT-BYTES, ANSWER-BYTES}
-use Rattle.outcome.specs.declared.Outcome.{Outcome}
-use Rattle.outcome.specs.declared.Outcome.the-variants.{BrokenLog, NoRoom, PassThrough}
-use Rattle.outcome.specs.Outcomes.{number, isDone, firstOf, left, Filled}
+use Rattle.outcome.specs.{declared.Outcome.{Outcome, the-variants.{BrokenLog, NoRoom, PassThrough}}, Outcomes.{number, isDone, firstOf, left, Filled}}
 use Rattle.outcome.proofs.Tables.{never-given, refused-keeps, either}
-use Rattle.log.specs.Form.{RECORD-BYTES, TRAILER-BYTES, MOST-RECORDS, trailer, emptyLog, fromEnd, countOf, isLog}
-use Rattle.log.specs.Entry.{appendTable, appendRefusal, appendCall, countTable, recordTable}
+use Rattle.log.specs.{Form.{RECORD-BYTES, TRAILER-BYTES, MOST-RECORDS, trailer, emptyLog, fromEnd, countOf, isLog}, Entry.{appendTable, appendRefusal, appendCall, countTable, recordTable}}
 use Rattle.log.proofs.Taken.{Taken, taken}
 
 -- ---- "The reader, on a whole slice, gives 8 alike."

@@ -1,23 +1,11 @@
 -- What bytes that are a log have, and what an append that is not refused has. Assumes nothing.
-use mathlib.Core.Path.{_≡_, refl, sym, _∙_}
-use mathlib.Core.Bool.{Bool, true, false, not, _&&_}
-use mathlib.Core.List.{List, _++_}
-use Prim.Native.Nat.{ℕ, _+_, _-_, _*_, _/_, _≤_, _<_}
-use native.Mathlib.Omega.{arith}
-use borrow.Author.Tests.{leb-true, ltb-true, ltb-false, eqb-true, eqb-false, not-false}
-use lib.Dec.{eqb, leb, ltb}
-use lib.ListN.{length, take, drop, length-append, length-drop}
-use lib.Seq.{sets, length-take-le}
-use Rattle.words.specs.Words.{Put}
-use Rattle.words.proofs.Written.{sets-append}
-use Rattle.laws.proofs.Tests.{both}
+use Rattle.laws.proofs.Prelude.{_≡_, refl, sym, _∙_, Bool, true, false, not, _&&_, List, _++_, ℕ, _+_, _-_, _*_, _/_, _≤_, _<_, arith, ltb-true, ltb-false, eqb-true, eqb-false, not-false, eqb, leb}
+use Rattle.laws.proofs.Prelude.{ltb, length, take, drop, length-append, length-drop, sets, length-take-le, both}
+use borrow.Author.Tests.{leb-true}
+use Rattle.words.{specs.Words.Put, proofs.Written.sets-append}
 use Rattle.image.specs.Layout.{INPUT-BYTES, ANSWER-BYTES}
-use Rattle.outcome.specs.declared.Outcome.{Outcome}
-use Rattle.outcome.specs.declared.Outcome.the-variants.{Done}
-use Rattle.outcome.specs.Outcomes.{isDone, left}
-use Rattle.outcome.proofs.Tables.{done-none, same, accepted}
-use Rattle.log.specs.Form.{RECORD-BYTES, TRAILER-BYTES, MOST-RECORDS, trailerWords, trailer, fromEnd, countOf, isLog}
-use Rattle.log.specs.Records.{hasRecord, recordAt}
+use Rattle.outcome.{specs.{declared.Outcome.{Outcome, the-variants.Done}, Outcomes.{isDone, left}}, proofs.Tables.{done-none, same, accepted}}
+use Rattle.log.specs.{Form.{RECORD-BYTES, TRAILER-BYTES, MOST-RECORDS, trailerWords, trailer, fromEnd, countOf, isLog}, Records.{hasRecord, recordAt}}
 use Rattle.log.specs.Entry.{appendTable, appendRefusal, withRecord, appendCall, recordCall}
 
 pub record Log (b : List ℕ) : Type 0 where

@@ -1,16 +1,7 @@
 -- A table of refusals, whatever its rows: when a call is done, which row wins, and what a refused call leaves. Assumes nothing.
-use mathlib.Core.Path.{_≡_, refl, sym, ap, _∙_}
-use mathlib.Core.Logic.{_↔_}
-use mathlib.Core.Bool.{Bool, true, false, not, _&&_, cond}
-use mathlib.Core.List.{[], _∷_, _++_}
-use Prim.Native.Nat.{ℕ, zero, suc, _<_, suc-le-suc}
-use native.Mathlib.Nat.{zero-lt-suc}
-use borrow.Author.Tests.{eqb-true, eq-eqb, not-true, not-false}
-use lib.ListN.{getD}
-use Rattle.laws.proofs.Tests.{no, both}
-use Rattle.outcome.specs.declared.Outcome.{Outcome}
-use Rattle.outcome.specs.declared.Outcome.the-variants.{Done}
-use Rattle.outcome.specs.Outcomes.{number, isDone, Table, firstOf, differs, Left, left, leftUnless}
+use Rattle.laws.proofs.Prelude.{_≡_, refl, sym, ap, _∙_, _↔_, Bool, true, false, not, _&&_, cond, [], _∷_, _++_, ℕ, zero, suc, _<_, suc-le-suc, zero-lt-suc, eqb-true, eq-eqb, not-true, not-false}
+use Rattle.laws.proofs.Prelude.{getD, no, both}
+use Rattle.outcome.specs.{declared.Outcome.{Outcome, the-variants.Done}, Outcomes.{number, isDone, Table, firstOf, differs, Left, left, leftUnless}}
 
 -- every row refuses: none says that the call is done
 abbrev pub refuses : Table → Bool

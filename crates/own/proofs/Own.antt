@@ -1,35 +1,16 @@
 -- Completeness of request Ten: every log of our own is all right. Assumes nothing.
-use mathlib.Core.Path.{_≡_, refl, sym, ap, subst, _∙_}
-use mathlib.Core.Bool.{Bool, true, false}
-use mathlib.Core.List.{List, [], _∷_, _++_, append-assoc}
-use Prim.Native.Nat.{ℕ}
-use lib.Ieee.{Float}
-use lib.ListN.{length}
+use Rattle.laws.proofs.Prelude.{_≡_, refl, sym, ap, subst, _∙_, Bool, true, false, List, [], _∷_, _++_, append-assoc, ℕ, Float, length}
 use Rattle.words.specs.Words.{word, float, bytesOf}
 use Rattle.latch.specs.Latch.{after}
-use Rattle.relay_geo.specs.declared.shield.SimplexShield.{SimplexShield}
-use Rattle.relay_geo.specs.Shield.{mend, newShield}
-use Rattle.joint_tick.specs.declared.state.State.{State}
-use Rattle.joint_tick.specs.Profile.{isProfile, profileOf}
-use Rattle.joint_tick.specs.SetUp.{setUp}
-use Rattle.image.specs.Layout.{SETUP-ENTER, SETUP-EXIT, SETUP-PROFILE}
-use Rattle.image.specs.Image.{fixedAt}
-use Rattle.image.specs.Inputs.{setupAt}
-use Rattle.image.proofs.Decoded.{decode-encode}
-use Rattle.outcome.specs.declared.Outcome.the-variants.{Done}
-use Rattle.outcome.specs.Outcomes.{isDone, left}
-use Rattle.calls.specs.Ticks.{shieldOf}
-use Rattle.calls.proofs.Going.{set-up-fits}
-use Rattle.log.specs.Runs.{Held, Given, afterOne, afterAll, keptBy, keptAlong, recordsOf, atFirst}
-use Rattle.log.proofs.Reading.{kept-all, records-kept, never-refused}
-use Rattle.runs.specs.Runs.{Call, Ticks, Exchanges, tickOf, leftBy, marginsOf, start, imageAfter}
-use Rattle.runs.specs.DemandThree.{enterOf, exitOf}
+use Rattle.relay_geo.specs.{declared.shield.SimplexShield.SimplexShield, Shield.{mend, newShield}}
+use Rattle.joint_tick.specs.{declared.state.State.State, Profile.{isProfile, profileOf}, SetUp.setUp}
+use Rattle.image.{specs.{Layout.{SETUP-ENTER, SETUP-EXIT, SETUP-PROFILE}, Image.fixedAt, Inputs.setupAt}, proofs.Decoded.decode-encode}
+use Rattle.outcome.specs.{declared.Outcome.the-variants.Done, Outcomes.{isDone, left}}
+use Rattle.calls.{specs.Ticks.shieldOf, proofs.Going.set-up-fits}
+use Rattle.log.{specs.Runs.{Held, Given, afterOne, afterAll, keptBy, keptAlong, recordsOf, atFirst}, proofs.Reading.{kept-all, records-kept, never-refused}}
+use Rattle.runs.specs.{Runs.{Call, Ticks, Exchanges, tickOf, leftBy, marginsOf, start, imageAfter}, DemandThree.{enterOf, exitOf}}
 use Rattle.runs.proofs.Going.{call-steps, start-engaged, thresholds-in-order, thresholds-kept, ran}
-use Rattle.audit.specs.declared.Verdict.the-variants.{AllRight}
-use Rattle.audit.specs.Verdict.{verdictOf}
-use Rattle.audit.specs.Entry.{verdictOn, checkCall}
-use Rattle.audit.proofs.Carried.{Carried, carried-right}
-use Rattle.audit.proofs.Call.{taken}
+use Rattle.audit.{specs.{declared.Verdict.the-variants.AllRight, Verdict.verdictOf, Entry.{verdictOn, checkCall}}, proofs.{Carried.{Carried, carried-right}, Call.taken}}
 use Rattle.own.specs.Own.{Act, Calls, Appends, keepsOf, appendsOf, EachKept, ownLog, ticksKept}
 use Rattle.own.proofs.Tick.{margin-kept, right-kept}
 

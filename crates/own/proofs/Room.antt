@@ -1,35 +1,17 @@
 -- Logs of our own exist: a buffer with room for a record of each call keeps every accepted tick. Assumes nothing.
-use mathlib.Core.Path.{_≡_, refl, sym, ap, subst, _∙_}
-use mathlib.Core.Bool.{Bool, true, false}
-use mathlib.Core.List.{List, [], _∷_, map}
-use Prim.Native.Nat.{ℕ, suc, _+_, _-_, _*_, _≤_}
-use native.Mathlib.Omega.{arith}
-use borrow.Author.Tests.{le-ltb, ne-eqb}
-use lib.ListN.{length, length-append}
-use lib.Seq.{length-sets}
-use Rattle.laws.proofs.Tests.{no}
+use Rattle.laws.proofs.Prelude.{_≡_, refl, sym, ap, subst, _∙_, Bool, true, false, List, [], _∷_, map, ℕ, suc, _+_, _-_, _*_, _≤_, arith, le-ltb, ne-eqb, length, length-append, length-sets, no}
 use Rattle.words.specs.Words.{word, float, bytesOf}
-use Rattle.joint_tick.specs.Profile.{isProfile}
-use Rattle.joint_tick.specs.Tick.{ticked}
-use Rattle.image.specs.Layout.{INPUT-BYTES, ANSWER-BYTES, SETUP-ENTER, SETUP-EXIT, SETUP-PROFILE}
-use Rattle.image.specs.Image.{stateAt}
-use Rattle.image.specs.Inputs.{inputAt}
-use Rattle.image.proofs.Answered.{answer-length}
-use Rattle.outcome.specs.declared.Outcome.the-variants.{Done}
-use Rattle.outcome.specs.Outcomes.{isDone, left, Filled, Called}
-use Rattle.outcome.proofs.Tables.{either}
+use Rattle.joint_tick.specs.{Profile.isProfile, Tick.ticked}
+use Rattle.image.{specs.{Layout.{INPUT-BYTES, ANSWER-BYTES, SETUP-ENTER, SETUP-EXIT, SETUP-PROFILE}, Image.stateAt, Inputs.inputAt}, proofs.Answered.answer-length}
+use Rattle.outcome.{specs.{declared.Outcome.the-variants.Done, Outcomes.{isDone, left, Filled, Called}}, proofs.Tables.either}
 use Rattle.calls.specs.Entry.{tickFrom}
-use Rattle.log.specs.Form.{RECORD-BYTES, MOST-RECORDS, emptyLog, countOf, isLog}
-use Rattle.log.specs.Records.{records}
-use Rattle.log.specs.Entry.{appendRefusal, appendCall}
+use Rattle.log.specs.{Form.{RECORD-BYTES, MOST-RECORDS, emptyLog, countOf, isLog}, Records.records, Entry.{appendRefusal, appendCall}}
 use Rattle.log.specs.Runs.{Held, logIn, Given, appended, afterOne, afterAll, keptAlong, NoneRefused, recordsOf, atFirst}
 use Rattle.log.proofs.Reading.{after-appends, records-count, kept-all, never-refused, records-kept}
-use Rattle.runs.specs.Runs.{Tick, Call, Ticks, Exchanges, tickOf, sourceOn, leftBy, start}
-use Rattle.runs.proofs.Shown.{refusalOn, flying-is}
+use Rattle.runs.{specs.Runs.{Tick, Call, Ticks, Exchanges, tickOf, sourceOn, leftBy, start}, proofs.Shown.{refusalOn, flying-is}}
 use Rattle.audit.specs.Entry.{checkCall}
 use Rattle.own.specs.Own.{Calls, keepsOf, EachKept, ownLog}
-use Rattle.own.proofs.Tick.{accepted-right}
-use Rattle.own.proofs.Own.{own-log-accepted}
+use Rattle.own.proofs.{Tick.accepted-right, Own.own-log-accepted}
 
 -- a log, and room for m records more
 record Room (h : Held) (m : ℕ) : Type 0 where

@@ -1,45 +1,20 @@
 -- The record of one accepted tick of a run is right by the flag that the shield then has. Assumes nothing.
-use mathlib.Core.Path.{_≡_, refl, sym, ap, subst, _∙_}
-use mathlib.Core.Bool.{Bool, true, false, not, cond}
-use mathlib.Core.List.{List, [], _∷_, _++_}
-use Prim.Native.Nat.{ℕ, zero, suc, _+_, _*_, _<_, _≤_}
-use native.Mathlib.Omega.{arith}
-use lib.Dec.{eqb}
-use lib.Ieee.{binary32}
+use Rattle.laws.proofs.Prelude.{_≡_, refl, sym, ap, subst, _∙_, Bool, true, false, not, cond, List, [], _∷_, _++_, ℕ, zero, suc, _+_, _*_, _<_, _≤_, arith, eqb, binary32, length, getD}
+use Rattle.laws.proofs.Prelude.{List·getD-append, no, both}
 use lib.Ieee.Bits.{is-true, ofBits-toBits}
-use lib.ListN.{length, getD, List·getD-append}
-use Rattle.laws.proofs.Tests.{no, both}
-use Rattle.relay_math.specs.declared.Vec3.{Vec3}
-use Rattle.relay_math.specs.F32.{isFinite}
-use Rattle.words.specs.Words.{word, float, floatOf, bits, flag}
-use Rattle.words.proofs.Back.{four-after}
+use Rattle.relay_math.specs.{declared.Vec3.Vec3, F32.isFinite}
+use Rattle.words.{specs.Words.{word, float, floatOf, bits, flag}, proofs.Back.four-after}
 use Rattle.latch.specs.Latch.{latch}
-use Rattle.relay_geo.specs.Vectors.{Finite3}
-use Rattle.relay_geo.proofs.Finite.{sanitise3-finite}
-use Rattle.joint_tick.specs.declared.profile.Profile.the-variants.{Whole, LostRotor}
-use Rattle.joint_tick.specs.Profile.{isProfile, profileOf}
-use Rattle.joint_tick.specs.Tick.{guidance}
-use Rattle.joint_tick.proofs.Shielding.{tick-fallback}
-use Rattle.image.specs.Layout.{INPUT-WORDS, INPUT-BYTES, ANSWER-BYTES, AGILE, COMMAND, FLAG, MARGIN, SETUP-PROFILE}
-use Rattle.image.specs.Image.{stateAt}
-use Rattle.image.specs.Inputs.{inputAt}
-use Rattle.image.specs.Fits.{FitsVec}
-use Rattle.image.proofs.Answered.{command-words}
+use Rattle.relay_geo.{specs.Vectors.Finite3, proofs.Finite.sanitise3-finite}
+use Rattle.joint_tick.{specs.{declared.profile.Profile.the-variants.{Whole, LostRotor}, Profile.{isProfile, profileOf}, Tick.guidance}, proofs.Shielding.tick-fallback}
+use Rattle.image.{specs.{Layout.{INPUT-WORDS, INPUT-BYTES, ANSWER-BYTES, AGILE, COMMAND, FLAG, MARGIN, SETUP-PROFILE}, Image.stateAt, Inputs.inputAt, Fits.FitsVec}, proofs.Answered.command-words}
 use Rattle.image.proofs.AnswerFits.{command-fits}
-use Rattle.outcome.specs.declared.Outcome.the-variants.{Done}
-use Rattle.outcome.specs.Outcomes.{isDone, Table, firstOf, Called}
-use Rattle.outcome.proofs.Tables.{refuses, done-none, done-exactly, same, either}
-use Rattle.calls.specs.Entry.{tickTable, tickRefusal, tickFrom}
-use Rattle.calls.specs.Ticks.{Accepted, shieldOf}
-use Rattle.route.specs.Form.{formTable, formRefusal}
-use Rattle.route.specs.Entry.{routeRefusal}
-use Rattle.runs.specs.Runs.{Course, Segment, Route, Tick, Call, tickOf, sourceOn, guided, start, imageAfter, RightCourse, Right}
-use Rattle.runs.specs.DemandThree.{enterOf, exitOf, cleanWord, commandWords, Shows}
-use Rattle.runs.proofs.Shown.{refusalOn, flying-is, done, tick-done, flag-shown, shows}
-use Rattle.runs.proofs.Going.{ran, latched}
-use Rattle.runs.proofs.Kept.{profile-over-any-run}
-use Rattle.audit.specs.Right.{agileWord, commandWord, flagWord, marginIn, passedOn, plannersWord, right}
-use Rattle.audit.proofs.Said.{by-flag}
+use Rattle.outcome.{specs.{declared.Outcome.the-variants.Done, Outcomes.{isDone, Table, firstOf, Called}}, proofs.Tables.{refuses, done-none, done-exactly, same, either}}
+use Rattle.calls.specs.{Entry.{tickTable, tickRefusal, tickFrom}, Ticks.{Accepted, shieldOf}}
+use Rattle.route.specs.{Form.{formTable, formRefusal}, Entry.routeRefusal}
+use Rattle.runs.specs.{Runs.{Course, Segment, Route, Tick, Call, tickOf, sourceOn, guided, start, imageAfter, RightCourse, Right}, DemandThree.{enterOf, exitOf, cleanWord, commandWords, Shows}}
+use Rattle.runs.proofs.{Shown.{refusalOn, flying-is, done, tick-done, flag-shown, shows}, Going.{ran, latched}, Kept.profile-over-any-run}
+use Rattle.audit.{specs.Right.{agileWord, commandWord, flagWord, marginIn, passedOn, plannersWord, right}, proofs.Said.by-flag}
 
 -- ---- words of an input with an answer behind it
 

@@ -1,20 +1,11 @@
 -- "Its bytes": a pattern is read back from its bytes, and bytes that are read are written back. Assumes nothing.
-use mathlib.Core.Path.{_≡_, refl, sym, ap, subst, _∙_}
-use mathlib.Core.Logic.{inl, inr}
-use mathlib.Core.List.{List, [], _∷_, _++_}
-use Prim.Native.Nat.{ℕ, zero, suc, _+_, _-_, _*_, _/_, _%_, _≤_, _<_}
-use native.Mathlib.Omega.{arith}
-use borrow.Author.Tests.{le-ltb, ne-eqb}
-use lib.ListN.{length, getD, take, drop, length-append, length-drop, take-append-drop, List·getD-eq-default}
-use lib.Seq.{take-at, drop-at, drop-cons, drop-drop, getD-take, getD-drop, length-take-le}
-use Rattle.laws.proofs.Tests.{le-or-lt}
+use Rattle.laws.proofs.Prelude.{_≡_, refl, sym, ap, subst, _∙_, inl, inr, List, [], _∷_, _++_, ℕ, zero, suc, _+_, _-_, _*_, _/_, _%_, _≤_, _<_, arith, le-ltb, ne-eqb, length, getD, take, drop}
+use Rattle.laws.proofs.Prelude.{length-append, length-drop, take-append-drop, take-at, drop-at, getD-take, getD-drop, length-take-le, le-or-lt}
+use lib.{ListN.List·getD-eq-default, Seq.{drop-cons, drop-drop}}
 use Rattle.route.specs.Form.{LEG-BYTES}
-use Rattle.pattern.specs.declared.form.Head.{Head}
-use Rattle.pattern.specs.declared.form.Head.the-variants.{Neither, Leg, Repeat}
-use Rattle.pattern.specs.Tree.{Pattern, nothing, leg, repeat, bytesOf, Fits}
+use Rattle.pattern.specs.{declared.form.Head.{Head, the-variants.{Neither, Leg, Repeat}}, Tree.{Pattern, nothing, leg, repeat, bytesOf, Fits}}
 use Rattle.pattern.specs.Read.{Read, broken, is, headOf, sizeOf, repeated, itemOf, append, before, itemsOf, read, insideOf, itemWithin}
-use Rattle.pattern.proofs.Heads.{a-leg, a-repeat, Room, head-room, Tags, head-tags, size-some}
-use Rattle.pattern.proofs.Trees.{read-none, read-here, items-none, items-here}
+use Rattle.pattern.proofs.{Heads.{a-leg, a-repeat, Room, head-room, Tags, head-tags, size-some}, Trees.{read-none, read-here, items-none, items-here}}
 
 -- ---- what was written is read: for every pattern at most so deep that has bytes
 

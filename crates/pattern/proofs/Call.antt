@@ -1,29 +1,13 @@
 -- The call: each way out is a row of the table, or the route. Assumes nothing.
-use mathlib.Core.Path.{_≡_, sym, ap, subst, _∙_}
-use mathlib.Core.Bool.{true, false}
-use mathlib.Core.List.{List, [], _∷_, _++_, map}
-use Prim.Native.Nat.{ℕ, _+_, _*_, _≤_, _<_}
-use native.Mathlib.Nat.{zero-add}
-use native.Mathlib.Omega.{arith}
-use borrow.Author.Tests.{lt-ltb, le-ltb, eq-eqb, ne-eqb}
-use lib.ListN.{length, getD, take, length-map}
-use lib.Seq.{sets, slice, length-sets, take-length, getD-take}
-use Rattle.words.specs.Words.{bytesOf, Put}
-use Rattle.words.proofs.Written.{sets-append, whole}
-use Rattle.outcome.specs.declared.Outcome.{Outcome}
-use Rattle.outcome.specs.declared.Outcome.the-variants.{Done, BadPattern, LegCount, NoRoom, LegsApart}
-use Rattle.outcome.specs.Outcomes.{left}
+use Rattle.laws.proofs.Prelude.{_≡_, sym, ap, subst, _∙_, true, false, List, [], _∷_, _++_, map, ℕ, _+_, _*_, _≤_, _<_, zero-add, arith, lt-ltb, le-ltb, eq-eqb, ne-eqb, length, getD, take, length-map}
+use Rattle.laws.proofs.Prelude.{sets, slice, length-sets, getD-take}
+use lib.Seq.{take-length}
+use Rattle.words.{specs.Words.{bytesOf, Put}, proofs.Written.{sets-append, whole}}
+use Rattle.outcome.specs.{declared.Outcome.{Outcome, the-variants.{Done, BadPattern, LegCount, NoRoom, LegsApart}}, Outcomes.left}
 use Rattle.route.specs.Form.{LEG-BYTES, MOST-LEGS}
-use Rattle.pattern.specs.declared.walk.Walked.the-variants.{Broken, Past}
-use Rattle.pattern.specs.Tree.{Pattern, flown}
-use Rattle.pattern.specs.Read.{broken, is, read}
-use Rattle.pattern.specs.Walk.{legIn, capped, walkedTo, Walk, Found, Places}
+use Rattle.pattern.specs.{declared.walk.Walked.the-variants.{Broken, Past}, Tree.{Pattern, flown}, Read.{broken, is, read}, Walk.{legIn, capped, walkedTo, Walk, Found, Places}}
 use Rattle.pattern.specs.Entry.{DEEPEST, joined, routeLength, routeOf, allMeet, legsRead, expandRefusal, Buffers, buffers, expandCall, routeCall}
-use Rattle.pattern.proofs.Runs.{run-slice}
-use Rattle.pattern.proofs.Walks.{capped-least, counted}
-use Rattle.pattern.proofs.Going.{came, was-broken}
-use Rattle.pattern.proofs.Long.{AllLong, Long, long-read, long-places}
-use Rattle.pattern.proofs.Found.{legsAt}
+use Rattle.pattern.proofs.{Runs.run-slice, Walks.{capped-least, counted}, Going.{came, was-broken}, Long.{AllLong, Long, long-read, long-places}, Found.legsAt}
 
 -- ---- 1 to 32 legs
 

@@ -1,30 +1,14 @@
 -- "Expanding writes a route of One's form": the check of a route tick finds nothing to refuse in what is written. Assumes nothing.
-use mathlib.Core.Path.{_≡_, refl, sym, ap, subst, _∙_}
-use mathlib.Core.Bool.{true, false}
-use mathlib.Core.List.{List, [], _∷_, _++_, append-assoc}
-use Prim.Native.Nat.{ℕ, zero, suc, _+_, _-_, _*_, _≤_, _<_}
-use native.Mathlib.Nat.{add-assoc, mod-eq-of-lt, le-of-suc-le-suc}
-use native.Mathlib.Numerals.{add-one}
-use native.Mathlib.Omega.{arith}
-use borrow.Author.Tests.{le-ltb, eq-eqb, ne-eqb, ltb-false, eqb-false, not-false}
-use lib.ListN.{length, getD, take, drop, length-append, List·getD-append}
-use lib.Seq.{sets, sets-eq, drop-at, getD-append-add}
-use Rattle.laws.proofs.Tests.{no, both}
-use Rattle.words.specs.Words.{fourBytes, word, float, floatOf, vec, bytesOf as wordBytes}
-use Rattle.words.proofs.Back.{four-after, word-bytesOf}
+use Rattle.laws.proofs.Prelude.{_≡_, refl, sym, ap, subst, _∙_, true, false, List, [], _∷_, _++_, append-assoc, ℕ, zero, suc, _+_, _-_, _*_, _≤_, _<_, add-assoc, mod-eq-of-lt, le-of-suc-le-suc}
+use Rattle.laws.proofs.Prelude.{add-one, arith, le-ltb, eq-eqb, ne-eqb, ltb-false, eqb-false, not-false, length, getD, take, drop, length-append, List·getD-append, sets, sets-eq, drop-at}
+use Rattle.laws.proofs.Prelude.{getD-append-add, no, both}
+use Rattle.words.{specs.Words.{fourBytes, word, float, floatOf, vec, bytesOf as wordBytes}, proofs.Back.{four-after, word-bytesOf}}
 use Rattle.image.specs.Parts.{legAt}
-use Rattle.outcome.specs.declared.Outcome.the-variants.{Done}
-use Rattle.outcome.specs.Outcomes.{isDone, left}
-use Rattle.outcome.proofs.Tables.{done-none, refused-keeps, either}
-use Rattle.route.specs.Form.{LEG-BYTES, TRAILER-BYTES, MOST-LEGS, countOf, backOf, legOf, legsMeet, formRefusal, allMeet as routeMeets}
-use Rattle.route.proofs.Joins.{joins-say}
-use Rattle.pattern.specs.Tree.{Pattern, flown, times, repeat, bytesOf, Fits}
-use Rattle.pattern.specs.Read.{Read, broken, is, read}
+use Rattle.outcome.{specs.{declared.Outcome.the-variants.Done, Outcomes.{isDone, left}}, proofs.Tables.{done-none, refused-keeps, either}}
+use Rattle.route.{specs.Form.{LEG-BYTES, TRAILER-BYTES, MOST-LEGS, countOf, backOf, legOf, legsMeet, formRefusal, allMeet as routeMeets}, proofs.Joins.joins-say}
+use Rattle.pattern.specs.{Tree.{Pattern, flown, times, repeat, bytesOf, Fits}, Read.{Read, broken, is, read}}
 use Rattle.pattern.specs.Entry.{DEEPEST, joined, routeLength, routeOf, allMeet, legsRead, legsOf, expandTable, expandRefusal, buffers, Expanded, withRoute, expandCall, routeCall}
-use Rattle.pattern.proofs.Runs.{run-slice}
-use Rattle.pattern.proofs.Long.{AllLong, Long, long-read}
-use Rattle.pattern.proofs.Call.{expanded}
-use Rattle.pattern.proofs.Back.{reads-back}
+use Rattle.pattern.proofs.{Runs.run-slice, Long.{AllLong, Long, long-read}, Call.expanded, Back.reads-back}
 
 -- ---- the trailer
 

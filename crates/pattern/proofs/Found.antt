@@ -1,17 +1,11 @@
 -- The legs found, one turn of each loop over them. Assumes nothing.
-use mathlib.Core.Path.{_≡_, refl, sym, ap, subst, _∙_}
-use mathlib.Core.Bool.{Bool, true, false, _&&_}
-use mathlib.Core.List.{List, [], _∷_, _++_, map, append-assoc, append-nil}
-use Prim.Native.Nat.{ℕ, zero, suc, _+_, _-_, _*_, _≤_, _<_}
-use native.Mathlib.Numerals.{add-one}
-use native.Mathlib.Omega.{arith}
-use lib.ListN.{length, getD, take, drop, length-drop, length-map, List·getD-map, length-append}
-use lib.Seq.{sets, take-suc, drop-cons, length-take-le, getD-take, take-all}
+use Rattle.laws.proofs.Prelude.{_≡_, refl, sym, ap, subst, _∙_, Bool, true, false, _&&_, List, [], _∷_, _++_, map, append-assoc, append-nil, ℕ, zero, suc, _+_, _-_, _*_, _≤_, _<_, add-one, arith}
+use Rattle.laws.proofs.Prelude.{length, getD, take, drop, length-drop, length-map, length-append, sets, length-take-le, getD-take, take-all}
+use lib.{ListN.List·getD-map, Seq.{take-suc, drop-cons}}
 use Rattle.words.proofs.Written.{sets-append}
 use Rattle.image.specs.Parts.{legAt}
 use Rattle.route.specs.Form.{LEG-BYTES, legsMeet}
-use Rattle.pattern.specs.Walk.{legIn, Places}
-use Rattle.pattern.specs.Entry.{allMeet, joined}
+use Rattle.pattern.specs.{Walk.{legIn, Places}, Entry.{allMeet, joined}}
 
 pub leg-length : (b : List ℕ) (place : ℕ) → place + LEG-BYTES ≤ length b → length (legIn b place) ≡ LEG-BYTES
 leg-length b place h = length-take-le LEG-BYTES (drop place b) (omega (arith, length-drop place b))

@@ -1,23 +1,11 @@
 -- The walk over items: what one item finds, and how it is added to what was found before. Assumes nothing.
-use mathlib.Core.Path.{_≡_, refl, sym, ap, subst, _∙_}
-use mathlib.Core.List.{List, [], _∷_, _++_, map-append, append-nil}
-use Prim.Native.Nat.{ℕ, _+_, _-_, _*_, _≤_, _<_}
-use native.Mathlib.Nat.{add-zero}
-use native.Mathlib.Omega.{arith}
-use lib.ListN.{length, take, drop, length-append, length-map}
-use lib.Seq.{sets, slice, length-slice}
+use Rattle.laws.proofs.Prelude.{_≡_, refl, sym, ap, subst, _∙_, List, [], _∷_, _++_, map-append, append-nil, ℕ, _+_, _-_, _*_, _≤_, _<_, add-zero, arith, length, take, drop, length-append, length-map}
+use Rattle.laws.proofs.Prelude.{sets, slice, length-slice}
 use Rattle.words.proofs.Written.{sets-append}
 use Rattle.route.specs.Form.{LEG-BYTES, MOST-LEGS}
-use Rattle.pattern.specs.declared.form.Head.{Head}
-use Rattle.pattern.specs.declared.form.Head.the-variants.{Neither, Leg, Repeat}
-use Rattle.pattern.specs.declared.walk.Walked.{Walked}
-use Rattle.pattern.specs.declared.walk.Walked.the-variants.{Broken, Past}
-use Rattle.pattern.specs.Tree.{Pattern, nothing, leg, repeat, times, flown}
-use Rattle.pattern.specs.Read.{Read, broken, is, headOf, sizeOf, repeated, itemOf, append, before, read, insideOf, itemWithin}
-use Rattle.pattern.specs.Walk.{legIn, capped, Found, walkedTo, Walk, OneMore, Rounds}
-use Rattle.pattern.proofs.Parts.{part-from, part-within, part-of-whole}
-use Rattle.pattern.proofs.Runs.{length-times, map-times, run-slice, rounds-over, at-least}
-use Rattle.pattern.proofs.Heads.{Room, head-room, size-some}
+use Rattle.pattern.specs.{declared.{form.Head.{Head, the-variants.{Neither, Leg, Repeat}}, walk.Walked.{Walked, the-variants.{Broken, Past}}}, Tree.{Pattern, nothing, leg, repeat, times, flown}}
+use Rattle.pattern.specs.{Read.{Read, broken, is, headOf, sizeOf, repeated, itemOf, append, before, read, insideOf, itemWithin}, Walk.{legIn, capped, Found, walkedTo, Walk, OneMore, Rounds}}
+use Rattle.pattern.proofs.{Parts.{part-from, part-within, part-of-whole}, Runs.{length-times, map-times, run-slice, rounds-over, at-least}, Heads.{Room, head-room, size-some}}
 use Rattle.pattern.proofs.Trees.{flown-append, before-first, before-last, before-again, read-none, read-here, inside-is}
 use Rattle.pattern.proofs.Walks.{capped-below, capped-at-most, capped-add, capped-up, capped-rounds}
 

@@ -1,16 +1,6 @@
 -- What an item starts with, test by test. Assumes nothing.
-use mathlib.Core.Path.{_≡_, refl, sym, ap, _∙_}
-use mathlib.Core.Bool.{Bool, true, false, cond}
-use mathlib.Core.List.{List}
-use Prim.Native.Nat.{ℕ, _+_, _-_, _*_, _≤_, _<_}
-use native.Mathlib.Omega.{arith}
-use borrow.Author.Tests.{ltb-false, eqb-true, eqb-false}
-use lib.Dec.{eqb, ltb}
-use lib.ListN.{length, getD}
-use lib.Seq.{slice, length-slice}
-use Rattle.pattern.specs.declared.form.Head.{Head}
-use Rattle.pattern.specs.declared.form.Head.the-variants.{Neither, Leg, Repeat}
-use Rattle.pattern.specs.Read.{headOf, innerLength, sizeOf}
+use Rattle.laws.proofs.Prelude.{_≡_, refl, sym, ap, _∙_, Bool, true, false, cond, List, ℕ, _+_, _-_, _*_, _≤_, _<_, arith, ltb-false, eqb-true, eqb-false, eqb, ltb, length, getD, slice, length-slice}
+use Rattle.pattern.specs.{declared.form.Head.{Head, the-variants.{Neither, Leg, Repeat}}, Read.{headOf, innerLength, sizeOf}}
 use Rattle.pattern.proofs.Parts.{part-get}
 
 module _ (s : List ℕ) {left t : ℕ} (e : left ≡ length s) (f : t ≡ getD s 0 0) where

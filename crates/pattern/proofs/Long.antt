@@ -1,23 +1,10 @@
 -- Every leg that is read has a leg's bytes. Assumes nothing.
-use mathlib.Core.Path.{_≡_, sym, ap, subst}
-use mathlib.Core.Bool.{Bool, true, false, cond}
-use mathlib.Core.Logic.{inl, inr}
-use mathlib.Core.List.{List, [], _∷_, _++_, map, append-nil}
-use Prim.Native.Nat.{ℕ, zero, suc, _+_, _≤_, _<_}
-use native.Mathlib.Nat.{le-of-suc-le-suc}
-use native.Mathlib.Omega.{arith}
-use lib.Dec.{eqb}
-use lib.ListN.{length, getD, take, drop, length-drop}
-use lib.Seq.{length-take-le, take-all}
-use Rattle.laws.proofs.Tests.{le-or-lt}
+use Rattle.laws.proofs.Prelude.{_≡_, sym, ap, subst, Bool, true, false, cond, inl, inr, List, [], _∷_, _++_, map, append-nil, ℕ, zero, suc, _+_, _≤_, _<_, le-of-suc-le-suc, arith, eqb, length, getD}
+use Rattle.laws.proofs.Prelude.{take, drop, length-drop, length-take-le, take-all, le-or-lt}
 use Rattle.route.specs.Form.{LEG-BYTES}
-use Rattle.pattern.specs.declared.form.Head.{Head}
-use Rattle.pattern.specs.declared.form.Head.the-variants.{Neither, Leg, Repeat}
-use Rattle.pattern.specs.Tree.{nothing, leg, times, flown}
-use Rattle.pattern.specs.Read.{Read, broken, is, headOf, sizeOf, repeated, itemOf, before, itemsOf, read}
-use Rattle.pattern.specs.Walk.{legIn}
-use Rattle.pattern.proofs.Heads.{Room, head-room}
-use Rattle.pattern.proofs.Trees.{flown-append}
+use Rattle.pattern.specs.{declared.form.Head.{Head, the-variants.{Neither, Leg, Repeat}}, Tree.{nothing, leg, times, flown}}
+use Rattle.pattern.specs.{Read.{Read, broken, is, headOf, sizeOf, repeated, itemOf, before, itemsOf, read}, Walk.legIn}
+use Rattle.pattern.proofs.{Heads.{Room, head-room}, Trees.flown-append}
 
 abbrev pub AllLong : List (List ℕ) → Type 0
 AllLong [] = Unit

@@ -1,10 +1,7 @@
 -- Parts of bytes: a part of a part is one, and its bytes are those of the whole. Assumes nothing.
-use mathlib.Core.Path.{_≡_, sym, ap, _∙_}
-use mathlib.Core.List.{List, [], _∷_}
-use Prim.Native.Nat.{ℕ, zero, suc, _+_, _≤_, _<_}
-use native.Mathlib.Nat.{zero-add, suc-add}
-use lib.ListN.{getD, take, drop}
-use lib.Seq.{slice, take-nil, take-take, drop-drop, getD-take, getD-drop}
+use Rattle.laws.proofs.Prelude.{_≡_, sym, ap, _∙_, List, [], _∷_, ℕ, zero, suc, _+_, _≤_, _<_, zero-add, getD, take, drop, slice, take-take, getD-take, getD-drop}
+use native.Mathlib.Nat.{suc-add}
+use lib.Seq.{take-nil, drop-drop}
 
 pub take-drop : {A : Type 0} (m n : ℕ) (l : List A) → take n (drop m l) ≡ drop m (take (m + n) l)
 take-drop zero n l = ap (λ (k : ℕ). take k l) (sym (zero-add n))

@@ -1,11 +1,9 @@
 -- Lists that are repeated, and runs of them in a buffer. Assumes nothing.
-use mathlib.Core.Path.{_≡_, refl, sym, ap, subst, _∙_}
-use mathlib.Core.List.{List, [], _∷_, _++_, append-assoc, append-nil, map, map-append}
-use Prim.Native.Nat.{ℕ, zero, suc, _+_, _-_, _*_, _≤_, _<_}
-use native.Mathlib.Nat.{zero-mul, suc-mul, add-comm}
-use native.Mathlib.Omega.{arith}
-use lib.ListN.{length, getD, set, take, drop, length-append, take-append-drop, List·getD-append}
-use lib.Seq.{sets, sets-eq, slice, length-slice, length-take-le, take-take, take-at, drop-at, set-set, set-comm, getD-append-add}
+use Rattle.laws.proofs.Prelude.{_≡_, refl, sym, ap, subst, _∙_, List, [], _∷_, _++_, append-assoc, append-nil, map, map-append, ℕ, zero, suc, _+_, _-_, _*_, _≤_, _<_, zero-mul, add-comm, arith}
+use Rattle.laws.proofs.Prelude.{length, getD, set, take, drop, length-append, take-append-drop, List·getD-append, sets, sets-eq, slice, length-slice, length-take-le, take-take, take-at, drop-at}
+use Rattle.laws.proofs.Prelude.{getD-append-add}
+use native.Mathlib.Nat.{suc-mul}
+use lib.Seq.{set-set, set-comm}
 use Rattle.words.proofs.Written.{sets-append}
 use Rattle.pattern.specs.Tree.{times}
 

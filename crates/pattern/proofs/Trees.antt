@@ -1,14 +1,6 @@
 -- Laws of reading: items one after another, and how many turns are enough. Assumes nothing.
-use mathlib.Core.Path.{_≡_, refl, sym, ap, _∙_}
-use mathlib.Core.Logic.{inl, inr}
-use mathlib.Core.List.{List, _∷_, _++_, append-assoc}
-use Prim.Native.Nat.{ℕ, zero, suc, _-_, _≤_, _<_}
-use native.Mathlib.Omega.{arith}
-use borrow.Author.Tests.{eq-eqb, ne-eqb}
-use lib.ListN.{length, drop, length-drop}
-use Rattle.laws.proofs.Tests.{le-or-lt}
-use Rattle.pattern.specs.Tree.{Pattern, nothing, leg, repeat, times, flown}
-use Rattle.pattern.specs.Read.{Read, broken, is, headOf, sizeOf, itemOf, append, before, itemsOf, read, insideOf, itemWithin}
+use Rattle.laws.proofs.Prelude.{_≡_, refl, sym, ap, _∙_, inl, inr, List, _∷_, _++_, append-assoc, ℕ, zero, suc, _-_, _≤_, _<_, arith, eq-eqb, ne-eqb, length, drop, length-drop, le-or-lt}
+use Rattle.pattern.specs.{Tree.{Pattern, nothing, leg, repeat, times, flown}, Read.{Read, broken, is, headOf, sizeOf, itemOf, append, before, itemsOf, read, insideOf, itemWithin}}
 use Rattle.pattern.proofs.Heads.{size-some}
 
 -- ---- patterns one after another

@@ -1,17 +1,8 @@
 -- The walk: counts up to 33, rounds, and one turn after another. Assumes nothing.
-use mathlib.Core.Path.{_≡_, sym, ap, _∙_}
-use mathlib.Core.Logic.{inl, inr}
-use mathlib.Core.List.{List}
-use Prim.Native.Nat.{ℕ, zero, suc, _+_, _-_, _*_, _≤_, _<_}
-use native.Mathlib.Nat.{mul-zero}
-use native.Mathlib.Omega.{arith}
-use borrow.Author.Tests.{lt-ltb, le-ltb}
-use lib.ListN.{length, getD, set, take}
-use lib.Seq.{sets, slice, length-slice, length-take-le, getD-take, take-all}
-use Rattle.laws.proofs.Tests.{le-or-lt}
+use Rattle.laws.proofs.Prelude.{_≡_, sym, ap, _∙_, inl, inr, List, ℕ, zero, suc, _+_, _-_, _*_, _≤_, _<_, mul-zero, arith, lt-ltb, le-ltb, length, getD, set, take, sets, slice, length-slice}
+use Rattle.laws.proofs.Prelude.{length-take-le, getD-take, take-all, le-or-lt}
 use Rattle.words.proofs.Written.{one-more}
-use Rattle.pattern.specs.Tree.{times}
-use Rattle.pattern.specs.Walk.{capped}
+use Rattle.pattern.specs.{Tree.times, Walk.capped}
 use Rattle.pattern.proofs.Runs.{length-times, round-before, run-get, own-run, first-round, at-least}
 
 -- ---- counts up to 33

@@ -1,18 +1,9 @@
 -- `clamp_sym`, and the command filter within its limits. Assumes nothing.
-use mathlib.Core.Path.{_≡_, refl, sym, _∙_}
-use Prim.Native.Nat.{_+_, _*_}
-use native.Mathlib.Omega.{arith}
-use mathlib.Core.Bool.{Bool, true, false, cond, _||_}
-use mathlib.Core.List.{List, [], _∷_}
-use lib.Dec.{T}
-use lib.Ieee.{Float, nan, inf, fin, up, down, lt, le, neg, isNan, ofBits}
+use Rattle.laws.proofs.Prelude.{_≡_, refl, sym, _∙_, _+_, _*_, arith, Bool, true, false, cond, _||_, List, [], _∷_, T, Float, nan, inf, fin, up, down, lt, le, neg, isNan, ofBits, le-ltb}
 use lib.Ieee.Bits.{is-false}
-use borrow.Author.Tests.{le-ltb}
-use Rattle.relay_math.specs.F32.{0·0, isFinite, finiteOr, Within}
-use Rattle.relay_math.proofs.Order.{Number, finite-number, le-of-not-lt, not-lt-of-le, le-trans, low-within, high-within, between}
+use Rattle.relay_math.{specs.F32.{0·0, isFinite, finiteOr, Within}, proofs.Order.{Number, finite-number, le-of-not-lt, not-lt-of-le, le-trans, low-within, high-within, between}}
 use Rattle.relay_math.proofs.Finite.{or-zero-finite}
-use Rattle.relay_adrc.specs.declared.filter.CommandFilter.{CommandFilter}
-use Rattle.relay_adrc.specs.Filter.{clampSym, filterNew, filterStep, Event, Step, Reset, after, run}
+use Rattle.relay_adrc.specs.{declared.filter.CommandFilter.CommandFilter, Filter.{clampSym, filterNew, filterStep, Event, Step, Reset, after, run}}
 
 -- zero is below minus m where m is below zero
 zero-above : (m : Float) → lt 0·0 (neg m) ≡ lt m 0·0

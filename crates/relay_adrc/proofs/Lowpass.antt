@@ -1,17 +1,8 @@
 -- The biquad. Assumes nothing.
-use mathlib.Core.Path.{_≡_, refl, sym, ap, _∙_}
-use mathlib.Core.Bool.{Bool, true, false, cond, not, _&&_, _||_}
-use lib.Dec.{T}
-use Prim.Native.Nat.{_*_}
-use lib.Ieee.{Float, nan, inf, fin, lt, le, neg, add, sub, mul, div, up, down, isNan, ofBits}
-use Rattle.relay_math.specs.F32.{_⊗_, _⊘_, f32, 0·0, 0·5, 1·0, 2·0, isFinite}
-use Rattle.relay_math.specs.Steps.{sinf, cosf, sincos}
-use Rattle.laws.proofs.Tests.{no}
-use Rattle.relay_math.proofs.Signs.{not-nan, of-rounded}
-use Rattle.relay_math.proofs.Order.{Number, le-is-not-above}
+use Rattle.laws.proofs.Prelude.{_≡_, refl, sym, ap, _∙_, Bool, true, false, cond, not, _&&_, _||_, T, _*_, Float, nan, inf, fin, lt, le, neg, add, sub, mul, div, up, down, isNan, ofBits, no}
+use Rattle.relay_math.{specs.{F32.{_⊗_, _⊘_, f32, 0·0, 0·5, 1·0, 2·0, isFinite}, Steps.{sinf, cosf, sincos}}, proofs.{Signs.{not-nan, of-rounded}, Order.{Number, le-is-not-above}}}
 use Rattle.relay_math.proofs.Finite.{or-zero-finite}
-use Rattle.relay_adrc.specs.declared.biquad.Biquad.{Biquad}
-use Rattle.relay_adrc.specs.Biquad.{PI, passesThrough, passthrough, filterAt, lowpass, biquadFilter}
+use Rattle.relay_adrc.specs.{declared.biquad.Biquad.Biquad, Biquad.{PI, passesThrough, passthrough, filterAt, lowpass, biquadFilter}}
 
 -- the output is finite for all bits of everything
 pub output-finite : (f : Biquad) (x : Float) → T (isFinite (biquadFilter f x .y))

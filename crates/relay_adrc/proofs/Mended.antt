@@ -1,11 +1,6 @@
 -- What the mended inputs are, for every bit pattern. Assumes nothing.
-use mathlib.Core.Path.{_≡_, refl}
-use mathlib.Core.Bool.{Bool, true, false, cond, _&&_}
-use lib.Dec.{T}
-use lib.Ieee.{Float, lt, le, ofBits}
-use Rattle.relay_math.specs.F32.{0·0, 1e-3, 0·1, 1·0, isFinite, clamp, Within, fabsf}
-use Rattle.laws.proofs.Tests.{held}
-use Rattle.relay_math.proofs.Order.{finite-number, clamp-within}
+use Rattle.laws.proofs.Prelude.{_≡_, refl, Bool, true, false, cond, _&&_, T, Float, lt, le, ofBits, held}
+use Rattle.relay_math.{specs.F32.{0·0, 1e-3, 0·1, 1·0, isFinite, clamp, Within, fabsf}, proofs.Order.{finite-number, clamp-within}}
 use Rattle.relay_adrc.specs.Axis.{1e-4, mendDt, mendB0, deliveredFraction}
 
 -- x if it is finite, held between lo and hi, else d

@@ -1,15 +1,8 @@
 -- What holds of each axis, cited for the three. Assumes nothing.
-use lib.Dec.{T}
-use lib.Ieee.{Float}
-use Rattle.relay_math.specs.F32.{isFinite}
-use Rattle.relay_math.specs.declared.Vec3.{Vec3}
-use Rattle.relay_math.specs.declared.BodyRate.{BodyRate}
-use Rattle.relay_adrc.specs.declared.rate.AdrcRate.{AdrcRate}
-use Rattle.relay_adrc.specs.declared.biquad.GyroLpf.{GyroLpf}
-use Rattle.relay_adrc.specs.Biquad.{gyroFilter}
-use Rattle.relay_adrc.specs.Rate.{rateTick}
-use Rattle.relay_adrc.proofs.Tick.{tick-finite}
-use Rattle.relay_adrc.proofs.Lowpass.{output-finite}
+use Rattle.laws.proofs.Prelude.{T, Float}
+use Rattle.relay_math.specs.{F32.isFinite, declared.{Vec3.Vec3, BodyRate.BodyRate}}
+use Rattle.relay_adrc.specs.{declared.{rate.AdrcRate.AdrcRate, biquad.GyroLpf.GyroLpf}, Biquad.gyroFilter, Rate.rateTick}
+use Rattle.relay_adrc.proofs.{Tick.tick-finite, Lowpass.output-finite}
 
 abbrev AllFinite : Vec3 → Type 0
 AllFinite v = T (isFinite (v .0)) × T (isFinite (v .1)) × T (isFinite (v .2))

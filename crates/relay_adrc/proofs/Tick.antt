@@ -1,12 +1,7 @@
 -- One tick of one axis, for all bits of everything. Assumes nothing.
-use mathlib.Core.Path.{_≡_, refl}
-use lib.Dec.{T}
-use lib.Ieee.{Float}
-use Rattle.relay_math.specs.F32.{_⊕_, _⊖_, _⊗_, 0·0, 2·0, isFinite, finiteOr}
-use Rattle.relay_math.proofs.Finite.{or-zero-finite}
-use Rattle.relay_adrc.specs.declared.axis.AdrcAxis.{AdrcAxis}
-use Rattle.relay_adrc.specs.declared.axis.AxisTick.{AxisTick}
-use Rattle.relay_adrc.specs.Axis.{10·0, mendDt, positiveOr, mendB0, lag, deliveredFraction, axisTick, axisSetDeliveredFraction}
+use Rattle.laws.proofs.Prelude.{_≡_, refl, T, Float}
+use Rattle.relay_math.{specs.F32.{_⊕_, _⊖_, _⊗_, 0·0, 2·0, isFinite, finiteOr}, proofs.Finite.or-zero-finite}
+use Rattle.relay_adrc.specs.{declared.axis.{AdrcAxis.AdrcAxis, AxisTick.AxisTick}, Axis.{10·0, mendDt, positiveOr, mendB0, lag, deliveredFraction, axisTick, axisSetDeliveredFraction}}
 use Rattle.relay_adrc.specs.Inner.{axisObserve, axisAct}
 
 pub record Finite (t : AxisTick) : Type 0 where

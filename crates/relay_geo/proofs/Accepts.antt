@@ -1,19 +1,10 @@
 -- When a direction, an attitude or a feedforward is given, and when it is refused. Assumes nothing.
-use mathlib.Core.Path.{_≡_, refl, sym, _∙_}
-use mathlib.Core.Bool.{Bool, true, false, not, _&&_, cond}
-use borrow.Author.Tests.{not-false}
-use lib.Ieee.{Float, nan, inf, fin, lt, isNan, ofBits}
-use Rattle.relay_math.specs.declared.Vec3.{Vec3}
-use Rattle.relay_math.specs.F32.{1e-3, isFinite, finiteAbove}
-use Rattle.laws.proofs.Tests.{both}
-use Rattle.relay_math.proofs.Order.{le-is-not-above, lt-trans}
-use Rattle.relay_geo.specs.declared.vectors.Direction.the-variants.{Axis}
-use Rattle.relay_geo.specs.declared.attitude.Attitude.{Attitude}
-use Rattle.relay_geo.specs.declared.attitude.Attitude.the-variants.{Matrix, Refused}
-use Rattle.relay_geo.specs.declared.attitude.Feedforward.the-variants as rate
-use Rattle.relay_geo.specs.Vectors.{1e-9, norm, long, over, normalize, givesAxis}
+use Rattle.laws.proofs.Prelude.{_≡_, refl, sym, _∙_, Bool, true, false, not, _&&_, cond, not-false, Float, nan, inf, fin, lt, isNan, ofBits, both}
+use Rattle.relay_math.{specs.{declared.Vec3.Vec3, F32.{1e-3, isFinite, finiteAbove}}, proofs.Order.{le-is-not-above, lt-trans}}
+use Rattle.relay_geo.specs.{declared.{vectors.Direction.the-variants.Axis, attitude.Attitude.{Attitude, the-variants.{Matrix, Refused}}}, Vectors.{1e-9, norm, long, over, normalize, givesAxis}}
 use Rattle.relay_geo.specs.Attitude.{thrustForce, thrustAxisNed, thrustAttitude, tooWeak, rateFrom, flatnessOmegaFf, givesMatrix, givesRate}
 use Rattle.relay_geo.specs.Inner.{feedforwardFrom, thrustOf, attitudeOn, feedforwardOn}
+use Rattle.relay_geo.specs.declared.attitude.Feedforward.the-variants as rate
 
 -- "`normalize` refuses unless the norm is finite and above 1e-9."
 pub normalize-accepts : (a : Vec3) → givesAxis (normalize a) ≡ finiteAbove 1e-9 (norm a)

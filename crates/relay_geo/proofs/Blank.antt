@@ -1,18 +1,8 @@
 -- A zero or a NaN: what is made of such numbers, or by a product with zero, is one again. Assumes nothing.
-use mathlib.Core.Path.{_≡_, refl}
-use mathlib.Core.Bool.{Bool, true, false, not, and-false}
-use Prim.Native.Nat.{ℕ, _*_, _^_}
-use native.Mathlib.Nat.{zero-mul, mul-zero}
-use native.Mathlib.Omega.{arith}
-use borrow.Author.Tests.{le-ltb}
-use lib.IntN.{ℤ, pos, negsuc}
-use lib.Ieee.{Float, nan, inf, fin, binary32, up, down, unlike, round, neg, sum, add, sub, mul, lt, ofBits}
-use Rattle.relay_math.specs.declared.Vec3.{Vec3}
-use Rattle.relay_math.specs.F32.{_⊕_, _⊖_, _⊗_, isFinite}
-use Rattle.relay_math.specs.Sqrt.{sqrtf}
-use Rattle.relay_math.proofs.Sums.{round-zero}
-use Rattle.relay_geo.specs.Vectors.{1e-9, cross, dot, norm, normalize}
-use Rattle.relay_geo.specs.declared.vectors.Direction.the-variants.{Refused}
+use Rattle.laws.proofs.Prelude.{_≡_, refl, Bool, true, false, not, and-false, ℕ, _*_, _^_, zero-mul, mul-zero, arith, le-ltb, ℤ, pos, negsuc, Float, nan, inf, fin, binary32, up, down, unlike, round}
+use Rattle.laws.proofs.Prelude.{neg, sum, add, sub, mul, lt, ofBits}
+use Rattle.relay_math.{specs.{declared.Vec3.Vec3, F32.{_⊕_, _⊖_, _⊗_, isFinite}, Sqrt.sqrtf}, proofs.Sums.round-zero}
+use Rattle.relay_geo.specs.{Vectors.{1e-9, cross, dot, norm, normalize}, declared.vectors.Direction.the-variants.Refused}
 
 pub data Blank : Float → Type 0 where
   number : Blank nan

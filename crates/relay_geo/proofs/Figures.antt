@@ -1,17 +1,9 @@
 -- Document 01's worked figures for attitudes, in steps, so that each root is computed once. Assumes nothing.
-use mathlib.Core.Path.{_≡_, refl}
-use mathlib.Core.Bool.{true, false}
-use lib.IntN.{pos}
-use lib.Ieee.{ofBits, sub, add, mul, div, lt, le}
-use Rattle.relay_math.specs.declared.Vec3.{Vec3}
-use Rattle.relay_math.specs.F32.{0·0, 1·0, isFinite, grains}
-use Rattle.relay_math.specs.Sqrt.{sqrtf}
-use Rattle.relay_math.specs.Steps.{sinf, cosf}
-use Rattle.relay_geo.specs.declared.vectors.Direction.the-variants as direction
-use Rattle.relay_geo.specs.declared.attitude.Attitude.the-variants.{Matrix, Refused}
-use Rattle.relay_geo.specs.Vectors.{identity3, cross, dot, over, long, normalize}
-use Rattle.relay_geo.specs.Attitude.{heading, desiredAttitude}
+use Rattle.laws.proofs.Prelude.{_≡_, refl, true, false, pos, ofBits, sub, add, mul, div, lt, le}
+use Rattle.relay_math.specs.{declared.Vec3.Vec3, F32.{0·0, 1·0, isFinite, grains}, Sqrt.sqrtf, Steps.{sinf, cosf}}
+use Rattle.relay_geo.specs.{declared.attitude.Attitude.the-variants.{Matrix, Refused}, Vectors.{identity3, cross, dot, over, long, normalize}, Attitude.{heading, desiredAttitude}}
 use Rattle.relay_geo.proofs.Blank.{none, Blank3, blank-refused}
+use Rattle.relay_geo.specs.declared.vectors.Direction.the-variants as direction
 
 abbrev x : Vec3
 x = (1·0, 0·0, 0·0)

@@ -1,22 +1,10 @@
 -- `sanitise3` and what ends in it. Assumes nothing.
-use mathlib.Core.Path.{_≡_, refl, subst}
-use mathlib.Core.Bool.{Bool, true, false, cond}
-use lib.Ieee.{Float, ofBits}
-use Rattle.relay_math.specs.declared.Vec3.{Vec3}
-use Rattle.relay_math.specs.declared.BodyRate.{BodyRate}
-use Rattle.relay_math.specs.F32.{0·0, isFinite}
-use Rattle.relay_math.proofs.Finite.{finite-or-keeps, or-zero-finite}
-use Rattle.relay_geo.specs.declared.vectors.Mat3.{Mat3}
-use Rattle.relay_geo.specs.declared.vectors.Quat.{Quat}
-use Rattle.relay_geo.specs.declared.attitude.Attitude.{Attitude}
-use Rattle.relay_geo.specs.declared.attitude.Attitude.the-variants.{Matrix, Refused}
-use Rattle.relay_geo.specs.declared.attitude.Feedforward.{Feedforward}
+use Rattle.laws.proofs.Prelude.{_≡_, refl, subst, Bool, true, false, cond, Float, ofBits}
+use Rattle.relay_math.{specs.{declared.{Vec3.Vec3, BodyRate.BodyRate}, F32.{0·0, isFinite}}, proofs.Finite.{finite-or-keeps, or-zero-finite}}
+use Rattle.relay_geo.specs.declared.{vectors.{Mat3.Mat3, Quat.Quat}, attitude.{Attitude.{Attitude, the-variants.{Matrix, Refused}}, Feedforward.Feedforward}, controller.GeoGains.GeoGains}
+use Rattle.relay_geo.specs.{Vectors.{norm, over, sanitise3, Finite3}, Attitude.{quatToRotmat, thrustForce, thrustAttitude, desiredAttitude, tooWeak, bodyRate, rateFrom, flatnessOmegaFf}}
+use Rattle.relay_geo.specs.{Shield.picked, Controller.{rateToward, desiredRate, torqueToward, tick}}
 use Rattle.relay_geo.specs.declared.attitude.Feedforward.the-variants as rate
-use Rattle.relay_geo.specs.declared.controller.GeoGains.{GeoGains}
-use Rattle.relay_geo.specs.Vectors.{norm, over, sanitise3, Finite3}
-use Rattle.relay_geo.specs.Attitude.{quatToRotmat, thrustForce, thrustAttitude, desiredAttitude, tooWeak, bodyRate, rateFrom, flatnessOmegaFf}
-use Rattle.relay_geo.specs.Shield.{picked}
-use Rattle.relay_geo.specs.Controller.{rateToward, desiredRate, torqueToward, tick}
 
 pub sanitise3-finite : (v : Vec3) → Finite3 (sanitise3 v)
 sanitise3-finite v = record { x = or-zero-finite (v .0); y = or-zero-finite (v .1); z = or-zero-finite (v .2) }

@@ -1,15 +1,7 @@
 -- The margin for all bits of everything: what it can be, and its cases in document 01's words. Assumes nothing.
-use Prim.Native.Nat.{ℕ}
-use mathlib.Core.Path.{_≡_, refl, sym, ap, _∙_}
-use mathlib.Core.Logic.{_⊎_, inl, inr}
-use mathlib.Core.Bool.{Bool, true, false, not, _&&_, _||_, cond}
-use native.Mathlib.Omega.{arith}
-use lib.Ieee.{Float, nan, inf, fin, sub, lt, le, isNan, ofBits}
-use Rattle.relay_math.specs.F32.{_⊖_, 0·0, isFinite, finiteOr, finiteAbove}
-use Rattle.laws.proofs.Tests.{no, held, both}
-use Rattle.relay_math.proofs.Order.{finite-number, le-is-not-above}
-use Rattle.relay_geo.specs.declared.set.RecoverableSet.{RecoverableSet}
-use Rattle.relay_geo.specs.Set.{minusInfinity, unknown, psiMargin, rateMargin, smaller, margin}
+use Rattle.laws.proofs.Prelude.{ℕ, _≡_, refl, sym, ap, _∙_, _⊎_, inl, inr, Bool, true, false, not, _&&_, _||_, cond, arith, Float, nan, inf, fin, sub, lt, le, isNan, ofBits, no, held, both}
+use Rattle.relay_math.{specs.F32.{_⊖_, 0·0, isFinite, finiteOr, finiteAbove}, proofs.Order.{finite-number, le-is-not-above}}
+use Rattle.relay_geo.specs.{declared.set.RecoverableSet.RecoverableSet, Set.{minusInfinity, unknown, psiMargin, rateMargin, smaller, margin}}
 
 -- ---- finite or minus infinity, and nothing else
 

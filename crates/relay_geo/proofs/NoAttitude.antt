@@ -1,23 +1,11 @@
 -- No desired attitude: in free fall, and at a heading that is no number, infinite or beyond the limit. Assumes nothing.
-use mathlib.Core.Path.{_≡_, refl}
-use mathlib.Core.Bool.{false, not}
-use lib.Dec.{T}
-use lib.IntN.{pos}
-use lib.Ieee.{Float, fin, ofBits, sub}
-use Rattle.relay_math.specs.declared.Vec3.{Vec3}
-use Rattle.relay_math.specs.declared.BodyRate.{BodyRate}
-use Rattle.relay_math.specs.F32.{0·0, isFinite}
-use Rattle.relay_math.specs.Exact.{inRange}
-use Rattle.relay_math.proofs.Finite.{sin-cos-far}
-use Rattle.relay_geo.specs.declared.vectors.Quat.{Quat}
-use Rattle.relay_geo.specs.declared.vectors.Direction.{Direction}
-use Rattle.relay_geo.specs.declared.vectors.Direction.the-variants as direction
-use Rattle.relay_geo.specs.declared.attitude.Attitude.the-variants.{Refused}
-use Rattle.relay_geo.specs.declared.controller.GeoGains.{GeoGains}
-use Rattle.relay_geo.specs.Vectors.{GRAVITY-NED, normalize, sanitise3}
-use Rattle.relay_geo.specs.Attitude.{heading, attitudeOf, desiredAttitude, alongAxis, thrustForce, thrustAxisNed, thrustAttitude}
+use Rattle.laws.proofs.Prelude.{_≡_, refl, false, not, T, pos, Float, fin, ofBits, sub}
+use Rattle.relay_math.{specs.{declared.{Vec3.Vec3, BodyRate.BodyRate}, F32.{0·0, isFinite}, Exact.inRange}, proofs.Finite.sin-cos-far}
+use Rattle.relay_geo.specs.declared.{vectors.{Quat.Quat, Direction.Direction}, attitude.Attitude.the-variants.Refused, controller.GeoGains.GeoGains}
+use Rattle.relay_geo.specs.{Vectors.{GRAVITY-NED, normalize, sanitise3}, Attitude.{heading, attitudeOf, desiredAttitude, alongAxis, thrustForce, thrustAxisNed, thrustAttitude}}
 use Rattle.relay_geo.specs.Controller.{against, desiredRate, tick}
 use Rattle.relay_geo.proofs.Blank.{none, cross-blank, blank-refused}
+use Rattle.relay_geo.specs.declared.vectors.Direction.the-variants as direction
 
 -- with no attitude `desired_rate` gives zeros and `tick` rate damping alone
 pub no-attitude-rate : (g : GeoGains) (q : Quat) (a : Vec3) (yaw : Float) → thrustAttitude (sanitise3 a) yaw ≡ Refused → desiredRate g q a yaw ≡ record { 0 = (0·0, 0·0, 0·0) }

@@ -1,12 +1,11 @@
 -- Of each public function here: no second answer fits its promise. Assumes nothing.
-use mathlib.Core.Path.{_≡_, refl}
+use Rattle.laws.proofs.Prelude.{_≡_, refl}
 use denote.Ref.{now}
 use Rattle.laws.proofs.Determined.{Promise, OneAnswer, Says, no-second, both}
+use Rattle.relay_geo.specs.{Shield.step, Lent.pickedOf}
 use Rattle.relay_geo.proofs.attitude
 use Rattle.relay_geo.proofs.controller
 use Rattle.relay_geo.proofs.set
-use Rattle.relay_geo.specs.Shield.{step}
-use Rattle.relay_geo.specs.Lent.{pickedOf}
 use Rattle.relay_geo.proofs.shield
 use Rattle.relay_geo.proofs.shield.SimplexShield.step_lent as lent
 use Rattle.relay_geo.proofs.vectors

@@ -1,17 +1,7 @@
 -- Floats that are each other's negative: x - y and y - x, and their halves. Assumes nothing.
-use Prim.Native.Nat.{ℕ, zero, suc, _+_, _-_, _*_, _/_, _%_, _^_, compare}
-use mathlib.Core.Path.{_≡_, refl}
-use mathlib.Core.Bool.{Bool, true, false, not, Bool·beq, cond, _&&_, _||_}
-use native.Mathlib.Nat.{add-comm, zero-mul, mul-comm}
-use native.Mathlib.Omega.{arith}
-use borrow.Author.Tests.{ltb-true, ltb-false}
-use lib.IntN.{ℤ, pos}
-use lib.Dec.{T, ltb}
-use lib.Ieee.{Float, nan, inf, fin, binary32, up, down, unlike, nearest, size, odd, units, round, sum, neg, add, sub, mul, eq, isNan, ofBits}
-use Rattle.relay_math.specs.F32.{_⊖_, _⊗_, 0·5, isFinite}
-use Rattle.relay_math.proofs.Sums.{round-zero}
-use Rattle.relay_math.proofs.Order.{eq-refl-of}
-use Rattle.relay_math.proofs.Zeros.{IsZero, none, times}
+use Rattle.laws.proofs.Prelude.{ℕ, zero, suc, _+_, _-_, _*_, _/_, _%_, _^_, compare, _≡_, refl, Bool, true, false, not, Bool·beq, cond, _&&_, _||_, add-comm, zero-mul, mul-comm, arith, ltb-true}
+use Rattle.laws.proofs.Prelude.{ltb-false, ℤ, pos, T, ltb, Float, nan, inf, fin, binary32, up, down, unlike, nearest, size, odd, units, round, sum, neg, add, sub, mul, eq, isNan, ofBits}
+use Rattle.relay_math.{specs.F32.{_⊖_, _⊗_, 0·5, isFinite}, proofs.{Sums.round-zero, Order.eq-refl-of, Zeros.{IsZero, none, times}}}
 
 -- ---- a product has the same bits either way round
 

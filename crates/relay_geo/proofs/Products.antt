@@ -1,10 +1,7 @@
 -- `psi` and `attitudeError` go by entries, so that no matrix stands between; here they are by whole matrices, as the Rust writes them. Assumes nothing.
-use mathlib.Core.Path.{_≡_, refl}
-use Rattle.relay_math.specs.declared.Vec3.{Vec3}
-use Rattle.relay_math.specs.F32.{_⊕_, _⊖_, _⊗_, 0·5, 3·0}
-use Rattle.relay_geo.specs.declared.vectors.Mat3.{Mat3}
-use Rattle.relay_geo.specs.Vectors.{transpose3, matmul3, vee}
-use Rattle.relay_geo.specs.Controller.{psi, attitudeError}
+use Rattle.laws.proofs.Prelude.{_≡_, refl}
+use Rattle.relay_math.specs.{declared.Vec3.Vec3, F32.{_⊕_, _⊖_, _⊗_, 0·5, 3·0}}
+use Rattle.relay_geo.specs.{declared.vectors.Mat3.Mat3, Vectors.{transpose3, matmul3, vee}, Controller.{psi, attitudeError}}
 
 -- `let rdt_r = matmul3(&transpose3(r_d), r); let tr = rdt_r[0][0] + rdt_r[1][1] + rdt_r[2][2]; 0.5 * (3.0 - tr)`
 pub psi-by-trace : (r rd : Mat3)

@@ -1,23 +1,11 @@
 -- The shield's set-up: thresholds in order for every f32 given. Assumes nothing.
-use Prim.Native.Nat.{ℕ, zero, suc, _*_, _^_, _<_, _≤_}
-use mathlib.Core.Path.{_≡_, refl, sym, ap, _∙_, subst}
-use mathlib.Core.Logic.{inl, inr}
-use mathlib.Core.Bool.{Bool, true, false, cond, true≢false}
-use native.Mathlib.Nat.{le-trans, le-of-eq, zero-lt-suc, mul-one, mul-assoc, mul-right-comm, mul-le-mul-right, le-of-mul-le-mul-right, mul-pos, pow-suc}
-use native.Mathlib.Omega.{arith}
-use borrow.Author.Tests.{ltb-true, lt-ltb}
-use lib.IntN.{ℤ}
-use lib.Dec.{T}
-use lib.Pow.{pow-pos}
-use lib.Ieee.{Float, nan, inf, fin, binary32, up, down, fits, round, mul, lt, le, ofBits}
-use lib.Ieee.Fits.{up-pos, down-pos, cond-fits}
-use lib.Ieee.Exact.{HasValue, round-exact}
-use lib.Ieee.Order.{round-mono}
-use Rattle.relay_math.specs.F32.{_⊗_, f32, 0·0, 0·1, 2·0, isFinite, finiteAbove}
-use Rattle.laws.proofs.Tests.{no, both, le-or-lt}
-use Rattle.relay_math.proofs.Grains.{Placed, placed}
-use Rattle.relay_geo.specs.declared.set.RecoverableSet.{RecoverableSet}
-use Rattle.relay_geo.specs.Shield.{mendEnter, mend, newShield}
+use Rattle.laws.proofs.Prelude.{ℕ, zero, suc, _*_, _^_, _<_, _≤_, _≡_, refl, sym, ap, _∙_, subst, inl, inr, Bool, true, false, cond, le-trans, le-of-eq, zero-lt-suc, mul-one, mul-assoc}
+use Rattle.laws.proofs.Prelude.{mul-right-comm, mul-le-mul-right, le-of-mul-le-mul-right, mul-pos, pow-suc, arith, ltb-true, lt-ltb, ℤ, T, pow-pos, Float, nan, inf, fin, binary32, up, down, fits}
+use Rattle.laws.proofs.Prelude.{round, mul, lt, le, ofBits, no, both, le-or-lt}
+use mathlib.Core.Bool.{true≢false}
+use lib.Ieee.{Fits.{up-pos, down-pos, cond-fits}, Exact.{HasValue, round-exact}, Order.round-mono}
+use Rattle.relay_math.{specs.F32.{_⊗_, f32, 0·0, 0·1, 2·0, isFinite, finiteAbove}, proofs.Grains.{Placed, placed}}
+use Rattle.relay_geo.specs.{declared.set.RecoverableSet.RecoverableSet, Shield.{mendEnter, mend, newShield}}
 
 -- ---- twice an f32 that is finite and above zero lies above it: doubling is exact, or overflows to +infinity
 

@@ -1,15 +1,8 @@
 -- One step of the shield, in document 01's words. Assumes nothing.
-use mathlib.Core.Path.{_≡_, refl, sym, _∙_}
-use mathlib.Core.Bool.{Bool, true, false, not, and-false}
-use lib.Ieee.{Float, lt}
-use borrow.Author.Tests.{not-false}
-use Rattle.relay_math.specs.F32.{isFinite}
-use Rattle.relay_math.specs.declared.BodyRate.{BodyRate}
-use Rattle.relay_geo.specs.declared.shield.SimplexShield.{SimplexShield}
-use Rattle.relay_geo.specs.Vectors.{sanitise3}
-use Rattle.latch.specs.Latch.{releases, engages, latch}
-use Rattle.relay_geo.specs.Shield.{step}
-use Rattle.latch.proofs.LatchFlies.{released-is-calm}
+use Rattle.laws.proofs.Prelude.{_≡_, refl, sym, _∙_, Bool, true, false, not, and-false, Float, lt, not-false}
+use Rattle.relay_math.specs.{F32.isFinite, declared.BodyRate.BodyRate}
+use Rattle.relay_geo.specs.{declared.shield.SimplexShield.SimplexShield, Vectors.sanitise3, Shield.step}
+use Rattle.latch.{specs.Latch.{releases, engages, latch}, proofs.LatchFlies.released-is-calm}
 
 -- ---- the flag
 

@@ -1,16 +1,8 @@
 -- Request Eleven: `attitude_error` with actual and desired exchanged. Assumes nothing.
-use mathlib.Core.Path.{_≡_, refl}
-use native.Mathlib.Omega.{arith}
-use lib.IntN.{pos}
-use lib.Dec.{T, lit<, lit≤}
-use lib.Ieee.{Float, nan, inf, fin, neg, add, sub, mul, le, eq, ofBits}
-use Rattle.relay_math.specs.declared.Vec3.{Vec3}
-use Rattle.relay_math.specs.F32.{_⊖_, _⊗_, f32, 0·0, 0·5, 1·0, 2·0, isFinite, fabsf}
-use Rattle.relay_geo.proofs.Opposites.{times-comm, equal, less, halved}
-use Rattle.relay_geo.proofs.Upto.{Upto, le-is, upto-finite, times-upto, plus-upto, minus-upto}
-use Rattle.relay_geo.specs.declared.vectors.Mat3.{Mat3}
-use Rattle.relay_geo.specs.Vectors.{identity3, column0, column1, column2, prod3}
-use Rattle.relay_geo.specs.Controller.{psi, difference, attitudeError}
+use Rattle.laws.proofs.Prelude.{_≡_, refl, arith, pos, T, lit<, lit≤, Float, nan, inf, fin, neg, add, sub, mul, le, eq, ofBits}
+use Rattle.relay_math.specs.{declared.Vec3.Vec3, F32.{_⊖_, _⊗_, f32, 0·0, 0·5, 1·0, 2·0, isFinite, fabsf}}
+use Rattle.relay_geo.proofs.{Opposites.{times-comm, equal, less, halved}, Upto.{Upto, le-is, upto-finite, times-upto, plus-upto, minus-upto}}
+use Rattle.relay_geo.specs.{declared.vectors.Mat3.Mat3, Vectors.{identity3, column0, column1, column2, prod3}, Controller.{psi, difference, attitudeError}}
 
 -- ---- an entry of Rᵀ R_d is one of R_dᵀ R, bit for bit
 

@@ -1,21 +1,12 @@
 -- Finite floats of at most a whole number in size: what products, sums and differences of them are at most. Assumes nothing.
-use Prim.Native.Nat.{ℕ, zero, suc, _+_, _-_, _*_, _^_, _≤_, _<_}
-use mathlib.Core.Path.{sym, ap, _∙_}
-use mathlib.Core.Bool.{Bool, true, false, Bool·beq, cond, _&&_, true≢false}
-use native.Mathlib.Nat.{le-trans, lt-of-lt-of-le, le-of-eq, add-mul, add-le-add, mul-one, mul-comm, mul-assoc, mul-right-comm, mul-mul-mul-comm, mul-pos, mul-le-mul, mul-le-mul-right, le-of-mul-le-mul-right}
-use native.Mathlib.Omega.{arith}
-use lib.IntN.{ℤ, pos}
-use lib.Dec.{T, ltb, lit<, lit≤, leb→le, eqb, eqb→eq}
-use lib.Pow.{shl-lt, pow-mono}
-use lib.Ieee.{Float, nan, inf, fin, binary32, up, down, unlike, round, sum, neg, add, sub, mul, lt, le, eq}
-use lib.Ieee.Exact.{HasValue, round-exact}
-use lib.Ieee.Fits.{down-pos, and-l}
-use lib.Ieee.Order.{round-mono}
-use Rattle.relay_math.specs.F32.{_⊕_, _⊖_, _⊗_, isFinite}
+use Rattle.laws.proofs.Prelude.{ℕ, zero, suc, _+_, _-_, _*_, _^_, _≤_, _<_, sym, ap, _∙_, Bool, true, false, Bool·beq, cond, _&&_, le-trans, lt-of-lt-of-le, le-of-eq, add-mul, mul-one, mul-comm}
+use Rattle.laws.proofs.Prelude.{mul-assoc, mul-right-comm, mul-pos, mul-le-mul, mul-le-mul-right, le-of-mul-le-mul-right, arith, ℤ, pos, T, ltb, lit<, lit≤, leb→le, eqb, shl-lt, pow-mono, Float, nan}
+use Rattle.laws.proofs.Prelude.{inf, fin, binary32, up, down, unlike, round, sum, neg, add, sub, mul, lt, le, eq}
+use mathlib.Core.Bool.{true≢false}
+use native.Mathlib.Nat.{add-le-add, mul-mul-mul-comm}
+use lib.{Dec.eqb→eq, Ieee.{Exact.{HasValue, round-exact}, Fits.{down-pos, and-l}, Order.round-mono}}
+use Rattle.relay_math.{specs.F32.{_⊕_, _⊖_, _⊗_, isFinite}, proofs.{Signs.size-pos, Sums.round-zero, Zeros.none}}
 use Rattle.laws.proofs.Tests.{ordered}
-use Rattle.relay_math.proofs.Signs.{size-pos}
-use Rattle.relay_math.proofs.Sums.{round-zero}
-use Rattle.relay_math.proofs.Zeros.{none}
 use Rattle.relay_geo.proofs.Opposites.{Opposite, infinite, finite, zeros, rounds}
 
 -- finite, and at most k in size

@@ -1,16 +1,8 @@
 -- A quaternion of four zeros counts as level. Assumes nothing.
-use mathlib.Core.Path.{_≡_, refl, sym, subst}
-use mathlib.Core.Bool.{Bool, true, false}
-use lib.IntN.{pos}
-use lib.Dec.{T}
-use lib.Ieee.{Float, fin, binary32, fits, sum, add, sub, mul, neg, round, ofBits}
+use Rattle.laws.proofs.Prelude.{_≡_, refl, sym, subst, Bool, true, false, pos, T, Float, fin, binary32, fits, sum, add, sub, mul, neg, round, ofBits}
 use lib.Ieee.Fits.{mul-fits}
-use Rattle.relay_math.specs.F32.{_⊕_, _⊖_, _⊗_, 0·0, 1·0, 2·0, isFinite}
-use Rattle.relay_math.proofs.Signs.{zero-is}
-use Rattle.relay_math.proofs.Zeros.{IsZero, none, equal, is-zero, finite, times, plus, minus}
-use Rattle.relay_geo.specs.declared.vectors.Quat.{Quat}
-use Rattle.relay_geo.specs.Vectors.{identity3}
-use Rattle.relay_geo.specs.Attitude.{quatToRotmat, Zeros, Level}
+use Rattle.relay_math.{specs.F32.{_⊕_, _⊖_, _⊗_, 0·0, 1·0, 2·0, isFinite}, proofs.{Signs.zero-is, Zeros.{IsZero, none, equal, is-zero, finite, times, plus, minus}}}
+use Rattle.relay_geo.specs.{declared.vectors.Quat.Quat, Vectors.identity3, Attitude.{quatToRotmat, Zeros, Level}}
 
 product : {x y : Float} → IsZero x → IsZero y → IsZero (x ⊗ y)
 product {x} {y} p q = times x (finite p) q

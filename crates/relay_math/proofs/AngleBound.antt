@@ -1,27 +1,12 @@
 -- The theorem on sine and cosine: with any limit up to 2 ^ 13 the steps meet document 01's rule, for every f32. Assumes nothing.
-use mathlib.Core.Path.{_≡_, refl, sym, _∙_, subst}
-use mathlib.Core.Bool.{Bool, true, false, not, cond}
-use Prim.Native.Nat.{ℕ, _+_, _*_, _%_, _^_, _≤_, _<_}
-use native.Mathlib.Nat.{le-of-lt, lt-of-not-le, not-le-of-lt}
-use native.Mathlib.Omega.{arith}
-use lib.IntN.{ℤ, pos, negsuc}
-use lib.Dec.{T, lit<, lit≤}
-use lib.Ieee.{Float, nan, inf, fin, up, down, fits, binary32, lt, le, eq, neg}
-use lib.Ieee.Bits.{is-true, is-false}
-use lib.Ieee.Positive.{positive}
-use borrow.Author.Tests.{le-leb, leb-false}
-use Rattle.relay_math.specs.declared.angles.SineCosine.{SineCosine}
-use Rattle.relay_math.specs.Exact.{P149, Near, sinAt, cosAt, exactSine, exactCosine, Limit, upTo, inRange, isMinus, IsSine, IsCosine}
-use Rattle.relay_math.specs.F32.{grains, fabsf}
-use Rattle.relay_math.specs.Steps.{fixed, reduceOf, turned, large, Zero, One, Tiny, Most, sincosTo, sincos, sinf, cosf}
-use Rattle.laws.proofs.Tests.{held}
-use Rattle.relay_math.proofs.Signs.{le-is}
-use Rattle.relay_math.proofs.Order.{le-trans}
-use Rattle.relay_math.proofs.Grains.{grains-exact}
-use Rattle.relay_math.proofs.Horner.{sinExact, cosExact}
-use Rattle.relay_math.proofs.Fixed.{tiny-sin, tiny-cos}
-use Rattle.relay_math.proofs.AngleNear.{near-of, wider, quarters, sin-near, cos-near}
-use Rattle.relay_math.proofs.AngleReduction.{at-least, known, Turn, few, small, turn, no-turn}
+use Rattle.laws.proofs.Prelude.{_≡_, refl, sym, _∙_, subst, Bool, true, false, not, cond, ℕ, _+_, _*_, _%_, _^_, _≤_, _<_, le-of-lt, lt-of-not-le, not-le-of-lt, arith, ℤ, pos, negsuc, T, lit<, lit≤}
+use Rattle.laws.proofs.Prelude.{Float, nan, inf, fin, up, down, fits, binary32, lt, le, eq, neg, le-leb, held}
+use lib.Ieee.{Bits.{is-true, is-false}, Positive.positive}
+use borrow.Author.Tests.{leb-false}
+use Rattle.relay_math.specs.{declared.angles.SineCosine.SineCosine, Exact.{P149, Near, sinAt, cosAt, exactSine, exactCosine, Limit, upTo, inRange, isMinus, IsSine, IsCosine}}
+use Rattle.relay_math.specs.{F32.{grains, fabsf}, Steps.{fixed, reduceOf, turned, large, Zero, One, Tiny, Most, sincosTo, sincos, sinf, cosf}}
+use Rattle.relay_math.proofs.{Signs.le-is, Order.le-trans, Grains.grains-exact, Horner.{sinExact, cosExact}, Fixed.{tiny-sin, tiny-cos}}
+use Rattle.relay_math.proofs.{AngleNear.{near-of, wider, quarters, sin-near, cos-near}, AngleReduction.{at-least, known, Turn, few, small, turn, no-turn}}
 
 abbrev Both : Bool → ℕ → SineCosine → Type 0
 Both s u r = Near 23 (r .sine) (exactSine s u) × Near 23 (r .cosine) (exactCosine s u)

@@ -1,19 +1,10 @@
 -- Nearness to an exact value: from units of 2 ^ -149, under a sign, by quadrants, after rounding. Assumes nothing.
-use mathlib.Core.Path.{_≡_, refl, ap, subst}
-use mathlib.Core.Bool.{Bool, true, false, _&&_, cond}
-use Prim.Native.Nat.{ℕ, zero, suc, _+_, _*_, _%_, _^_, _≤_, _<_}
-use native.Mathlib.Nat.{le-trans, mul-le-mul-left, mul-le-mul-right, le-of-mul-le-mul-left, le-add-right}
-use native.Mathlib.Omega.{arith}
-use lib.Dec.{leb, eqb, lit<, lit≤}
-use lib.Pow.{pow-mono}
-use lib.Ieee.{Float, nan, inf, fin, up, down, neg, unlike}
+use Rattle.laws.proofs.Prelude.{_≡_, refl, ap, subst, Bool, true, false, _&&_, cond, ℕ, zero, suc, _+_, _*_, _%_, _^_, _≤_, _<_, le-trans, mul-le-mul-left, mul-le-mul-right, arith, leb, eqb, lit<}
+use Rattle.laws.proofs.Prelude.{lit≤, pow-mono, Float, nan, inf, fin, up, down, neg, unlike}
+use native.Mathlib.Nat.{le-of-mul-le-mul-left, le-add-right}
 use lib.Ieee.Exact.{HasValue}
-use Rattle.relay_math.specs.Exact.{gap, Value, negated, negatedIf, Near, sinAt, cosAt, sineBy, cosineBy}
-use Rattle.relay_math.specs.Steps.{cutSquare, sinPoly, cosPoly, toFloat, signed, turned}
-use Rattle.relay_math.proofs.Signs.{of-value}
-use Rattle.relay_math.proofs.Horner.{Nest, Close, carry}
-use Rattle.relay_math.proofs.Round.{rounded}
-use Rattle.relay_math.proofs.Fixed.{One, Half, Err, sin-most, cos-most, sin-fixed, cos-fixed}
+use Rattle.relay_math.specs.{Exact.{gap, Value, negated, negatedIf, Near, sinAt, cosAt, sineBy, cosineBy}, Steps.{cutSquare, sinPoly, cosPoly, toFloat, signed, turned}}
+use Rattle.relay_math.proofs.{Signs.of-value, Horner.{Nest, Close, carry}, Round.rounded, Fixed.{One, Half, Err, sin-most, cos-most, sin-fixed, cos-fixed}}
 
 -- A / C = G / L, and G / L is within E / L of (P - N) / D
 apart : (A C G L D N P E : ℕ) → 0 < L → A * L ≡ G * C → 8388608 * E ≤ L → G * D + L * N ≤ L * P + E * D → L * P ≤ G * D + L * N + E * D

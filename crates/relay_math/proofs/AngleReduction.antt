@@ -1,25 +1,12 @@
 -- |x| in units of 2 ^ -48, by the fields of its bits; and n and r: the reduction in those units is the exact one in grains, which takes off the nearest multiple of P. Assumes nothing.
-use mathlib.Core.Path.{_≡_, refl, sym, ap, _∙_, subst}
-use mathlib.Core.Bool.{Bool, true, false, not, cond}
-use mathlib.Core.Logic.{inl, inr}
-use Prim.Native.Nat.{ℕ, _+_, _*_, _-_, _/_, _%_, _^_, _≤_, _<_}
-use native.Mathlib.Nat.{le-of-lt, lt-of-lt-of-le, lt-of-le-of-lt, lt-of-not-le, not-le-of-lt}
-use native.Mathlib.Nat.{mul-comm, mul-assoc, mul-add, mul-sub, mul-div-mul-right, mul-le-mul-right, le-of-mul-le-mul-right, mul-lt-mul-of-pos-right, add-mul-mod-self-left, mod-lt, mul-pos, div-mul-le-self, lt-div-mul-add}
-use native.Mathlib.Omega.{arith}
-use borrow.Author.Tests.{le-ltb, le-leb, leb-true}
-use lib.IntN.{ℤ, pos, negsuc}
-use lib.Dec.{T, leb, ltb, lit<, lit≤, leb→le}
-use lib.Pow.{pow-mono, shl-lt}
-use lib.Ieee.{Float, nan, inf, fin, binary32, up, down, fits, isNan, size, toBits, lt, le, eq}
-use lib.Ieee.Digits.{size-lt, size-le}
-use lib.Ieee.Fits.{down-pos}
-use Rattle.relay_math.specs.Exact.{gap, P149, turns, rest, back, quarter}
-use Rattle.relay_math.specs.F32.{grains, fabsf}
-use Rattle.relay_math.specs.Steps.{Tiny, Most, fixed, P48, reduceOf}
-use Rattle.laws.proofs.Tests.{le-or-lt}
-use Rattle.relay_math.proofs.Signs.{le-is}
-use Rattle.relay_math.proofs.Order.{ltb-scaled}
-use Rattle.relay_math.proofs.Grains.{shift, placed, grains-of, grains-exact, reads}
+use Rattle.laws.proofs.Prelude.{_≡_, refl, sym, ap, _∙_, subst, Bool, true, false, not, cond, inl, inr, ℕ, _+_, _*_, _-_, _/_, _%_, _^_, _≤_, _<_, le-of-lt, lt-of-lt-of-le, lt-of-le-of-lt}
+use Rattle.laws.proofs.Prelude.{lt-of-not-le, not-le-of-lt, mul-comm, mul-assoc, mul-le-mul-right, le-of-mul-le-mul-right, mul-lt-mul-of-pos-right, mod-lt, mul-pos, div-mul-le-self, arith, le-ltb}
+use Rattle.laws.proofs.Prelude.{le-leb, ℤ, pos, negsuc, T, leb, ltb, lit<, lit≤, leb→le, pow-mono, shl-lt, Float, nan, inf, fin, binary32, up, down, fits, isNan, size, toBits, lt, le, eq, le-or-lt}
+use native.Mathlib.Nat.{mul-add, mul-sub, mul-div-mul-right, add-mul-mod-self-left, lt-div-mul-add}
+use borrow.Author.Tests.{leb-true}
+use lib.Ieee.{Digits.{size-lt, size-le}, Fits.down-pos}
+use Rattle.relay_math.specs.{Exact.{gap, P149, turns, rest, back, quarter}, F32.{grains, fabsf}, Steps.{Tiny, Most, fixed, P48, reduceOf}}
+use Rattle.relay_math.proofs.{Signs.le-is, Order.ltb-scaled, Grains.{shift, placed, grains-of, grains-exact, reads}}
 
 -- ---- a float of size 2 ^ -12 to 2 ^ 13
 pub record Parts (x : Float) : Type 0 where

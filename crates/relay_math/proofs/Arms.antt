@@ -1,17 +1,8 @@
 -- The three arms of `sincos`, by the tests of the code. Assumes nothing.
-use mathlib.Core.Path.{_≡_, refl, sym, ap, _∙_, subst}
-use mathlib.Core.Bool.{Bool, true, false, _&&_, cond}
-use Prim.Native.Nat.{ℕ, zero, suc, _%_}
-use lib.Dec.{T, leb, eqb}
-use lib.Ieee.{Float, nan, inf, fin, binary32, fits, unlike, neg, lt, le, eq}
-use Rattle.relay_math.specs.declared.angles.SineCosine.{SineCosine}
-use Rattle.relay_math.specs.Exact.{Limit, IsSine, IsCosine}
-use Rattle.relay_math.specs.F32.{fabsf}
+use Rattle.laws.proofs.Prelude.{_≡_, refl, sym, ap, _∙_, subst, Bool, true, false, _&&_, cond, ℕ, zero, suc, _%_, T, leb, eqb, Float, nan, inf, fin, binary32, fits, unlike, neg, lt, le, eq, held}
+use Rattle.relay_math.specs.{declared.angles.SineCosine.SineCosine, Exact.{Limit, IsSine, IsCosine}, F32.fabsf}
 use Rattle.relay_math.specs.Steps.{toFloat, signed, turned, large, sincosTo, sincos, sinf, cosf, Zero, One, Tiny, Most}
-use Rattle.laws.proofs.Tests.{held}
-use Rattle.relay_math.proofs.Signs.{zero-is, is-below}
-use Rattle.relay_math.proofs.Order.{le-trans}
-use Rattle.relay_math.proofs.AngleBound.{sinf-rule, cosf-rule}
+use Rattle.relay_math.proofs.{Signs.{zero-is, is-below}, Order.le-trans, AngleBound.{sinf-rule, cosf-rule}}
 
 abbrev Arms : Bool → Float → Float → Type 0
 Arms s a x = (le a Limit ≡ le (fabsf x) Limit) × (le Tiny a ≡ le Tiny (fabsf x)) × (sincos x ≡ cond (le a Limit) (cond (le Tiny a) (large s x) record { sine = x; cosine = One }) record { sine = Zero; cosine = Zero })

@@ -1,13 +1,7 @@
 -- Laws for callers: what `finiteOr` gives, and that sine and cosine are finite for every f32. Assumes nothing.
-use mathlib.Core.Path.{_≡_, refl, sym, subst}
-use mathlib.Core.Bool.{Bool, true, false, not, cond}
-use lib.Dec.{T}
-use lib.Ieee.{Float, fin, binary32, fits, ofBits}
+use Rattle.laws.proofs.Prelude.{_≡_, refl, sym, subst, Bool, true, false, not, cond, T, Float, fin, binary32, fits, ofBits, held}
 use lib.Ieee.Bits.{is-true}
-use Rattle.relay_math.specs.Exact.{Value, Near, inRange}
-use Rattle.relay_math.specs.F32.{0·0, isFinite, finiteOr}
-use Rattle.relay_math.specs.Steps.{sinf, cosf}
-use Rattle.laws.proofs.Tests.{held}
+use Rattle.relay_math.specs.{Exact.{Value, Near, inRange}, F32.{0·0, isFinite, finiteOr}, Steps.{sinf, cosf}}
 use Rattle.relay_math.proofs.AngleBound.{sincos-far, sinf-rule, cosf-rule}
 
 pub finite-or-keeps : (x d : Float) → T (isFinite x) → finiteOr x d ≡ x

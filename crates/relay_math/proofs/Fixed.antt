@@ -1,11 +1,8 @@
 -- The steps on whole numbers are close to the eight terms, and so are x and 1 where x is small; and no product of the steps is too large. Assumes nothing.
-use mathlib.Core.Path.{_≡_, sym, ap, _∙_, subst}
-use Prim.Native.Nat.{ℕ, suc, _+_, _*_, _-_, _/_, _≤_, _<_}
-use native.Mathlib.Nat.{le-of-lt, le-trans, sub-le, sub-add-cancel, add-mul, mul-le-mul-left, mul-le-mul-right, mul-le-mul, mul-pos, div-mul-le-self}
-use native.Mathlib.Omega.{arith}
-use lib.Dec.{lit<, lit≤}
-use mir.Val.{Fits}
-use mir.Syntax.{w64}
+use Rattle.laws.proofs.Prelude.{_≡_, sym, ap, _∙_, subst, ℕ, suc, _+_, _*_, _-_, _/_, _≤_, _<_, le-of-lt, le-trans, add-mul, mul-le-mul-left, mul-le-mul-right, mul-le-mul, mul-pos, div-mul-le-self}
+use Rattle.laws.proofs.Prelude.{arith, lit<, lit≤}
+use native.Mathlib.Nat.{sub-le, sub-add-cancel}
+use mir.{Val.Fits, Syntax.w64}
 use Rattle.relay_math.specs.Steps.{F, part, cutSquare, horner, lessPart, sinPoly, cosPoly}
 use Rattle.relay_math.proofs.Horner.{Nest, by, nest, scaled, sinExact, cosExact, sin-terms, cos-terms, Close, Square, Share, cut, step, times, carry}
 

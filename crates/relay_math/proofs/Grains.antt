@@ -1,20 +1,10 @@
 -- A finite f32 is a whole number of grains: q * 2 ^ k of them, with a q below 2 ^ 24, and its bit pattern is then k * 2 ^ 23 + q. Assumes nothing.
-use mathlib.Core.Path.{_≡_, refl, sym, ap, _∙_}
-use Prim.Native.Nat.{ℕ, zero, suc, _+_, _-_, _*_, _/_, _%_, _^_, _≤_, _<_}
-use native.Mathlib.Nat.{le-trans, le-of-eq, lt-of-lt-of-le, lt-of-le-of-lt, lt-of-not-le, not-le-of-lt, zero-add}
-use native.Mathlib.Nat.{zero-mul, one-mul, mul-one, mul-assoc, mul-right-comm, mul-pos, mul-le-mul-right, mul-lt-mul-of-pos-right, lt-of-mul-lt-mul-right, le-of-mul-le-mul-right, mul-div-cancel}
-use native.Mathlib.Omega.{arith}
-use mathlib.Core.Bool.{Bool, false, _&&_}
-use lib.IntN.{ℤ, pos, negsuc}
-use lib.Dec.{T, leb, ltb, eqb, lit<, leb→le, ltb→lt}
-use lib.Pow.{pow-add, pow-pos, pow-mono, pow-lt, shl-lt, shl-shr}
-use lib.Ieee.{Float, fin, binary32, up, down, fits, size, ofBits, toBits}
-use lib.Ieee.Fits.{and-l, and-r, down-pos, kept-lt}
-use lib.Ieee.Digits.{back, size-lt, size-le, size-reaches}
-use lib.Ieee.Bits.{ofBits-toBits}
-use lib.Ieee.Exact.{HasValue}
-use Rattle.relay_math.specs.F32.{grains}
-use Rattle.relay_math.specs.Sqrt.{natural}
+use Rattle.laws.proofs.Prelude.{_≡_, refl, sym, ap, _∙_, ℕ, zero, suc, _+_, _-_, _*_, _/_, _%_, _^_, _≤_, _<_, le-trans, le-of-eq, lt-of-lt-of-le, lt-of-le-of-lt, lt-of-not-le, not-le-of-lt, zero-add}
+use Rattle.laws.proofs.Prelude.{zero-mul, one-mul, mul-one, mul-assoc, mul-right-comm, mul-pos, mul-le-mul-right, mul-lt-mul-of-pos-right, le-of-mul-le-mul-right, arith, Bool, false, _&&_, ℤ, pos}
+use Rattle.laws.proofs.Prelude.{negsuc, T, leb, ltb, eqb, lit<, leb→le, pow-add, pow-pos, pow-mono, shl-lt, Float, fin, binary32, up, down, fits, size, ofBits, toBits}
+use native.Mathlib.Nat.{lt-of-mul-lt-mul-right, mul-div-cancel}
+use lib.{Dec.ltb→lt, Pow.{pow-lt, shl-shr}, Ieee.{Fits.{and-l, and-r, down-pos, kept-lt}, Digits.{back, size-lt, size-le, size-reaches}, Bits.ofBits-toBits, Exact.HasValue}}
+use Rattle.relay_math.specs.{F32.grains, Sqrt.natural}
 use Rattle.relay_math.proofs.Signs.{of-value}
 
 -- a value of G / 2 ^ 149 is G grains

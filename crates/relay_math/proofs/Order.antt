@@ -1,18 +1,11 @@
 -- The order of floats, infinities and NaNs among them. `le-is-not-above` and `le-trans` come from the sizes; the other laws follow from these two. Assumes nothing.
-use mathlib.Core.Path.{_≡_, refl, sym, ap, _∙_}
-use mathlib.Core.Logic.{inl, inr}
-use mathlib.Core.Bool.{Bool, true, false, not, _&&_, _||_, cond, and-false}
-use Prim.Native.Nat.{ℕ, _+_, _*_, _<_}
-use native.Mathlib.Nat.{le-of-eq, eq-zero-or-pos, mul-right-comm, mul-lt-mul-of-pos-right, mul-le-mul-right, add-mul, zero-mul}
-use native.Mathlib.Omega.{arith}
-use borrow.Author.Tests.{ltb-false, lt-ltb, le-ltb, eq-eqb, ne-eqb, not-true}
-use lib.IntN.{ℤ}
-use lib.Dec.{T, ltb, eqb}
-use lib.Ieee.{Float, nan, inf, fin, up, down, below, level, lt, eq, le, ne, isNan}
-use lib.Ieee.Bits.{is-true}
-use lib.Ieee.Fits.{down-pos}
+use Rattle.laws.proofs.Prelude.{_≡_, refl, sym, ap, _∙_, inl, inr, Bool, true, false, not, _&&_, _||_, cond, and-false, ℕ, _+_, _*_, _<_, le-of-eq, mul-right-comm, mul-lt-mul-of-pos-right}
+use Rattle.laws.proofs.Prelude.{mul-le-mul-right, add-mul, zero-mul, arith, ltb-false, lt-ltb, le-ltb, eq-eqb, ne-eqb, not-true, ℤ, T, ltb, eqb, Float, nan, inf, fin, up, down, lt, eq, le, ne, isNan}
+use Rattle.laws.proofs.Prelude.{held, le-or-lt}
+use native.Mathlib.Nat.{eq-zero-or-pos}
+use lib.Ieee.{below, level, Bits.is-true, Fits.down-pos}
 use Rattle.relay_math.specs.F32.{isFinite, finiteAbove, clamp, Within}
-use Rattle.laws.proofs.Tests.{held, le-or-lt, one-sign}
+use Rattle.laws.proofs.Tests.{one-sign}
 
 -- ---- sizes with signs, over one denominator: ±b ≤ ±a says that ±a is not below ±b
 

@@ -1,26 +1,11 @@
 -- The definition `sqrtf` is the root: `IsRoot x (sqrtf x)` for every f32 x, and of nothing else; and its bit pattern is what the code puts together. Assumes nothing.
-use mathlib.Core.Path.{_≡_, refl, sym, ap, _∙_, subst}
-use mathlib.Core.Logic.{inl, inr}
-use Prim.Native.Nat.{ℕ, zero, suc, _+_, _-_, _*_, _/_, _%_, _^_, _≤_, _<_}
-use native.Mathlib.Nat.{le-trans, le-of-eq, lt-of-lt-of-le, lt-of-not-le, lt-trans, lt-irrefl, not-le-of-lt, eq-zero-or-pos, eq-or-lt-of-le, add-comm, mul-one, mul-assoc, mul-pos, mul-le-mul, mul-le-mul-right, le-of-lt, mul-div-cancel, zero-lt-suc}
-use native.Mathlib.Omega.{arith}
-use mathlib.Core.Bool.{true, false, cond}
-use lib.IntN.{ℤ}
-use lib.Dec.{T, ltb, lt→ltb}
-use borrow.Author.Tests.{lt-ltb}
-use lib.Pow.{pow-add, pow-pos, pow-mono, shl-lt}
-use lib.Count.{leadingZeros, leading-top}
-use lib.Ieee.{Float, nan, inf, fin, binary32, down, size, odd, fits, toBits, ofBits, lt, eq}
-use lib.Ieee.Bits.{ofBits-toBits}
-use lib.Ieee.Fits.{odd-fits}
-use lib.Ieee.Exact.{HasValue, odd-sign}
-use lib.Ieee.Positive.{positive, first-pos}
-use Rattle.relay_math.specs.F32.{grains}
-use Rattle.relay_math.specs.Steps.{Zero}
-use Rattle.relay_math.specs.Sqrt.{natural, square, Nearest, IsRoot, nearestRoot, rootGrains, sqrtf}
-use Rattle.laws.proofs.Tests.{no, le-or-lt}
-use Rattle.relay_math.proofs.Signs.{of-value, zero-is, size-pos, is-above, not-zero}
-use Rattle.relay_math.proofs.Grains.{same-grains, shift, grains-of, grains-exact, size-of, writes, reads, Digits}
+use Rattle.laws.proofs.Prelude.{_≡_, refl, sym, ap, _∙_, subst, inl, inr, ℕ, zero, suc, _+_, _-_, _*_, _/_, _%_, _^_, _≤_, _<_, le-trans, le-of-eq, lt-of-lt-of-le, lt-of-not-le, not-le-of-lt}
+use Rattle.laws.proofs.Prelude.{eq-or-lt-of-le, add-comm, mul-one, mul-assoc, mul-pos, mul-le-mul, mul-le-mul-right, le-of-lt, zero-lt-suc, arith, true, false, cond, ℤ, T, ltb, lt-ltb, pow-add}
+use Rattle.laws.proofs.Prelude.{pow-pos, pow-mono, shl-lt, Float, nan, inf, fin, binary32, down, size, odd, fits, toBits, ofBits, lt, eq, no, le-or-lt}
+use native.Mathlib.Nat.{lt-trans, lt-irrefl, eq-zero-or-pos, mul-div-cancel}
+use lib.{Dec.lt→ltb, Count.{leadingZeros, leading-top}, Ieee.{Bits.ofBits-toBits, Fits.odd-fits, Exact.{HasValue, odd-sign}, Positive.{positive, first-pos}}}
+use Rattle.relay_math.specs.{F32.grains, Steps.Zero, Sqrt.{natural, square, Nearest, IsRoot, nearestRoot, rootGrains, sqrtf}}
+use Rattle.relay_math.proofs.{Signs.{of-value, zero-is, size-pos, is-above, not-zero}, Grains.{same-grains, shift, grains-of, grains-exact, size-of, writes, reads, Digits}}
 use Rattle.relay_math.proofs.RootNear.{Closest, closest, closest-unique, digits, near}
 
 -- ---- X grains as m * 2 ^ (e - 23), with an m of 24 digits

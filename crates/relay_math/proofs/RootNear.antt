@@ -1,16 +1,10 @@
 -- `nearestRoot n` is the one whole number nearest to √n; and where N is n * 4 ^ k, no f32 is as near √N grains as its 2 ^ k-fold. Assumes nothing.
-use mathlib.Core.Path.{_≡_, refl, sym, _∙_}
-use mathlib.Core.Logic.{_⊎_, inl, inr}
-use Prim.Native.Nat.{ℕ, zero, suc, _+_, _-_, _*_, _/_, _^_, _≤_, _<_}
-use native.Mathlib.Nat.{le-of-eq, lt-of-lt-of-le, lt-of-not-le, le-trans, le-of-suc-le-suc, eq-or-lt-of-le, mul-le-mul, mul-le-mul-right, mul-lt-mul-of-pos-right, lt-of-mul-lt-mul-right, mul-pos, zero-lt-suc, pow-suc, div-lt-iff-lt-mul}
-use native.Mathlib.Omega.{arith}
-use mathlib.Core.Bool.{Bool, true, false, not, cond}
-use lib.Dec.{T, leb, leb→le, nleb→lt}
-use lib.Pow.{pow-add, pow-pos, pow-mono, shl-lt}
-use lib.Ieee.{Float, fin, binary32, fits}
-use Rattle.relay_math.specs.F32.{grains}
-use Rattle.relay_math.specs.Sqrt.{natural, square, isqrt, nearestRoot, Nearest}
-use Rattle.laws.proofs.Tests.{le-or-lt}
+use Rattle.laws.proofs.Prelude.{_≡_, refl, sym, _∙_, _⊎_, inl, inr, ℕ, zero, suc, _+_, _-_, _*_, _/_, _^_, _≤_, _<_, le-of-eq, lt-of-lt-of-le, lt-of-not-le, le-trans, le-of-suc-le-suc, eq-or-lt-of-le}
+use Rattle.laws.proofs.Prelude.{mul-le-mul, mul-le-mul-right, mul-lt-mul-of-pos-right, mul-pos, zero-lt-suc, pow-suc, arith, Bool, true, false, not, cond, T, leb, leb→le, pow-add, pow-pos, pow-mono}
+use Rattle.laws.proofs.Prelude.{shl-lt, Float, fin, binary32, fits, le-or-lt}
+use native.Mathlib.Nat.{lt-of-mul-lt-mul-right, div-lt-iff-lt-mul}
+use lib.Dec.{nleb→lt}
+use Rattle.relay_math.specs.{F32.grains, Sqrt.{natural, square, isqrt, nearestRoot, Nearest}}
 use Rattle.relay_math.proofs.Grains.{shift, reads}
 
 -- ---- the whole root

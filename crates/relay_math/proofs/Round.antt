@@ -1,21 +1,9 @@
 -- Floats from whole numbers: two halves, each exact, whose sum rounds once; and how far rounding goes. Assumes nothing.
-use mathlib.Core.Path.{_≡_, refl, sym, ap, _∙_}
-use mathlib.Core.Logic.{inl, inr}
-use mathlib.Core.Bool.{Bool, true, false, cond, Bool·beq}
-use Prim.Native.Nat.{ℕ, zero, suc, _+_, _-_, _*_, _/_, _%_, _^_, _≤_, _<_, compare}
-use native.Mathlib.Nat.{le-of-lt, lt-of-le-of-lt, lt-of-lt-of-le, eq-or-lt-of-le, mul-le-mul-left, mul-le-mul-right, mul-pos, mul-comm, mul-assoc, mul-lt-mul-of-pos-right, div-mul-le-self, lt-div-mul-add, div-lt-iff-lt-mul, le-of-mul-le-mul-right}
-use native.Mathlib.Omega.{arith}
-use lib.IntN.{pos, negsuc}
-use lib.Dec.{ltb, lit<, lit≤}
-use lib.Pow.{pow-pos, pow-mono, shl-lt}
-use lib.Ieee.{Float, inf, fin, binary32, up, down, unlike, neg, round, units, odd, nearest, mul, add, sum, ofInt, size}
-use lib.Ieee.Exact.{HasValue, round-exact}
-use lib.Ieee.Back.{round-whole}
-use lib.Ieee.Scale.{round-same, round-val}
-use lib.Ieee.Fits.{down-pos, nearest-le}
-use lib.Ieee.Nearest.{closest, nearest-ge}
-use lib.Ieee.Digits.{size-le}
-use lib.Ieee.Order.{drop}
+use Rattle.laws.proofs.Prelude.{_≡_, refl, sym, ap, _∙_, inl, inr, Bool, true, false, cond, Bool·beq, ℕ, zero, suc, _+_, _-_, _*_, _/_, _%_, _^_, _≤_, _<_, compare, le-of-lt, lt-of-le-of-lt}
+use Rattle.laws.proofs.Prelude.{lt-of-lt-of-le, eq-or-lt-of-le, mul-le-mul-left, mul-le-mul-right, mul-pos, mul-comm, mul-assoc, mul-lt-mul-of-pos-right, div-mul-le-self, le-of-mul-le-mul-right}
+use Rattle.laws.proofs.Prelude.{arith, pos, negsuc, ltb, lit<, lit≤, pow-pos, pow-mono, shl-lt, Float, inf, fin, binary32, up, down, unlike, neg, round, units, odd, nearest, mul, add, sum, size}
+use native.Mathlib.Nat.{lt-div-mul-add, div-lt-iff-lt-mul}
+use lib.Ieee.{ofInt, Exact.{HasValue, round-exact}, Back.round-whole, Scale.{round-same, round-val}, Fits.{down-pos, nearest-le}, Nearest.{closest, nearest-ge}, Digits.size-le, Order.drop}
 use Rattle.relay_math.specs.Steps.{toFloat, signed}
 use Rattle.relay_math.proofs.Signs.{of-value}
 

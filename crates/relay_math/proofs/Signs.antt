@@ -1,17 +1,7 @@
 -- A float against zero, and what it is written as. Assumes nothing.
-use mathlib.Core.Path.{_≡_, refl, sym, subst}
-use mathlib.Core.Bool.{Bool, true, false, not, cond}
-use Prim.Native.Nat.{ℕ, zero, suc, _+_, _*_, _^_, _<_}
-use native.Mathlib.Nat.{mul-pos, zero-lt-suc}
-use native.Mathlib.Omega.{arith}
-use borrow.Author.Tests.{lt-ltb, le-ltb, ne-eqb}
-use lib.IntN.{ℤ, pos}
-use lib.Dec.{T, leb, ltb}
-use lib.Ieee.{Float, inf, fin, binary32, fits, isNan, up, down, round, units, odd, lt, le, eq}
-use lib.Ieee.Back.{whole-unique}
-use lib.Ieee.Exact.{HasValue}
-use lib.Ieee.Fits.{up-pos, round-is}
-use lib.Ieee.Positive.{positive}
+use Rattle.laws.proofs.Prelude.{_≡_, refl, sym, subst, Bool, true, false, not, cond, ℕ, zero, suc, _+_, _*_, _^_, _<_, mul-pos, zero-lt-suc, arith, lt-ltb, le-ltb, ne-eqb, ℤ, pos, T, leb, ltb, Float}
+use Rattle.laws.proofs.Prelude.{inf, fin, binary32, fits, isNan, up, down, round, units, odd, lt, le, eq}
+use lib.Ieee.{Back.whole-unique, Exact.HasValue, Fits.{up-pos, round-is}, Positive.positive}
 use Rattle.laws.proofs.Tests.{ordered}
 use Rattle.relay_math.specs.Steps.{Zero}
 use Rattle.relay_math.proofs.Order.{le-right, le-of-lt}

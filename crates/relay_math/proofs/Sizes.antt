@@ -1,25 +1,10 @@
 -- Sine and cosine are at most 1 in size, for every f32, and so a product of two of them is finite. Assumes nothing.
-use mathlib.Core.Path.{_≡_, refl, sym, _∙_, subst}
-use mathlib.Core.Bool.{Bool, true, false, not, _&&_, cond}
-use Prim.Native.Nat.{ℕ, _+_, _*_, _%_, _^_, _≤_, _<_}
-use native.Mathlib.Nat.{mul-pos, mul-le-mul}
-use native.Mathlib.Omega.{arith}
-use borrow.Author.Tests.{not-false}
-use lib.IntN.{ℤ, pos}
-use lib.Dec.{T, leb, eqb, lit<, leb→le}
-use lib.Ieee.{Float, nan, inf, fin, binary32, up, down, isNan, unlike, neg, lt, le, eq, mul, round, ofBits}
-use lib.Ieee.Fits.{down-pos}
-use lib.Ieee.Order.{round-mono}
-use Rattle.relay_math.specs.declared.angles.SineCosine.{SineCosine}
-use Rattle.relay_math.specs.declared.angles.Reduced.{Reduced}
-use Rattle.relay_math.specs.F32.{_⊗_, 1·0, isFinite, fabsf}
-use Rattle.relay_math.specs.Exact.{Limit, isMinus}
+use Rattle.laws.proofs.Prelude.{_≡_, refl, sym, _∙_, subst, Bool, true, false, not, _&&_, cond, ℕ, _+_, _*_, _%_, _^_, _≤_, _<_, mul-pos, mul-le-mul, arith, not-false, ℤ, pos, T, leb, eqb, lit<}
+use Rattle.laws.proofs.Prelude.{leb→le, Float, nan, inf, fin, binary32, up, down, isNan, unlike, neg, lt, le, eq, mul, round, ofBits, held}
+use lib.Ieee.{Fits.down-pos, Order.round-mono}
+use Rattle.relay_math.specs.{declared.angles.{SineCosine.SineCosine, Reduced.Reduced}, F32.{_⊗_, 1·0, isFinite, fabsf}, Exact.{Limit, isMinus}}
 use Rattle.relay_math.specs.Steps.{sinPoly, cosPoly, toFloat, signed, fixed, reduceOf, turned, turnedBy, large, sincosTo, sincos, sinf, cosf, Zero, One, Tiny}
-use Rattle.laws.proofs.Tests.{held}
-use Rattle.relay_math.proofs.Signs.{le-is, of-rounded}
-use Rattle.relay_math.proofs.Order.{le-is-not-above, le-left, le-of-lt, le-trans}
-use Rattle.relay_math.proofs.Round.{one-rounds, round-signed}
-use Rattle.relay_math.proofs.AngleReduction.{small}
+use Rattle.relay_math.proofs.{Signs.{le-is, of-rounded}, Order.{le-is-not-above, le-left, le-of-lt, le-trans}, Round.{one-rounds, round-signed}, AngleReduction.small}
 
 -- a number of size at most 1
 abbrev Small : Float → Type 0

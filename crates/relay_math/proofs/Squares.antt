@@ -1,8 +1,5 @@
 -- Whole numbers about a root: r * r < n + r and n ≤ r * r + r say that r is the whole number nearest to the root of n. Assumes nothing.
-use mathlib.Core.Path.{_≡_}
-use Prim.Native.Nat.{ℕ, zero, suc, _+_, _*_, _^_, _≤_, _<_}
-use native.Mathlib.Nat.{zero-lt-suc, mul-le-mul, mul-le-mul-right, le-of-suc-le-suc, lt-of-not-le}
-use native.Mathlib.Omega.{arith}
+use Rattle.laws.proofs.Prelude.{_≡_, ℕ, zero, suc, _+_, _*_, _^_, _≤_, _<_, zero-lt-suc, mul-le-mul, mul-le-mul-right, le-of-suc-le-suc, lt-of-not-le, arith}
 
 pub square-le : (r : ℕ) → r ≤ 2 ^ 26 → r * r ≤ 2 ^ 52
 square-le r h = mul-le-mul h h

@@ -1,21 +1,13 @@
 -- Rounded fractions, products and sums of floats that are not below zero: a product is not below zero, a sum is no less than what was added to,
 -- and adding a zero changes nothing. Assumes nothing.
-use mathlib.Core.Path.{_≡_, refl, sym, ap, _∙_, subst}
-use mathlib.Core.Bool.{Bool, true, false, _&&_, cond}
-use Prim.Native.Nat.{ℕ, compare·zero-suc, zero, suc, _+_, _-_, _*_, _^_, _≤_, _<_, compare}
-use native.Mathlib.Nat.{zero-div, zero-mod, zero-mul, mul-zero, mul-one, mul-pos, mul-comm, mul-assoc, mul-right-comm, mul-le-mul-right, eq-of-mul-eq-mul-right, zero-add, add-zero, sub-zero}
-use native.Mathlib.Omega.{arith}
-use borrow.Author.Tests.{le-ltb, ltb-false}
-use lib.Dec.{T, ltb, lit<}
-use lib.IntN.{ℤ, pos}
-use lib.Ieee.{Float, inf, fin, binary32, fits, up, down, unlike, round, sum, add, mul, le, lt, eq, isNan, nearest, ofBits}
-use lib.Ieee.Fits.{down-pos, round-fits}
-use lib.Ieee.Exact.{HasValue, round-exact}
-use lib.Ieee.Order.{round-mono}
+use Rattle.laws.proofs.Prelude.{_≡_, refl, sym, ap, _∙_, subst, Bool, true, false, _&&_, cond, ℕ, zero, suc, _+_, _-_, _*_, _^_, _≤_, _<_, compare, zero-mul, mul-zero, mul-one, mul-pos, mul-comm}
+use Rattle.laws.proofs.Prelude.{mul-assoc, mul-right-comm, mul-le-mul-right, zero-add, add-zero, sub-zero, arith, le-ltb, ltb-false, T, ltb, lit<, ℤ, pos, Float, inf, fin, binary32, fits, up, down}
+use Rattle.laws.proofs.Prelude.{unlike, round, sum, add, mul, le, lt, eq, isNan, nearest, ofBits, no}
+use Prim.Native.Nat.{compare·zero-suc}
+use native.Mathlib.Nat.{zero-div, zero-mod, eq-of-mul-eq-mul-right}
+use lib.Ieee.{Fits.{down-pos, round-fits}, Exact.{HasValue, round-exact}, Order.round-mono}
 use Rattle.relay_math.specs.F32.{_⊕_, _⊗_, 0·0, isFinite, unsigned, grains}
-use Rattle.laws.proofs.Tests.{no}
-use Rattle.relay_math.proofs.Signs.{is-below, of-value}
-use Rattle.relay_math.proofs.Order.{le-trans, le-of-not-lt, not-lt-of-le, le-right, eq-of-le, eq-refl-of}
+use Rattle.relay_math.proofs.{Signs.{is-below, of-value}, Order.{le-trans, le-of-not-lt, not-lt-of-le, le-right, eq-of-le, eq-refl-of}}
 use Rattle.relay_math.proofs.Grains.{grains-of, grains-exact, grains-under, placed, same-grains}
 
 near : (u : ℕ) → nearest 0 (compare 0 u) ≡ 0

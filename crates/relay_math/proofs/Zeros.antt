@@ -1,14 +1,8 @@
 -- Zeros of either sign: what is made of them, or by a product with one, is one again. Assumes nothing.
-use mathlib.Core.Path.{refl, subst}
-use mathlib.Core.Bool.{Bool, true, false, not, _&&_}
-use Prim.Native.Nat.{ℕ, zero, suc, _*_}
-use native.Mathlib.Nat.{zero-mul, mul-zero}
-use lib.IntN.{ℤ, pos}
-use lib.Dec.{T}
-use lib.Ieee.{Float, fin, binary32, up, down, unlike, round, neg, add, sub, mul, eq, ofBits}
+use Rattle.laws.proofs.Prelude.{refl, subst, Bool, true, false, not, _&&_, ℕ, zero, suc, _*_, zero-mul, mul-zero, ℤ, pos, T, Float, fin, binary32, up, down, unlike, round, neg, add, sub, mul, eq}
+use Rattle.laws.proofs.Prelude.{ofBits}
 use Rattle.relay_math.specs.F32.{_⊕_, _⊖_, _⊗_, 0·0, isFinite}
-use Rattle.relay_math.proofs.Signs.{not-zero}
-use Rattle.relay_math.proofs.Sums.{round-zero, sum-is}
+use Rattle.relay_math.proofs.{Signs.not-zero, Sums.{round-zero, sum-is}}
 
 pub data IsZero : Float → Type 0 where
   none : (s : Bool) (e : ℤ) → IsZero (fin s 0 e)

@@ -1,24 +1,9 @@
 -- An angle that is no number, infinite or beyond twice the limit of sine and cosine gives four zeros, whatever the other two are. Assumes nothing.
-use mathlib.Core.Path.{_≡_, refl, sym, ap, _∙_, subst}
-use mathlib.Core.Logic.{inl, inr}
-use mathlib.Core.Bool.{Bool, false, not}
-use Prim.Native.Nat.{ℕ, zero, suc, _*_, _^_, _≤_, _<_}
-use native.Mathlib.Nat.{le-trans, le-of-lt, lt-of-le-of-lt, lt-of-not-le, not-le-of-lt, mul-pos, mul-assoc, mul-le-mul-right, mul-one, pow-suc}
-use native.Mathlib.Omega.{arith}
-use lib.IntN.{ℤ, pos}
-use lib.Dec.{T, T-not, not-T, lit<, lit≤}
-use lib.Ieee.{Float, nan, inf, fin, binary32, fits, up, down, unlike, round, mul, le, ofBits}
-use lib.Ieee.Fits.{down-pos}
-use lib.Ieee.Exact.{HasValue, round-exact}
-use lib.Ieee.Order.{le-of-values}
-use lib.Ieee.Positive.{num, den, positive, den-pos, own-value, positive-of-value, values-of-le}
-use Rattle.relay_math.specs.F32.{_⊗_, 0·5, 1·0, fabsf, grains}
-use Rattle.relay_math.specs.Exact.{Limit, upTo, inRange}
-use Rattle.relay_math.specs.Steps.{sinf, cosf}
-use Rattle.relay_math.proofs.Grains.{placed, grains-of, grains-under}
-use Rattle.relay_math.proofs.Finite.{sin-cos-far}
-use Rattle.relay_math.proofs.Sizes.{sin-cos-size, size-finite, product-finite}
-use Rattle.relay_math.proofs.Zeros.{IsZero, none, equal, times, by, plus, minus}
+use Rattle.laws.proofs.Prelude.{_≡_, refl, sym, ap, _∙_, subst, inl, inr, Bool, false, not, ℕ, zero, suc, _*_, _^_, _≤_, _<_, le-trans, le-of-lt, lt-of-le-of-lt, lt-of-not-le, not-le-of-lt, mul-pos}
+use Rattle.laws.proofs.Prelude.{mul-assoc, mul-le-mul-right, mul-one, pow-suc, arith, ℤ, pos, T, lit<, lit≤, Float, nan, inf, fin, binary32, fits, up, down, unlike, round, mul, le, ofBits}
+use lib.{Dec.{T-not, not-T}, Ieee.{Fits.down-pos, Exact.{HasValue, round-exact}, Order.le-of-values, Positive.{num, den, positive, den-pos, own-value, positive-of-value, values-of-le}}}
+use Rattle.relay_math.{specs.{F32.{_⊗_, 0·5, 1·0, fabsf, grains}, Exact.{Limit, upTo, inRange}, Steps.{sinf, cosf}}, proofs.{Grains.{placed, grains-of, grains-under}, Finite.sin-cos-far}}
+use Rattle.relay_math.proofs.{Sizes.{sin-cos-size, size-finite, product-finite}, Zeros.{IsZero, none, equal, times, by, plus, minus}}
 use Rattle.relay_pos.specs.Euler.{eulerToQuaternion, twice, served, Bad, Zeros}
 
 -- ---- the half of such an angle is out of range: halving a number so large is exact

@@ -1,16 +1,9 @@
 -- The governed time, tick by tick and over any run, for all bits. Assumes nothing.
-use mathlib.Core.Path.{_≡_, refl, sym, ap, _∙_, subst}
-use mathlib.Core.Bool.{Bool, true, false, not, cond}
-use mathlib.Core.List.{List, [], _∷_, _++_}
-use lib.Dec.{T}
-use lib.IntN.{pos}
-use lib.Ieee.{Float, nan, inf, fin, binary32, fits, add, le, eq, isNan, ofBits}
+use Rattle.laws.proofs.Prelude.{_≡_, refl, sym, ap, _∙_, subst, Bool, true, false, not, cond, List, [], _∷_, _++_, T, pos, Float, nan, inf, fin, binary32, fits, add, le, eq, isNan, ofBits}
 use lib.Ieee.Fits.{add-fits}
-use Rattle.relay_math.specs.F32.{_⊕_, _⊗_, 0·0, 1·0, isFinite, finiteAbove, unsigned}
-use Rattle.relay_math.proofs.Order.{le-trans, le-refl-of, le-right, within-finite, finite-from}
+use Rattle.relay_math.{specs.F32.{_⊕_, _⊗_, 0·0, 1·0, isFinite, finiteAbove, unsigned}, proofs.Order.{le-trans, le-refl-of, le-right, within-finite, finite-from}}
 use Rattle.relay_math.proofs.Sums.{product-not-below, sum-grows, zero-times, zero-adds-nothing, zero-keeps-number}
-use Rattle.relay_traj.specs.declared.governor.RefGovernor.{RefGovernor}
-use Rattle.relay_traj.specs.Governor.{gate, movedBy, advance, Running, Tick, run}
+use Rattle.relay_traj.specs.{declared.governor.RefGovernor.RefGovernor, Governor.{gate, movedBy, advance, Running, Tick, run}}
 use Rattle.relay_traj.proofs.Gate.{gate-in-unit}
 
 -- ---- what a tick adds

@@ -1,14 +1,8 @@
 -- The gate, for all bits. Assumes nothing.
-use mathlib.Core.Path.{_≡_, refl, subst}
-use mathlib.Core.Bool.{Bool, true, false, not, _&&_, _||_, cond}
-use lib.Dec.{T}
-use lib.Ieee.{Float, lt, le, isNan, ofBits}
+use Rattle.laws.proofs.Prelude.{_≡_, refl, subst, Bool, true, false, not, _&&_, _||_, cond, T, Float, lt, le, isNan, ofBits, held}
 use lib.Ieee.Bits.{is-true}
-use Rattle.relay_math.specs.F32.{0·0, 1·0, isFinite, Within}
-use Rattle.laws.proofs.Tests.{held}
-use Rattle.relay_math.proofs.Order.{le-trans, le-left, finite-number, low-within, high-within, between}
-use Rattle.relay_traj.specs.declared.governor.RefGovernor.{RefGovernor}
-use Rattle.relay_traj.specs.Governor.{lowEnd, clampTo, ramp, noBand, gateFactor, gate, putIn}
+use Rattle.relay_math.{specs.F32.{0·0, 1·0, isFinite, Within}, proofs.Order.{le-trans, le-left, finite-number, low-within, high-within, between}}
+use Rattle.relay_traj.specs.{declared.governor.RefGovernor.RefGovernor, Governor.{lowEnd, clampTo, ramp, noBand, gateFactor, gate, putIn}}
 
 -- ---- `clamp_to`
 

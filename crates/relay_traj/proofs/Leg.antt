@@ -1,15 +1,7 @@
 -- A leg's duration, times that are not finite, and the peak, for all bits. Assumes nothing.
-use mathlib.Core.Path.{_≡_, refl, sym, ap, _∙_, subst}
-use mathlib.Core.Bool.{Bool, true, false, not, cond}
-use lib.Dec.{T}
-use lib.Ieee.{Float, lt, le, isNan, ofBits}
-use Rattle.relay_math.specs.F32.{0·0, 1e-3, ∞, isFinite, clamp}
-use Rattle.relay_math.specs.declared.Vec3.{Vec3}
-use Rattle.laws.proofs.Tests.{held}
-use Rattle.relay_math.proofs.Order.{finite-number, le-trans, not-lt-of-le, finite-from}
-use Rattle.relay_traj.specs.declared.quintic.Quintic.{Quintic}
-use Rattle.relay_traj.specs.Quintic.{mendedDuration, Lasts, mend, ofMended, quintic, timeOn, sampleAt, eval, peakAbsJerk}
-use Rattle.relay_traj.specs.Segment.{segment, duration}
+use Rattle.laws.proofs.Prelude.{_≡_, refl, sym, ap, _∙_, subst, Bool, true, false, not, cond, T, Float, lt, le, isNan, ofBits, held}
+use Rattle.relay_math.{specs.{F32.{0·0, 1e-3, ∞, isFinite, clamp}, declared.Vec3.Vec3}, proofs.Order.{finite-number, le-trans, not-lt-of-le, finite-from}}
+use Rattle.relay_traj.specs.{declared.quintic.Quintic.Quintic, Quintic.{mendedDuration, Lasts, mend, ofMended, quintic, timeOn, sampleAt, eval, peakAbsJerk}, Segment.{segment, duration}}
 
 -- ---- the duration
 

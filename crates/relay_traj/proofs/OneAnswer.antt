@@ -1,5 +1,5 @@
 -- Of each public function here: no second answer fits its promise. Assumes nothing.
-use mathlib.Core.Path.{_≡_, refl}
+use Rattle.laws.proofs.Prelude.{_≡_, refl}
 use denote.Ref.{now}
 use Rattle.laws.proofs.Determined.{Promise, OneAnswer, Says, no-second, both}
 use Rattle.relay_traj.specs.Governor.{advance}

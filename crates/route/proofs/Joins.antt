@@ -1,16 +1,6 @@
 -- The joins in the request's words, over any count, and the order of refusals at work. Assumes nothing.
-use mathlib.Core.Path.{_≡_, refl, subst}
-use mathlib.Core.Logic.{inl, inr, _↔_}
-use mathlib.Core.Bool.{true, false}
-use mathlib.Core.List.{List, [], _∷_}
-use Prim.Native.Nat.{ℕ, zero, suc, _+_, _-_, _≤_, _<_}
-use native.Mathlib.Nat.{eq-or-lt-of-le}
-use native.Mathlib.Omega.{arith}
-use lib.IntN.{pos}
-use lib.Ieee.{Float, nan, inf, fin, eq}
-use lib.ListN.{replicate}
+use Rattle.laws.proofs.Prelude.{_≡_, refl, subst, inl, inr, _↔_, true, false, List, [], _∷_, ℕ, zero, suc, _+_, _-_, _≤_, _<_, eq-or-lt-of-le, arith, pos, Float, nan, inf, fin, eq, replicate, both}
 use Rattle.words.specs.Words.{bytesOf}
-use Rattle.laws.proofs.Tests.{both}
 use Rattle.outcome.specs.declared.Outcome.the-variants.{LegCount, RouteLength}
 use Rattle.route.specs.Form.{legOf, legsMeet, meetFrom, allMeet, countOf, backOf, formRefusal}
 

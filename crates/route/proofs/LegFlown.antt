@@ -1,30 +1,14 @@
 -- The leg flown is the one that request One's sentence describes, and the time on it lies within the leg; over any count. Assumes nothing.
-use mathlib.Core.Path.{_≡_, refl, sym, _∙_, subst}
-use mathlib.Core.Logic.{_⊎_, inl, inr}
-use mathlib.Core.Bool.{Bool, true, false}
-use mathlib.Core.List.{List}
-use Prim.Native.Nat.{ℕ, zero, suc, _+_, _-_, _*_, _≤_, _<_}
-use native.Mathlib.Nat.{eq-or-lt-of-le, le-of-suc-le-suc, add-zero, zero-add, zero-mul, mul-one, one-mul}
-use native.Mathlib.Omega.{arith}
-use lib.Dec.{T}
-use lib.Ieee.{Float, nan, inf, fin, binary32, fits, lt, le, isNan, add, sum, ofBits}
-use lib.Ieee.Fits.{cond-fits}
+use Rattle.laws.proofs.Prelude.{_≡_, refl, sym, _∙_, subst, _⊎_, inl, inr, Bool, true, false, List, ℕ, zero, suc, _+_, _-_, _*_, _≤_, _<_, eq-or-lt-of-le, le-of-suc-le-suc, add-zero, zero-add}
+use Rattle.laws.proofs.Prelude.{zero-mul, mul-one, one-mul, arith, T, Float, nan, inf, fin, binary32, fits, lt, le, isNan, add, sum, ofBits}
+use lib.Ieee.{Fits.cond-fits, Bits.is-true}
 use Rattle.words.proofs.Back.{float-fits}
-use Rattle.relay_math.specs.F32.{_⊕_, _⊖_, 0·0, 1e-3, isFinite, finiteAbove, unsigned, Within}
-use lib.Ieee.Bits.{is-true}
-use Rattle.relay_math.proofs.Order.{Number, finite-number, le-trans, le-of-not-lt, le-refl-of, not-lt-of-le, within-finite}
+use Rattle.relay_math.{specs.F32.{_⊕_, _⊖_, 0·0, 1e-3, isFinite, finiteAbove, unsigned, Within}, proofs.Order.{Number, finite-number, le-trans, le-of-not-lt, le-refl-of, not-lt-of-le, within-finite}}
 use Rattle.relay_math.proofs.Sums.{round-own}
-use Rattle.relay_traj.specs.Governor.{Running}
-use Rattle.relay_traj.specs.Quintic.{Lasts, timeOn}
-use Rattle.relay_traj.proofs.Clock.{never-nan}
-use Rattle.relay_traj.proofs.Leg.{mended-lasts}
-use Rattle.joint_tick.specs.SetUp.{segmentOf}
-use Rattle.joint_tick.specs.Tick.{sampleTime}
-use Rattle.joint_tick.proofs.Calls.{finite-time-as-it-is}
-use Rattle.image.specs.Layout.{LEG-WORDS}
-use Rattle.image.specs.Parts.{legAt}
-use Rattle.route.specs.Form.{legOf}
-use Rattle.route.specs.Legs.{durationOf, flownFrom, flown, endOf, FirstAbove, PastAll}
+use Rattle.relay_traj.{specs.{Governor.Running, Quintic.{Lasts, timeOn}}, proofs.{Clock.never-nan, Leg.mended-lasts}}
+use Rattle.joint_tick.{specs.{SetUp.segmentOf, Tick.sampleTime}, proofs.Calls.finite-time-as-it-is}
+use Rattle.image.specs.{Layout.LEG-WORDS, Parts.legAt}
+use Rattle.route.specs.{Form.legOf, Legs.{durationOf, flownFrom, flown, endOf, FirstAbove, PastAll}}
 use Rattle.route.proofs.LocalTime.{lasts-plus, sum-unsigned, local-time}
 
 -- ---- durations and ends

@@ -1,17 +1,8 @@
 -- Request Eight: what the limit of legs decides, and what it does not. Assumes nothing.
-use mathlib.Core.Path.{_≡_, refl}
-use mathlib.Core.Bool.{true}
-use mathlib.Core.List.{List}
-use Prim.Native.Nat.{ℕ, _≤_, _<_}
-use native.Mathlib.Omega.{arith}
-use borrow.Author.Tests.{lt-ltb, le-ltb, ne-eqb}
-use lib.ListN.{length}
-use Rattle.outcome.specs.declared.Outcome.the-variants.{LegCount}
-use Rattle.outcome.specs.Outcomes.{isDone, firstOf, left, lent}
-use Rattle.outcome.proofs.Tables.{in-turn}
+use Rattle.laws.proofs.Prelude.{_≡_, refl, true, List, ℕ, _≤_, _<_, arith, lt-ltb, le-ltb, ne-eqb, length}
+use Rattle.outcome.{specs.{declared.Outcome.the-variants.LegCount, Outcomes.{isDone, firstOf, left, lent}}, proofs.Tables.in-turn}
 use Rattle.calls.specs.Entry.{tickTable, tickRefusal, tickFrom}
-use Rattle.route.specs.Form.{TRAILER-BYTES, MOST-LEGS, countOf, formTableTo}
-use Rattle.route.specs.Entry.{routeRefusal, routeCall, routeCallTo}
+use Rattle.route.specs.{Form.{TRAILER-BYTES, MOST-LEGS, countOf, formTableTo}, Entry.{routeRefusal, routeCall, routeCallTo}}
 
 -- ---- over any limit
 

@@ -1,22 +1,9 @@
 -- A time below a sum, less what was added to, lies within 0 and what was added: no f32 lies between a sum and its rounding. Assumes nothing.
-use mathlib.Core.Path.{_≡_, refl, sym, _∙_, subst}
-use mathlib.Core.Logic.{inl, inr}
-use mathlib.Core.Bool.{true, false}
-use Prim.Native.Nat.{ℕ, _+_, _-_, _*_, _≤_, _<_}
-use native.Mathlib.Nat.{mul-pos, mul-comm, mul-assoc, mul-left-comm, add-mul, mul-sub, le-of-lt}
-use native.Mathlib.Omega.{arith}
-use borrow.Author.Tests.{le-ltb, ltb-false}
-use lib.Dec.{T}
-use lib.IntN.{ℤ, pos}
-use lib.Ieee.{Float, nan, inf, fin, binary32, fits, up, down, round, sum, add, sub, neg, le, lt, ofBits}
-use lib.Ieee.Fits.{down-pos}
-use lib.Ieee.Order.{round-mono}
-use lib.Ieee.Positive.{above-of-le}
-use Rattle.relay_math.specs.F32.{_⊕_, _⊖_, 0·0, 1e-3, isFinite, unsigned, Within}
-use Rattle.laws.proofs.Tests.{no, le-or-lt}
-use Rattle.relay_math.proofs.Order.{le-trans, not-lt-of-le}
-use Rattle.relay_math.proofs.Signs.{of-rounded}
-use Rattle.relay_math.proofs.Sums.{round-zero, round-own, round-above}
+use Rattle.laws.proofs.Prelude.{_≡_, refl, sym, _∙_, subst, inl, inr, true, false, ℕ, _+_, _-_, _*_, _≤_, _<_, mul-pos, mul-comm, mul-assoc, add-mul, le-of-lt, arith, le-ltb, ltb-false, T, ℤ, pos}
+use Rattle.laws.proofs.Prelude.{Float, nan, inf, fin, binary32, fits, up, down, round, sum, add, sub, neg, le, lt, ofBits, no, le-or-lt}
+use native.Mathlib.Nat.{mul-left-comm, mul-sub}
+use lib.Ieee.{Fits.down-pos, Order.round-mono, Positive.above-of-le}
+use Rattle.relay_math.{specs.F32.{_⊕_, _⊖_, 0·0, 1e-3, isFinite, unsigned, Within}, proofs.{Order.{le-trans, not-lt-of-le}, Signs.of-rounded, Sums.{round-zero, round-own, round-above}}}
 use Rattle.relay_traj.specs.Quintic.{Lasts}
 
 -- ---- fractions: X / p ≤ N / q + L / r gives X / p - N / q ≤ L / r

@@ -1,19 +1,9 @@
 -- What a route tick is refused for, and what a route of the right form has. Assumes nothing.
-use mathlib.Core.Path.{_≡_, refl, sym, ap, _∙_}
-use mathlib.Core.Bool.{Bool, true, false, not, cond}
-use mathlib.Core.List.{List}
-use Prim.Native.Nat.{ℕ, _+_, _*_, _≤_, _<_}
-use native.Mathlib.Omega.{arith}
-use borrow.Author.Tests.{ltb-false, eqb-false, eq-eqb, not-true, not-false}
-use lib.ListN.{length}
-use Rattle.outcome.specs.declared.Outcome.{Outcome}
-use Rattle.outcome.specs.declared.Outcome.the-variants.{Done, BrokenImage}
-use Rattle.outcome.specs.Outcomes.{isDone, left, lent}
-use Rattle.outcome.proofs.Tables.{done-none, in-turn, same, refused-keeps}
+use Rattle.laws.proofs.Prelude.{_≡_, refl, sym, ap, _∙_, Bool, true, false, not, cond, List, ℕ, _+_, _*_, _≤_, _<_, arith, ltb-false, eqb-false, eq-eqb, not-true, not-false, length}
+use Rattle.outcome.{specs.{declared.Outcome.{Outcome, the-variants.{Done, BrokenImage}}, Outcomes.{isDone, left, lent}}, proofs.Tables.{done-none, in-turn, same, refused-keeps}}
 use Rattle.image.specs.Layout.{IMAGE-BYTES, INPUT-BYTES, ANSWER-BYTES}
 use Rattle.calls.specs.Entry.{intact, tickTable, tickRefusal, tickFrom}
-use Rattle.route.specs.Form.{LEG-BYTES, TRAILER-BYTES, countOf, formTable, formRefusal}
-use Rattle.route.specs.Entry.{routeRefusal, routeCall}
+use Rattle.route.specs.{Form.{LEG-BYTES, TRAILER-BYTES, countOf, formTable, formRefusal}, Entry.{routeRefusal, routeCall}}
 
 -- a tick's rows, then the route's own
 pub in-their-turn : (image : List ℕ) (inputLen answerLen : ℕ) (route : List ℕ)

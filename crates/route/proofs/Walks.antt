@@ -1,15 +1,8 @@
 -- One turn of each walk over a route's legs. Assumes nothing.
-use mathlib.Core.Path.{_≡_}
-use mathlib.Core.Bool.{Bool, true, false, _&&_}
-use mathlib.Core.List.{List}
-use Prim.Native.Nat.{ℕ, suc, _+_, _-_, _<_, _≤_}
-use native.Mathlib.Numerals.{add-one}
-use native.Mathlib.Omega.{arith}
-use lib.Ieee.{Float, eq, lt}
+use Rattle.laws.proofs.Prelude.{_≡_, Bool, true, false, _&&_, List, ℕ, suc, _+_, _-_, _<_, _≤_, add-one, arith, Float, eq, lt}
 use Rattle.words.specs.Words.{word, float, floatOf}
 use Rattle.relay_math.specs.F32.{_⊕_, _⊖_}
-use Rattle.route.specs.Form.{legOf, legsMeet, meetFrom}
-use Rattle.route.specs.Legs.{durationOf, flownFrom}
+use Rattle.route.specs.{Form.{legOf, legsMeet, meetFrom}, Legs.{durationOf, flownFrom}}
 
 -- ---- three tests one after another
 

@@ -1,19 +1,9 @@
 -- The user's third demand on bytes, over every run. Assumes nothing.
-use mathlib.Core.Path.{_≡_, subst}
-use mathlib.Core.Logic.{_↔_}
-use mathlib.Core.List.{List, [], _∷_, _++_, map}
-use Prim.Native.Nat.{ℕ, zero, suc, _<_, suc-le-suc}
-use native.Mathlib.Nat.{le-of-suc-le-suc, zero-lt-suc}
-use native.Mathlib.Omega.{arith}
-use lib.Ieee.{Float, nan}
-use lib.ListN.{length, getD, take}
-use Rattle.latch.specs.Latch.{Flies, FliesAt}
-use Rattle.latch.proofs.LatchFlies.{latch-flies, flag-flies, flag-flies-at}
+use Rattle.laws.proofs.Prelude.{_≡_, subst, _↔_, List, [], _∷_, _++_, map, ℕ, zero, suc, _<_, suc-le-suc, le-of-suc-le-suc, zero-lt-suc, arith, Float, nan, length, getD, take}
+use Rattle.latch.{specs.Latch.{Flies, FliesAt}, proofs.LatchFlies.{latch-flies, flag-flies, flag-flies-at}}
 use Rattle.calls.specs.Ticks.{Accepted}
-use Rattle.runs.specs.Runs.{Tick, Call, Ticks, leftBy, guided, marginsOf, start, imageAfter, marginsAlong, Right, AllRight, tickAt, imageAt}
-use Rattle.runs.specs.DemandThree.{enterOf, exitOf, Shows}
-use Rattle.runs.proofs.Shown.{tick-done, shows}
-use Rattle.runs.proofs.Going.{call-steps, start-accepted, thresholds-in-order, ran, latched-along}
+use Rattle.runs.specs.{Runs.{Tick, Call, Ticks, leftBy, guided, marginsOf, start, imageAfter, marginsAlong, Right, AllRight, tickAt, imageAt}, DemandThree.{enterOf, exitOf, Shows}}
+use Rattle.runs.proofs.{Shown.{tick-done, shows}, Going.{call-steps, start-accepted, thresholds-in-order, ran, latched-along}}
 
 -- "Take any run of accepted ticks from set-up, the image handed back each time as the last tick left it, with margins as document 01 works them
 -- out. The planner's command is passed on at a tick exactly if some tick, this one or an earlier one, had a finite margin above the upper

@@ -1,35 +1,17 @@
 -- Request Seven on bytes: runs in which the segment is exchanged. Assumes nothing.
-use mathlib.Core.Path.{_≡_, refl, sym, ap, _∙_, subst}
-use mathlib.Core.Bool.{not}
-use mathlib.Core.List.{List, [], _∷_, _++_, map}
-use Prim.Native.Nat.{ℕ, _+_}
-use lib.Dec.{T}
-use lib.Ieee.{le, isNan, ofBits, toBits}
-use lib.ListN.{length}
-use Rattle.words.specs.Words.{word, float, bits, flag}
-use Rattle.words.proofs.Back.{bits-back}
+use Rattle.laws.proofs.Prelude.{_≡_, refl, sym, ap, _∙_, subst, not, List, [], _∷_, _++_, map, ℕ, _+_, T, le, isNan, ofBits, toBits, length}
+use Rattle.words.{specs.Words.{word, float, bits, flag}, proofs.Back.bits-back}
 use Rattle.latch.specs.Latch.{after}
 use Rattle.relay_math.specs.F32.{0·0}
 use Rattle.relay_geo.specs.declared.shield.SimplexShield.{SimplexShield}
 use Rattle.relay_traj.proofs.Clock.{starts-at-zero}
 use Rattle.joint_tick.specs.SetUp.{segmentOf, exchange}
-use Rattle.outcome.specs.declared.Outcome.the-variants.{Done}
-use Rattle.outcome.specs.Outcomes.{isDone, left, Filled}
-use Rattle.outcome.proofs.Tables.{done-none}
-use Rattle.image.specs.Layout.{ENGAGED, GOVERNOR, SEGMENT, PEAKS, LEG-BYTES, INPUT-BYTES, ANSWER-BYTES}
-use Rattle.image.specs.Parts.{segmentAt, legAt}
-use Rattle.image.specs.Image.{stateAt, imageOf, peaksOf}
+use Rattle.outcome.{specs.{declared.Outcome.the-variants.Done, Outcomes.{isDone, left, Filled}}, proofs.Tables.done-none}
+use Rattle.image.specs.{Layout.{ENGAGED, GOVERNOR, SEGMENT, PEAKS, LEG-BYTES, INPUT-BYTES, ANSWER-BYTES}, Parts.{segmentAt, legAt}, Image.{stateAt, imageOf, peaksOf}}
 use Rattle.image.proofs.Decoded.{image-is, segment-written, state-fits}
-use Rattle.calls.specs.Entry.{tickTable, exchangeRefusal, tickRefusal, exchangeCall}
-use Rattle.calls.specs.Ticks.{Accepted}
-use Rattle.calls.proofs.Going.{exchange-fits, flag-of-image, peaks-of-image}
-use Rattle.calls.proofs.Steps.{exchange-steps}
-use Rattle.runs.specs.Runs.{Tick, Call, Ticks, Exchanges, tickOf, leftBy, guided, start, imageAfter, Right}
-use Rattle.runs.specs.DemandThree.{enterOf, exitOf, flagOf, InBand}
-use Rattle.runs.specs.Kept.{Untouched, SameWords}
-use Rattle.runs.proofs.Going.{call-steps, ran}
-use Rattle.runs.proofs.Middle.{in-band-as-before, flag-kept}
-use Rattle.runs.proofs.Kept.{clock-over-any-run, exchange-same}
+use Rattle.calls.{specs.{Entry.{tickTable, exchangeRefusal, tickRefusal, exchangeCall}, Ticks.Accepted}, proofs.{Going.{exchange-fits, flag-of-image, peaks-of-image}, Steps.exchange-steps}}
+use Rattle.runs.specs.{Runs.{Tick, Call, Ticks, Exchanges, tickOf, leftBy, guided, start, imageAfter, Right}, DemandThree.{enterOf, exitOf, flagOf, InBand}, Kept.{Untouched, SameWords}}
+use Rattle.runs.proofs.{Going.{call-steps, ran}, Middle.{in-band-as-before, flag-kept}, Kept.{clock-over-any-run, exchange-same}}
 
 -- "They always equal the value worked out from the stored coefficients": after any run of set-up, ticks, route ticks and exchanges, by their bits.
 pub peaks-over-any-run : (setup : List ℕ) (calls : List Call)

@@ -1,29 +1,14 @@
 -- Any run from set-up, by one induction: each image is one that a tick takes, and its shield is set-up's, stepped by the margins. Assumes nothing.
-use mathlib.Core.Path.{_≡_, refl, sym, ap, _∙_, subst}
-use mathlib.Core.Bool.{Bool, true}
-use mathlib.Core.List.{List, [], _∷_, _++_}
-use Prim.Native.Nat.{ℕ}
-use lib.Ieee.{Float, lt}
-use lib.ListN.{length}
+use Rattle.laws.proofs.Prelude.{_≡_, refl, sym, ap, _∙_, subst, Bool, true, List, [], _∷_, _++_, ℕ, Float, lt, length}
 use Rattle.words.specs.Words.{float}
 use Rattle.latch.specs.Latch.{latch, after, engagedAfter}
-use Rattle.relay_geo.specs.declared.shield.SimplexShield.{SimplexShield}
-use Rattle.relay_geo.proofs.SetUp.{starts-engaged}
-use Rattle.joint_tick.specs.declared.state.State.{State}
-use Rattle.joint_tick.specs.SetUp.{setUp}
-use Rattle.joint_tick.proofs.Shielding.{tick-latch}
-use Rattle.outcome.specs.declared.Outcome.the-variants.{Done}
-use Rattle.outcome.specs.Outcomes.{left, Called}
-use Rattle.image.specs.Layout.{ENTER, EXIT, IMAGE-BYTES}
-use Rattle.image.specs.Image.{fixedAt, stateAt}
-use Rattle.image.specs.Inputs.{setupAt, inputAt}
-use Rattle.image.proofs.Decoded.{decode-encode}
-use Rattle.calls.specs.Entry.{setUpCall}
-use Rattle.calls.specs.Ticks.{SetsUp, Accepted, marginsIf, shieldOf, stepped, Steps}
-use Rattle.calls.proofs.Going.{set-up-fits, set-up-never-refused, in-order}
+use Rattle.relay_geo.{specs.declared.shield.SimplexShield.SimplexShield, proofs.SetUp.starts-engaged}
+use Rattle.joint_tick.{specs.{declared.state.State.State, SetUp.setUp}, proofs.Shielding.tick-latch}
+use Rattle.outcome.specs.{declared.Outcome.the-variants.Done, Outcomes.{left, Called}}
+use Rattle.image.{specs.{Layout.{ENTER, EXIT, IMAGE-BYTES}, Image.{fixedAt, stateAt}, Inputs.{setupAt, inputAt}}, proofs.Decoded.decode-encode}
+use Rattle.calls.{specs.{Entry.setUpCall, Ticks.{SetsUp, Accepted, marginsIf, shieldOf, stepped, Steps}}, proofs.Going.{set-up-fits, set-up-never-refused, in-order}}
 use Rattle.calls.proofs.Steps.{tick-steps, exchange-steps}
-use Rattle.runs.specs.Runs.{Tick, Call, Ticks, Exchanges, leftBy, sourceOn, guided, marginsOf, start, imageAfter, marginsAlong}
-use Rattle.runs.specs.DemandThree.{enterOf, exitOf}
+use Rattle.runs.specs.{Runs.{Tick, Call, Ticks, Exchanges, leftBy, sourceOn, guided, marginsOf, start, imageAfter, marginsAlong}, DemandThree.{enterOf, exitOf}}
 use Rattle.runs.proofs.Shown.{refusalOn, flying-is, done}
 
 -- ---- what each call does: another kind of call is a case more

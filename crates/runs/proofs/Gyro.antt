@@ -1,43 +1,18 @@
 -- Request Twelve on bytes: what is refused with 11, what stays of images that were set up before, and that what set-up takes is filtered. Assumes nothing.
-use mathlib.Core.Path.{_≡_, refl, sym, ap, _∙_, subst}
-use mathlib.Core.Bool.{Bool, true, false, not, _&&_, cond}
-use mathlib.Core.List.{List, [], _∷_, _++_}
-use Prim.Native.Nat.{ℕ, _+_, _<_}
-use lib.Dec.{lit<}
-use lib.Ieee.{lt, ofBits}
-use lib.ListN.{length}
+use Rattle.laws.proofs.Prelude.{_≡_, refl, sym, ap, _∙_, subst, Bool, true, false, not, _&&_, cond, List, [], _∷_, _++_, ℕ, _+_, _<_, lit<, lt, ofBits, length, no}
 use Rattle.words.specs.Words.{word, float, floatOf}
-use Rattle.laws.proofs.Tests.{no}
 use Rattle.latch.specs.Latch.{Flies}
 use Rattle.relay_math.specs.F32.{0·0}
-use Rattle.relay_adrc.specs.declared.biquad.Biquad.{Biquad}
-use Rattle.relay_adrc.specs.Biquad.{filterAt, lowpass, gyroNew}
-use Rattle.relay_adrc.proofs.Lowpass.{filters}
-use Rattle.joint_tick.specs.declared.state.State.{State}
-use Rattle.joint_tick.specs.Profile.{isProfile}
-use Rattle.joint_tick.specs.SetUp.{setUp}
-use Rattle.outcome.specs.declared.Outcome.{Outcome}
-use Rattle.outcome.specs.declared.Outcome.the-variants.{Done, BadProfile, PassThrough}
-use Rattle.outcome.specs.Outcomes.{isDone, Table, left, leftUnless, Filled}
+use Rattle.relay_adrc.{specs.{declared.biquad.Biquad.Biquad, Biquad.{filterAt, lowpass, gyroNew}}, proofs.Lowpass.filters}
+use Rattle.joint_tick.specs.{declared.state.State.State, Profile.isProfile, SetUp.setUp}
+use Rattle.outcome.specs.{declared.Outcome.{Outcome, the-variants.{Done, BadProfile, PassThrough}}, Outcomes.{isDone, Table, left, leftUnless, Filled}}
 use Rattle.outcome.proofs.Tables.{done-none, never-given, in-turn, either}
-use Rattle.image.specs.Layout.{IMAGE-BYTES, SETUP-PROFILE, SETUP-BYTES}
-use Rattle.image.specs.Parts.{biquadAt, lpfAt}
-use Rattle.image.specs.Image.{movingAt, stateAt}
-use Rattle.image.specs.Inputs.{setupAt}
-use Rattle.image.proofs.Decoded.{decode-encode}
-use Rattle.calls.specs.Entry.{setUpTable, exchangeTable, tickTable, setUpRefusal, exchangeRefusal, tickRefusal, setUpCall}
-use Rattle.calls.specs.Ticks.{SetsUp, Accepted}
-use Rattle.calls.proofs.Going.{set-up-fits}
-use Rattle.route.specs.Form.{formTable}
-use Rattle.route.specs.Entry.{routeRefusal}
-use Rattle.runs.specs.Runs.{Tick, Call, guided, start, imageAfter, marginsAlong, Right}
-use Rattle.runs.specs.DemandThree.{enterOf, exitOf, Shows}
-use Rattle.runs.specs.Kept.{RollFilter, PitchFilter, YawFilter, Lasts}
+use Rattle.image.{specs.{Layout.{IMAGE-BYTES, SETUP-PROFILE, SETUP-BYTES}, Parts.{biquadAt, lpfAt}, Image.{movingAt, stateAt}, Inputs.setupAt}, proofs.Decoded.decode-encode}
+use Rattle.calls.{specs.{Entry.{setUpTable, exchangeTable, tickTable, setUpRefusal, exchangeRefusal, tickRefusal, setUpCall}, Ticks.{SetsUp, Accepted}}, proofs.Going.set-up-fits}
+use Rattle.route.specs.{Form.formTable, Entry.routeRefusal}
+use Rattle.runs.specs.{Runs.{Tick, Call, guided, start, imageAfter, marginsAlong, Right}, DemandThree.{enterOf, exitOf, Shows}, Kept.{RollFilter, PitchFilter, YawFilter, Lasts}}
 use Rattle.runs.specs.Gyro.{unfiltered, tableBefore, refusalBefore, setUpBefore, Filter, Roll, Pitch, Yaw, Passes}
-use Rattle.runs.proofs.Going.{start-accepted}
-use Rattle.runs.proofs.DemandThree.{demand-three}
-use Rattle.runs.proofs.Kept.{words-kept-over-any-run, all-keep-lasting}
-use Rattle.runs.proofs.LostRotor.{ten-exactly}
+use Rattle.runs.proofs.{Going.start-accepted, DemandThree.demand-three, Kept.{words-kept-over-any-run, all-keep-lasting}, LostRotor.ten-exactly}
 
 -- ---- what is refused
 

@@ -1,55 +1,25 @@
 -- What calls keep: ticks of both kinds the clock, which never goes back, and ticks and exchanges the words that they do not write anew. Assumes nothing.
-use mathlib.Core.Path.{_≡_, refl, sym, ap, _∙_, subst}
-use mathlib.Core.Bool.{Bool, true, false, not}
-use mathlib.Core.List.{List, [], _∷_, _++_, map}
-use Prim.Native.Nat.{ℕ, zero, suc, _+_, _<_}
-use native.Mathlib.Nat.{add-zero}
-use native.Mathlib.Omega.{arith}
-use lib.Dec.{T, eqb, lit<}
-use lib.ListN.{length, getD, take, drop}
-use lib.Seq.{getD-take, getD-drop}
-use lib.Ieee.{Float, binary32, le, isNan, ofBits, toBits}
+use Rattle.laws.proofs.Prelude.{_≡_, refl, sym, ap, _∙_, subst, Bool, true, false, not, List, [], _∷_, _++_, map, ℕ, zero, suc, _+_, _<_, add-zero, arith, T, eqb, lit<, length, getD, take, drop}
+use Rattle.laws.proofs.Prelude.{getD-take, getD-drop, Float, binary32, le, isNan, ofBits, toBits, no}
 use lib.Ieee.Bits.{ofBits-fits, ofBits-toBits}
-use Rattle.laws.proofs.Tests.{no}
-use Rattle.words.specs.Words.{word, float, vec, canon, flag, floatsOfVec, wordsOf, canons}
-use Rattle.words.proofs.Back.{word-back, bits-lt}
+use Rattle.words.{specs.Words.{word, float, vec, canon, flag, floatsOfVec, wordsOf, canons}, proofs.Back.{word-back, bits-lt}}
 use Rattle.relay_math.proofs.Order.{le-trans, le-refl-of}
-use Rattle.relay_traj.specs.Governor.{advance}
-use Rattle.relay_traj.proofs.Clock.{never-nan}
-use Rattle.relay_adrc.specs.declared.gains.AdrcGains.{AdrcGains}
-use Rattle.relay_adrc.specs.declared.axis.AdrcAxis.{AdrcAxis}
-use Rattle.relay_adrc.specs.Axis.{axisTick}
-use Rattle.relay_adrc.specs.Biquad.{biquadFilter, gyroFilter}
-use Rattle.joint_tick.specs.declared.profile.Profile.{Profile}
-use Rattle.joint_tick.specs.declared.profile.Profile.the-variants.{Whole, LostRotor}
-use Rattle.joint_tick.specs.declared.state.Leg.{Leg}
-use Rattle.joint_tick.specs.declared.state.State.{State}
-use Rattle.joint_tick.specs.declared.state.TickInput.{TickInput}
-use Rattle.joint_tick.specs.declared.stages.Reference.{Reference}
-use Rattle.joint_tick.specs.Profile.{profileWord, isProfile}
-use Rattle.joint_tick.specs.SetUp.{setUp, exchange}
-use Rattle.joint_tick.specs.Tick.{prepare, follow, pick, finish, ticked, stateAfter}
-use Rattle.joint_tick.proofs.Kept.{tick-keeps as gains-kept}
+use Rattle.relay_traj.{specs.Governor.advance, proofs.Clock.never-nan}
+use Rattle.relay_adrc.specs.{declared.{gains.AdrcGains.AdrcGains, axis.AdrcAxis.AdrcAxis}, Axis.axisTick, Biquad.{biquadFilter, gyroFilter}}
+use Rattle.joint_tick.specs.declared.{profile.Profile.{Profile, the-variants.{Whole, LostRotor}}, state.{Leg.Leg, State.State, TickInput.TickInput}, stages.Reference.Reference}
+use Rattle.joint_tick.{specs.{Profile.{profileWord, isProfile}, SetUp.{setUp, exchange}, Tick.{prepare, follow, pick, finish, ticked, stateAfter}}, proofs.Kept.tick-keeps as gains-kept}
 use Rattle.joint_tick.proofs.LostRotor.{third-stands}
 use Rattle.image.specs.Layout.{GOVERNOR, SEGMENT, RATE, AXIS-WORDS, PROFILE, PEAKS, SETUP-PROFILE}
 use Rattle.image.specs.Parts.{gainsAt, setAt, governorAt, quinticAt, segmentAt, adrcGainsAt, axisAt, rateAt, biquadAt, lpfAt, legAt, profileAt, floatsOfAdrcGains, floatsOfAxis}
-use Rattle.image.specs.Image.{fixedAt, movingAt, stateAt, wordsOfState, imageOf, peaksOf}
-use Rattle.image.specs.Inputs.{setupAt, inputAt}
-use Rattle.image.proofs.Decoded.{profile-written, decode-encode}
-use Rattle.image.proofs.Fitting.{peaks-fit}
-use Rattle.outcome.specs.Outcomes.{number, isDone, Filled, Called}
-use Rattle.outcome.proofs.Tables.{done-none, either}
-use Rattle.calls.specs.Entry.{tickTable, exchangeRefusal, tickRefusal, exchangeCall, tickFrom}
-use Rattle.calls.specs.Ticks.{Accepted}
-use Rattle.calls.proofs.Flown.{profile-of-word}
-use Rattle.calls.proofs.Going.{set-up-fits, count-of-image, flag-of-image, profile-of-image, peaks-of-image}
-use Rattle.calls.proofs.Steps.{image-runs, tick-clock}
-use Rattle.route.specs.Form.{formTable}
-use Rattle.route.specs.Entry.{routeRefusal}
+use Rattle.image.{specs.{Image.{fixedAt, movingAt, stateAt, wordsOfState, imageOf, peaksOf}, Inputs.{setupAt, inputAt}}, proofs.{Decoded.{profile-written, decode-encode}, Fitting.peaks-fit}}
+use Rattle.outcome.{specs.Outcomes.{number, isDone, Filled, Called}, proofs.Tables.{done-none, either}}
+use Rattle.calls.{specs.{Entry.{tickTable, exchangeRefusal, tickRefusal, exchangeCall, tickFrom}, Ticks.Accepted}, proofs.Flown.profile-of-word}
+use Rattle.calls.proofs.{Going.{set-up-fits, count-of-image, flag-of-image, profile-of-image, peaks-of-image}, Steps.{image-runs, tick-clock}}
+use Rattle.route.specs.{Form.formTable, Entry.routeRefusal}
 use Rattle.runs.specs.Runs.{Course, Segment, Route, Tick, Call, Ticks, Exchanges, tickOf, leftBy, sourceOn, start, imageAfter}
-use Rattle.runs.specs.Kept.{Lasting, Front, Band, RollGains, PitchGains, YawGains, RollFilter, PitchFilter, YawFilter, ProfileWord, Kept, Lasts, SegmentWords, Peaks, Untouched, Stays, Flag, AdrcAndFilters, SameWords, KeptBy, AllKeep}
-use Rattle.runs.proofs.Shown.{refusalOn, flying-is}
-use Rattle.runs.proofs.Going.{call-steps, start-accepted}
+use Rattle.runs.specs.Kept.{Lasting, Front, Band, RollGains, PitchGains, YawGains, RollFilter, PitchFilter, YawFilter, ProfileWord, Kept, Lasts, SegmentWords, Peaks, Untouched, Stays, Flag}
+use Rattle.runs.specs.Kept.{AdrcAndFilters, SameWords, KeptBy, AllKeep}
+use Rattle.runs.proofs.{Shown.{refusalOn, flying-is}, Going.{call-steps, start-accepted}}
 
 one : (image : List ℕ) (t : Tick) → Accepted image → T (le (float image GOVERNOR) (float (leftBy image (Ticks t)) GOVERNOR))
 unfolding leftBy

@@ -1,45 +1,17 @@
 -- Request Six on bytes: ticks of either kind on an image whose profile's word is 1, and what is refused. Assumes nothing.
-use mathlib.Core.Path.{_≡_, refl, sym, ap, _∙_}
-use mathlib.Core.Bool.{Bool, true, false, not, _&&_, cond}
-use mathlib.Core.List.{List}
-use Prim.Native.Nat.{ℕ, _+_}
-use lib.Dec.{eqb}
-use lib.Ieee.{Float, ofBits, toBits}
+use Rattle.laws.proofs.Prelude.{_≡_, refl, sym, ap, _∙_, Bool, true, false, not, _&&_, cond, List, ℕ, _+_, eqb, Float, ofBits, toBits, length}
 use lib.Ieee.Bits.{ofBits-fits}
-use lib.ListN.{length}
 use Rattle.words.specs.Words.{word, float, vec, flag, bits}
 use Rattle.relay_math.specs.F32.{0·0}
 use Rattle.relay_adrc.specs.Biquad.{passesThrough}
-use Rattle.joint_tick.specs.declared.state.State.{State}
-use Rattle.joint_tick.specs.declared.state.TickInput.{TickInput}
-use Rattle.joint_tick.specs.declared.stages.Ticked.{Ticked}
-use Rattle.joint_tick.specs.Profile.{isProfile}
-use Rattle.joint_tick.specs.SetUp.{setUp}
-use Rattle.joint_tick.specs.Tick.{referenceAt, ticked, stateAfter}
+use Rattle.joint_tick.specs.{declared.{state.{State.State, TickInput.TickInput}, stages.Ticked.Ticked}, Profile.isProfile, SetUp.setUp, Tick.{referenceAt, ticked, stateAfter}}
 use Rattle.joint_tick.proofs.LostRotor.{headed, heading-unread, third-stands, third-command-zero}
-use Rattle.outcome.specs.declared.Outcome.{Outcome}
-use Rattle.outcome.specs.declared.Outcome.the-variants.{Done, ImageLength, BrokenImage, BadProfile, PassThrough}
-use Rattle.outcome.specs.Outcomes.{leftUnless, lent, Called}
-use Rattle.image.specs.Layout.{COUNT, PROFILE, IMAGE-WORDS, IMAGE-BYTES, SETUP-FC, SETUP-FS, SETUP-PROFILE, SETUP-BYTES, YAW, YAW-RATE, INPUT-BYTES, TORQUE, COMMAND, ANSWER-BYTES}
-use Rattle.image.specs.Parts.{quatAt}
-use Rattle.image.specs.Image.{stateAt, imageOf}
-use Rattle.image.specs.Inputs.{setupAt, inputAt, answerOf}
-use Rattle.image.specs.Fits.{F32}
-use Rattle.image.proofs.Decoded.{decode-encode}
-use Rattle.image.proofs.Answered.{third-torque-word, command-words}
-use Rattle.image.proofs.AnswerFits.{command-fits}
-use Rattle.calls.specs.Entry.{intact, setUpRefusal, tickRefusal, tickFrom}
-use Rattle.calls.specs.Ticks.{Accepted}
-use Rattle.calls.specs.Shams.{levelSetUpBy, headedInput}
-use Rattle.calls.proofs.Going.{set-up-fits}
-use Rattle.calls.proofs.Level.{planner-first-lost}
-use Rattle.runs.specs.Runs.{Course, Tick, flying, tickOf, sourceOn, start, Right}
-use Rattle.runs.specs.DemandThree.{flagOf}
-use Rattle.runs.specs.Shams.{plain}
-use Rattle.runs.specs.LostRotor.{ButHeading}
-use Rattle.runs.proofs.Shown.{refusalOn, flying-is, done, tick-done, flag-shown}
-use Rattle.runs.proofs.Going.{start-accepted}
-use Rattle.runs.proofs.Kept.{lost}
+use Rattle.outcome.specs.{declared.Outcome.{Outcome, the-variants.{Done, ImageLength, BrokenImage, BadProfile, PassThrough}}, Outcomes.{leftUnless, lent, Called}}
+use Rattle.image.specs.{Layout.{COUNT, PROFILE, IMAGE-WORDS, IMAGE-BYTES, SETUP-FC, SETUP-FS, SETUP-PROFILE, SETUP-BYTES, YAW, YAW-RATE, INPUT-BYTES, TORQUE, COMMAND, ANSWER-BYTES}, Parts.quatAt}
+use Rattle.image.{specs.{Image.{stateAt, imageOf}, Inputs.{setupAt, inputAt, answerOf}, Fits.F32}, proofs.{Decoded.decode-encode, Answered.{third-torque-word, command-words}, AnswerFits.command-fits}}
+use Rattle.calls.{specs.{Entry.{intact, setUpRefusal, tickRefusal, tickFrom}, Ticks.Accepted, Shams.{levelSetUpBy, headedInput}}, proofs.{Going.set-up-fits, Level.planner-first-lost}}
+use Rattle.runs.specs.{Runs.{Course, Tick, flying, tickOf, sourceOn, start, Right}, DemandThree.flagOf, Shams.plain, LostRotor.ButHeading}
+use Rattle.runs.proofs.{Shown.{refusalOn, flying-is, done, tick-done, flag-shown}, Going.start-accepted, Kept.lost}
 
 -- ---- "yaw isn't read"
 

@@ -1,24 +1,13 @@
 -- What the third demand says of single ticks of a run: between the thresholds nothing changes hands. Assumes nothing.
-use mathlib.Core.Path.{_≡_, refl, sym, ap, _∙_, subst}
-use mathlib.Core.Bool.{Bool, true, false}
-use mathlib.Core.List.{List, [], _∷_, _++_}
-use Prim.Native.Nat.{ℕ}
-use lib.Ieee.{Float}
+use Rattle.laws.proofs.Prelude.{_≡_, refl, sym, ap, _∙_, subst, Bool, true, false, List, [], _∷_, _++_, ℕ, Float}
 use Rattle.words.specs.Words.{word, flag}
 use Rattle.latch.specs.Latch.{releases, engages, latch}
 use Rattle.relay_geo.proofs.Steps.{released-only-above-exit, above-exit-releases, engaged-by, released-stays-in-band, engaged-stays-in-band}
-use Rattle.joint_tick.specs.Tick.{stateAfter}
-use Rattle.joint_tick.proofs.Shielding.{tick-keeps-flag}
-use Rattle.image.specs.Layout.{ENGAGED}
-use Rattle.image.specs.Image.{stateAt}
-use Rattle.image.specs.Inputs.{inputAt}
-use Rattle.image.proofs.Decoded.{engaged-written}
-use Rattle.calls.specs.Ticks.{shieldOf}
-use Rattle.calls.proofs.Going.{flag-of-image}
-use Rattle.runs.specs.Runs.{Tick, Call, Ticks, tickOf, leftBy, sourceOn, guided, start, imageAfter, Right}
-use Rattle.runs.specs.DemandThree.{enterOf, exitOf, flagOf, InBand}
-use Rattle.runs.proofs.Shown.{flag-zero, flag-one, tick-done, flag-shown}
-use Rattle.runs.proofs.Going.{start-accepted, start-engaged, thresholds-in-order, ran, latched}
+use Rattle.joint_tick.{specs.Tick.stateAfter, proofs.Shielding.tick-keeps-flag}
+use Rattle.image.{specs.{Layout.ENGAGED, Image.stateAt, Inputs.inputAt}, proofs.Decoded.engaged-written}
+use Rattle.calls.{specs.Ticks.shieldOf, proofs.Going.flag-of-image}
+use Rattle.runs.specs.{Runs.{Tick, Call, Ticks, tickOf, leftBy, sourceOn, guided, start, imageAfter, Right}, DemandThree.{enterOf, exitOf, flagOf, InBand}}
+use Rattle.runs.proofs.{Shown.{flag-zero, flag-one, tick-done, flag-shown}, Going.{start-accepted, start-engaged, thresholds-in-order, ran, latched}}
 
 in-band : (enter exit m : Float) → InBand enter exit m → (b : Bool) → latch enter exit b m ≡ b
 in-band enter exit m i true = engaged-stays-in-band enter exit m (i .not-above)

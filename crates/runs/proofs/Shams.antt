@@ -1,31 +1,16 @@
 -- Two sham builds fall to demand 3 alone: a program whose outcomes and images are the promised ones, and of whose answers no more is known than what
 -- demand 3 says of the flag, neither gives one constant answer nor echoes its first tick. The run is that of crate `calls`, proofs/Shams.antt. Assumes nothing.
-use mathlib.Core.Path.{_≡_, refl, sym, ap, _∙_, subst}
-use mathlib.Core.Logic.{_↔_}
-use mathlib.Core.List.{List, [], _∷_, _++_}
-use Prim.Native.Nat.{ℕ, zero, suc}
+use Rattle.laws.proofs.Prelude.{_≡_, refl, sym, ap, _∙_, subst, _↔_, List, [], _∷_, _++_, ℕ, zero, suc, nan, ofBits, length, replicate}
 use native.Mathlib.Nat.{suc-ne-zero}
-use lib.Ieee.{nan, ofBits}
-use lib.ListN.{length, replicate}
 use Rattle.words.specs.Words.{word, float, flag}
 use Rattle.latch.specs.Latch.{Flies}
-use Rattle.joint_tick.specs.declared.profile.Profile.the-variants.{Whole}
-use Rattle.joint_tick.proofs.NoAttitude.{nan-heading-tick}
+use Rattle.joint_tick.{specs.declared.profile.Profile.the-variants.Whole, proofs.NoAttitude.nan-heading-tick}
 use Rattle.outcome.specs.Outcomes.{Filled, Called}
-use Rattle.image.specs.Layout.{SETUP-PROFILE, FLAG, INPUT-BYTES}
-use Rattle.image.specs.Parts.{profileAt}
-use Rattle.image.specs.Image.{fixedAt, stateAt}
-use Rattle.image.specs.Inputs.{inputAt}
-use Rattle.calls.specs.Entry.{onSegment}
-use Rattle.calls.specs.Shams.{Program, Keeps, AnswersOnly, EchoesAfter, blankAnswer, blankImage, ran, answered, levelSetUp, levelInput, lostInput}
+use Rattle.image.specs.{Layout.{SETUP-PROFILE, FLAG, INPUT-BYTES}, Parts.profileAt, Image.{fixedAt, stateAt}, Inputs.inputAt}
+use Rattle.calls.specs.{Entry.onSegment, Shams.{Program, Keeps, AnswersOnly, EchoesAfter, blankAnswer, blankImage, ran, answered, levelSetUp, levelInput, lostInput}}
 use Rattle.calls.proofs.Shams.{level-profile, level-sets-up, planner-flies}
-use Rattle.runs.specs.Runs.{Call, Ticks, flying, leftBy, guided, start, imageAfter, marginsAlong}
-use Rattle.runs.specs.DemandThree.{enterOf, exitOf, flagOf}
-use Rattle.runs.specs.Shams.{plain, KeepsDemandThree}
-use Rattle.runs.proofs.Shown.{tick-done, flag-shown}
-use Rattle.runs.proofs.Going.{set-up-starts, start-accepted, ran as taken}
-use Rattle.runs.proofs.DemandThree.{demand-three}
-use Rattle.runs.proofs.Kept.{profile-over-any-run}
+use Rattle.runs.specs.{Runs.{Call, Ticks, flying, leftBy, guided, start, imageAfter, marginsAlong}, DemandThree.{enterOf, exitOf, flagOf}, Shams.{plain, KeepsDemandThree}}
+use Rattle.runs.proofs.{Shown.{tick-done, flag-shown}, Going.{set-up-starts, start-accepted, ran as taken}, DemandThree.demand-three, Kept.profile-over-any-run}
 
 -- ---- the promised flags: the planner flies at the first tick, and after any calls the fallback does at a heading that is no number
 

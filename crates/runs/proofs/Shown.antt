@@ -1,40 +1,16 @@
 -- One tick of either kind on bytes: that it is accepted, and what its answer shows. Assumes nothing.
-use mathlib.Core.Path.{_≡_, refl, sym, ap, _∙_}
-use mathlib.Core.Logic.{_⊎_, inl, inr, _↔_}
-use mathlib.Core.Bool.{Bool, true, false, not, cond}
-use mathlib.Core.List.{List, [], _∷_}
-use Prim.Native.Nat.{ℕ, _<_}
-use native.Mathlib.Omega.{arith}
-use lib.Dec.{T, eqb}
-use lib.Ieee.{Float, nan, inf, fin, isNan, ofBits, toBits}
-use lib.ListN.{length}
-use Rattle.words.specs.Words.{word, vec, float, floatOf, bits, flag, floatsOfVec, wordsOf}
-use Rattle.words.proofs.Back.{canon-itself}
-use Rattle.relay_math.specs.F32.{0·0, isFinite, finiteOr}
-use Rattle.laws.proofs.Tests.{no}
-use Rattle.relay_math.specs.declared.Vec3.{Vec3}
+use Rattle.laws.proofs.Prelude.{_≡_, refl, sym, ap, _∙_, _⊎_, inl, inr, _↔_, Bool, true, false, not, cond, List, [], _∷_, ℕ, _<_, arith, T, eqb, Float, nan, inf, fin, isNan, ofBits, toBits, length}
+use Rattle.laws.proofs.Prelude.{no}
+use Rattle.words.{specs.Words.{word, vec, float, floatOf, bits, flag, floatsOfVec, wordsOf}, proofs.Back.canon-itself}
+use Rattle.relay_math.specs.{F32.{0·0, isFinite, finiteOr}, declared.Vec3.Vec3}
 use Rattle.relay_geo.specs.Vectors.{sanitise3}
-use Rattle.joint_tick.specs.declared.profile.Profile.the-variants.{Whole, LostRotor}
-use Rattle.joint_tick.specs.declared.state.TickInput.{TickInput}
-use Rattle.joint_tick.specs.declared.state.State.{State}
-use Rattle.joint_tick.specs.declared.stages.Reference.{Reference}
-use Rattle.joint_tick.specs.declared.stages.Ticked.{Ticked}
-use Rattle.joint_tick.specs.Tick.{plannerOf, guidance, ticked, stateAfter}
-use Rattle.joint_tick.proofs.Shielding.{tick-margin, tick-planner, tick-fallback, planner-is}
-use Rattle.image.specs.Layout.{PROFILE, FLAG, MARGIN, INPUT-BYTES, ANSWER-BYTES}
-use Rattle.image.specs.Parts.{profileAt}
-use Rattle.image.specs.Image.{fixedAt, stateAt, imageOf}
-use Rattle.image.specs.Inputs.{inputAt, answerOf}
-use Rattle.image.specs.Fits.{F32}
-use Rattle.image.proofs.Answered.{flag-answered, margin-answered, margin-word, command-words}
-use Rattle.image.proofs.AnswerFits.{margin-fits, command-fits}
-use Rattle.outcome.specs.declared.Outcome.{Outcome}
-use Rattle.outcome.specs.declared.Outcome.the-variants.{Done}
-use Rattle.outcome.specs.Outcomes.{left, lent}
-use Rattle.calls.specs.Entry.{tickRefusal, tickFrom, tickCall}
-use Rattle.calls.specs.Ticks.{Accepted}
-use Rattle.route.specs.Entry.{routeRefusal, routeCall}
-use Rattle.route.proofs.Taken.{in-their-turn}
+use Rattle.joint_tick.specs.declared.{profile.Profile.the-variants.{Whole, LostRotor}, state.{TickInput.TickInput, State.State}, stages.{Reference.Reference, Ticked.Ticked}}
+use Rattle.joint_tick.{specs.Tick.{plannerOf, guidance, ticked, stateAfter}, proofs.Shielding.{tick-margin, tick-planner, tick-fallback, planner-is}}
+use Rattle.image.specs.{Layout.{PROFILE, FLAG, MARGIN, INPUT-BYTES, ANSWER-BYTES}, Parts.profileAt, Image.{fixedAt, stateAt, imageOf}, Inputs.{inputAt, answerOf}, Fits.F32}
+use Rattle.image.proofs.{Answered.{flag-answered, margin-answered, margin-word, command-words}, AnswerFits.{margin-fits, command-fits}}
+use Rattle.outcome.specs.{declared.Outcome.{Outcome, the-variants.Done}, Outcomes.{left, lent}}
+use Rattle.calls.specs.{Entry.{tickRefusal, tickFrom, tickCall}, Ticks.Accepted}
+use Rattle.route.{specs.Entry.{routeRefusal, routeCall}, proofs.Taken.in-their-turn}
 use Rattle.runs.specs.Runs.{Course, Segment, Route, Tick, flying, tickOf, sourceOn, guided, RightCourse, Right}
 use Rattle.runs.specs.DemandThree.{cleanWord, plannerWords, fallbackWords, commandWords, flagOf, Shows}
 

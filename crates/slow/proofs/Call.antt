@@ -1,29 +1,14 @@
 -- Request Nine on bytes: what the call writes, when it is refused, and that both flags occur. Assumes nothing.
-use Prim.Native.Nat.{ℕ, _*_, _<_, _≤_}
-use mathlib.Core.Path.{_≡_, refl, sym, ap, _∙_}
-use mathlib.Core.Logic.{_↔_}
-use mathlib.Core.Bool.{Bool, true, false}
-use mathlib.Core.List.{List, [], _∷_, map}
-use native.Mathlib.Omega.{arith}
-use borrow.Author.Tests.{eq-eqb, le-ltb}
-use lib.Dec.{T}
-use lib.Ieee.{Float, binary32, fits, lt, mul, ofBits}
-use lib.ListN.{length, getD, List·getD-map}
-use Rattle.laws.proofs.Tests.{both}
+use Rattle.laws.proofs.Prelude.{ℕ, _*_, _<_, _≤_, _≡_, refl, sym, ap, _∙_, _↔_, Bool, true, false, List, [], _∷_, map, arith, eq-eqb, le-ltb, T, Float, binary32, fits, lt, mul, ofBits, length, getD}
+use Rattle.laws.proofs.Prelude.{both}
+use lib.ListN.{List·getD-map}
 use Rattle.relay_math.specs.F32.{f32, 0·0, isFinite}
 use Rattle.words.specs.Words.{word, float, flag, bytesOf}
 use Rattle.latch.specs.Latch.{FliesAt}
-use Rattle.relay_geo.specs.declared.set.RecoverableSet.{RecoverableSet}
-use Rattle.relay_geo.specs.declared.shield.Thresholds.{Thresholds}
-use Rattle.relay_geo.specs.Shield.{mend, newShield}
-use Rattle.relay_geo.proofs.SetUp.{enter-finite-positive, enter-below-exit}
-use Rattle.outcome.specs.declared.Outcome.the-variants.{Done}
-use Rattle.outcome.specs.Outcomes.{left}
-use Rattle.slow.specs.Back.{lookBack, flagsTo, slowFlags}
-use Rattle.slow.specs.Entry.{MOST-MARGINS, marginsFrom, marginsOf, flagBytes, flagsCall}
-use Rattle.slow.specs.Stepping.{Given, marginsGiven, steppedFlags}
-use Rattle.slow.proofs.Slow.{slow-flies-at, slow-is-stepping}
-use Rattle.slow.proofs.Walk.{margins-length}
+use Rattle.relay_geo.{specs.{declared.{set.RecoverableSet.RecoverableSet, shield.Thresholds.Thresholds}, Shield.{mend, newShield}}, proofs.SetUp.{enter-finite-positive, enter-below-exit}}
+use Rattle.outcome.specs.{declared.Outcome.the-variants.Done, Outcomes.left}
+use Rattle.slow.specs.{Back.{lookBack, flagsTo, slowFlags}, Entry.{MOST-MARGINS, marginsFrom, marginsOf, flagBytes, flagsCall}, Stepping.{Given, marginsGiven, steppedFlags}}
+use Rattle.slow.proofs.{Slow.{slow-flies-at, slow-is-stepping}, Walk.margins-length}
 
 -- thresholds as set-up mends them are what looking back asks for
 pub mended : (enter exit : Float) {t : Thresholds} → T (fits binary32 enter) → t ≡ mend enter exit → (isFinite (t .enter) ≡ true) × (lt (t .enter) (t .exit) ≡ true)

@@ -1,24 +1,11 @@
 -- Request Nine: the flags of the slow shield are the user's rule and those of the shield that steps, on a list of any length. Assumes nothing.
-use Prim.Native.Nat.{ℕ, zero, suc, _<_}
-use mathlib.Core.Path.{_≡_, refl, sym, ap, _∙_, subst}
-use mathlib.Core.Logic.{_⊎_, inl, inr, _↔_}
-use mathlib.Core.Bool.{Bool, true, false, cond}
-use mathlib.Core.List.{List, [], _∷_}
-use native.Mathlib.Nat.{le-refl, le-of-suc-le-suc, eq-or-lt-of-le}
-use native.Mathlib.Omega.{arith}
-use lib.Dec.{T}
-use lib.Ieee.{Float, nan, binary32, fits, lt}
-use lib.ListN.{length, getD, length-append, List·getD-append}
+use Rattle.laws.proofs.Prelude.{ℕ, zero, suc, _<_, _≡_, refl, sym, ap, _∙_, subst, _⊎_, inl, inr, _↔_, Bool, true, false, cond, List, [], _∷_, le-of-suc-le-suc, eq-or-lt-of-le, arith, T, Float, nan}
+use Rattle.laws.proofs.Prelude.{binary32, fits, lt, length, getD, length-append, List·getD-append, no}
+use native.Mathlib.Nat.{le-refl}
 use lib.Seq.{getD-at, ext-getD}
-use Rattle.laws.proofs.Tests.{no}
-use Rattle.latch.specs.Latch.{releases, engages, latch, flagsFrom, flags, FliesAt}
-use Rattle.latch.proofs.LatchFlies.{flags-length, flag-flies-at}
-use Rattle.relay_geo.specs.declared.set.RecoverableSet.{RecoverableSet}
-use Rattle.relay_geo.specs.declared.shield.SimplexShield.{SimplexShield}
-use Rattle.relay_geo.specs.Shield.{mend, newShield, step}
-use Rattle.relay_geo.proofs.SetUp.{enter-below-exit}
-use Rattle.slow.specs.Back.{lookBack, flagsTo, slowFlags}
-use Rattle.slow.specs.Stepping.{Given, marginsGiven, steppedFlags}
+use Rattle.latch.{specs.Latch.{releases, engages, latch, flagsFrom, flags, FliesAt}, proofs.LatchFlies.{flags-length, flag-flies-at}}
+use Rattle.relay_geo.{specs.{declared.{set.RecoverableSet.RecoverableSet, shield.SimplexShield.SimplexShield}, Shield.{mend, newShield, step}}, proofs.SetUp.enter-below-exit}
+use Rattle.slow.specs.{Back.{lookBack, flagsTo, slowFlags}, Stepping.{Given, marginsGiven, steppedFlags}}
 
 -- ---- one margin looked at, as tests on plain Bools: r that it releases, g that it engages, b what the earlier ones say
 

@@ -1,24 +1,12 @@
 -- One turn of each of the slow shield's loops. Assumes nothing.
-use Prim.Native.Nat.{ℕ, zero, suc, _+_, _*_, _/_, _-_, _<_, _≤_}
-use mathlib.Core.Path.{_≡_, refl, sym, ap, subst, _∙_}
-use mathlib.Core.Bool.{Bool, true, false, not, _&&_, _||_, cond}
-use mathlib.Core.List.{List, [], _∷_, _++_, map, map-append}
-use native.Mathlib.Nat.{le-of-suc-le-suc}
-use native.Mathlib.Numerals.{add-one}
-use native.Mathlib.Omega.{arith}
-use lib.Ieee.{Float, nan, inf, fin, lt, le}
+use Rattle.laws.proofs.Prelude.{ℕ, zero, suc, _+_, _*_, _/_, _-_, _<_, _≤_, _≡_, refl, sym, ap, subst, _∙_, Bool, true, false, not, _&&_, _||_, cond, List, [], _∷_, _++_, map, map-append}
+use Rattle.laws.proofs.Prelude.{le-of-suc-le-suc, add-one, arith, Float, nan, inf, fin, lt, le, length, getD, set, length-map, sets, no, held, both}
 use lib.Ieee.Bits.{is-true}
-use lib.ListN.{length, getD, set, length-map}
-use lib.Seq.{sets}
-use Rattle.laws.proofs.Tests.{no, held, both}
-use Rattle.relay_math.specs.F32.{isFinite}
-use Rattle.relay_math.proofs.Order.{finite-number, le-is-not-above, not-lt-of-le, within-finite}
-use Rattle.words.specs.Words.{float, flag}
-use Rattle.words.proofs.Written.{sets-append, over-all}
+use Rattle.relay_math.{specs.F32.isFinite, proofs.Order.{finite-number, le-is-not-above, not-lt-of-le, within-finite}}
+use Rattle.words.{specs.Words.{float, flag}, proofs.Written.{sets-append, over-all}}
 use Rattle.latch.specs.Latch.{releases, engages}
-use Rattle.slow.specs.Back.{lookBack, flagsTo, slowFlags, inBand}
+use Rattle.slow.specs.{Back.{lookBack, flagsTo, slowFlags, inBand}, Entry.{marginsFrom, marginsOf}}
 use Rattle.slow.proofs.Slow.{flags-to-length}
-use Rattle.slow.specs.Entry.{marginsFrom, marginsOf}
 
 -- ---- the margin at a place, in the list and in the bytes
 

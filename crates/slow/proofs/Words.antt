@@ -1,18 +1,10 @@
 -- The order of floats with no sign is the order of their words, as whole numbers. Assumes nothing.
-use Prim.Native.Nat.{ℕ, zero, suc, _+_, _*_, _/_, _%_, _^_, _<_, _≤_, zero-le}
-use mathlib.Core.Path.{_≡_, sym, ap, subst, _∙_}
-use mathlib.Core.Logic.{inl, inr}
-use mathlib.Core.Bool.{Bool, true, false, cond}
-use native.Mathlib.Nat.{le-trans, le-of-eq, eq-or-lt-of-le, mul-assoc, mul-le-mul-left, mul-le-mul-right, mod-eq-of-lt, mod-lt, pow-succ', lt-of-le-of-lt}
-use native.Mathlib.Omega.{arith}
-use borrow.Author.Tests.{ne-eqb}
-use lib.Arith.{lt→nleb}
-use lib.Dec.{T, leb, eqb, lit<}
-use lib.Pow.{pow-pos, pow-mono}
-use lib.Ieee.{Float, nan, inf, binary32, low, odd, le, fits, ofFields, ofBits}
-use lib.Ieee.Bits.{is-true, is-false, ofBits-toBits}
-use lib.Ieee.Exact.{HasValue, odd-sign}
-use lib.Ieee.Order.{le-of-values}
+use Rattle.laws.proofs.Prelude.{ℕ, zero, suc, _+_, _*_, _/_, _%_, _^_, _<_, _≤_, _≡_, sym, ap, subst, _∙_, inl, inr, Bool, true, false, cond, le-trans, le-of-eq, eq-or-lt-of-le, mul-assoc}
+use Rattle.laws.proofs.Prelude.{mul-le-mul-left, mul-le-mul-right, mod-eq-of-lt, mod-lt, lt-of-le-of-lt, arith, ne-eqb, T, leb, eqb, lit<, pow-pos, pow-mono, Float, nan, inf, binary32, odd, le, fits}
+use Rattle.laws.proofs.Prelude.{ofBits}
+use Prim.Native.Nat.{zero-le}
+use native.Mathlib.Nat.{pow-succ'}
+use lib.{Arith.lt→nleb, Ieee.{low, ofFields, Bits.{is-true, is-false, ofBits-toBits}, Exact.{HasValue, odd-sign}, Order.le-of-values}}
 use Rattle.words.specs.Words.{floatOf, bits}
 use Rattle.slow.specs.Back.{inBand}
 

@@ -1,16 +1,8 @@
 -- Laws of read words, for callers: what was written is read again, and what is read is written again but for a NaN's other patterns. Assumes nothing.
-use mathlib.Core.Path.{_≡_, refl, sym, ap, _∙_}
-use mathlib.Core.Bool.{Bool, true, false, not}
-use mathlib.Core.List.{List, [], _∷_, _++_}
-use Prim.Native.Nat.{ℕ, zero, suc, _+_, _*_, _/_, _%_, _<_}
-use native.Mathlib.Nat.{add-zero, add-assoc, suc-add, mod-lt, mod-eq-of-lt, mod-add-div', div-div-eq-div-mul, add-mul-mod-self-right}
-use native.Mathlib.Omega.{arith}
-use lib.Dec.{T, eqb, ltb, ltb→lt, lit<}
-use lib.ListN.{length, getD, take, drop}
-use lib.Seq.{getD-take, getD-drop, getD-append-add}
-use lib.Ieee.{Float, nan, binary32, isNan, fits}
-use lib.Ieee.Fits.{nan-fits}
-use lib.Ieee.Bits.{ofBits-toBits, toBits-lt, toBits-ofBits, ofBits-fits}
+use Rattle.laws.proofs.Prelude.{_≡_, refl, sym, ap, _∙_, Bool, true, false, not, List, [], _∷_, _++_, ℕ, zero, suc, _+_, _*_, _/_, _%_, _<_, add-zero, add-assoc, mod-lt, mod-eq-of-lt, arith, T, eqb}
+use Rattle.laws.proofs.Prelude.{ltb, lit<, length, getD, take, drop, getD-take, getD-drop, getD-append-add, Float, nan, binary32, isNan, fits}
+use native.Mathlib.Nat.{suc-add, mod-add-div', div-div-eq-div-mul, add-mul-mod-self-right}
+use lib.{Dec.ltb→lt, Ieee.{Fits.nan-fits, Bits.{ofBits-toBits, toBits-lt, toBits-ofBits, ofBits-fits}}}
 use Rattle.relay_math.specs.declared.Vec3.{Vec3}
 use Rattle.words.specs.Words.{fourBytes, word, float, vec, floatsOfVec, floatOf, bits, canon, flag, wordsOf, bytesOf, AllFit, Holds}
 

@@ -1,13 +1,7 @@
 -- A word's exponent tells whether its float is finite. Assumes nothing.
-use mathlib.Core.Path.{_≡_, refl, sym, _∙_}
-use mathlib.Core.Bool.{Bool, true, false, cond}
-use mathlib.Core.Logic.{inl, inr}
-use Prim.Native.Nat.{ℕ, zero, suc, _+_, _*_, _/_, _%_, _<_}
-use native.Mathlib.Omega.{arith}
-use borrow.Author.Tests.{lt-ltb, le-ltb, eq-eqb, ne-eqb}
-use lib.Dec.{ltb, eqb}
-use lib.Ieee.{nan, inf, binary32, low, odd, ofFields, ofBits}
-use Rattle.laws.proofs.Tests.{le-or-lt}
+use Rattle.laws.proofs.Prelude.{_≡_, refl, sym, _∙_, Bool, true, false, cond, inl, inr, ℕ, zero, suc, _+_, _*_, _/_, _%_, _<_, arith, lt-ltb, le-ltb, eq-eqb, ne-eqb, ltb, eqb, nan, inf, binary32, odd}
+use Rattle.laws.proofs.Prelude.{ofBits, le-or-lt}
+use lib.Ieee.{low, ofFields}
 use Rattle.relay_math.specs.F32.{isFinite}
 use Rattle.words.specs.Words.{floatOf}
 

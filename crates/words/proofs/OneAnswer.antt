@@ -1,5 +1,5 @@
 -- Of each public function here: no second answer fits its promise. Assumes nothing.
-use mathlib.Core.Path.{refl}
+use Rattle.laws.proofs.Prelude.{refl}
 use Rattle.laws.proofs.Determined.{OneAnswer, no-second, both}
 use Rattle.words.proofs.read
 use Rattle.words.proofs.write

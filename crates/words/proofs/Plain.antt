@@ -1,18 +1,8 @@
 -- Laws of bytes in which no word is a NaN's pattern, for callers. Assumes nothing.
-use mathlib.Core.Path.{_≡_, sym, ap, _∙_, subst}
-use mathlib.Core.Bool.{Bool, true, false, not}
-use mathlib.Core.List.{List}
-use Prim.Native.Nat.{ℕ, zero, suc, _*_, _%_, _<_}
-use native.Mathlib.Omega.{arith}
-use mathlib.Core.Logic.{inl, inr}
-use borrow.Author.Tests.{le-leb, lt-leb, lt-ltb, le-ltb}
-use lib.Dec.{T, leb, ltb}
-use lib.Ieee.{binary32}
+use Rattle.laws.proofs.Prelude.{_≡_, sym, ap, _∙_, subst, Bool, true, false, not, List, ℕ, zero, suc, _*_, _%_, _<_, arith, inl, inr, le-leb, lt-leb, lt-ltb, le-ltb, T, leb, ltb, binary32, length}
+use Rattle.laws.proofs.Prelude.{held, both, le-or-lt}
 use lib.Ieee.Bits.{nanBits-above, nanBits-is}
-use lib.ListN.{length}
-use Rattle.laws.proofs.Tests.{held, both, le-or-lt}
-use Rattle.words.specs.Words.{word}
-use Rattle.words.specs.Inner.{isPlain, allPlain, Plain}
+use Rattle.words.specs.{Words.word, Inner.{isPlain, allPlain, Plain}}
 
 at-most : (a b : ℕ) → leb a b ≡ not (ltb b a)
 at-most a b = elim (le-or-lt a b) [ inl h ↦ rw (le-leb a b h, le-ltb b a h) | inr h ↦ rw (lt-leb a b h, lt-ltb b a h) ]

@@ -1,19 +1,10 @@
 -- Laws of canonical words, for callers: where no word is a NaN's pattern they stand so; made one after the other they are all made; and a run that is
 -- written over bytes of words takes the place of some of the words. Assumes nothing.
-use mathlib.Core.Path.{_≡_, refl, sym, ap, _∙_}
-use mathlib.Core.Logic.{inr}
-use mathlib.Core.Bool.{true}
-use mathlib.Core.List.{List, [], _∷_, _++_}
-use Prim.Native.Nat.{ℕ, zero, suc, _+_, _*_, _/_, _%_, _≤_, _<_}
-use native.Mathlib.Nat.{add-zero, zero-add}
-use native.Mathlib.Numerals.{add-one, add-two, add-three}
-use native.Mathlib.Omega.{arith}
-use lib.ListN.{length, getD, take, drop}
+use Rattle.laws.proofs.Prelude.{_≡_, refl, sym, ap, _∙_, inr, true, List, [], _∷_, _++_, ℕ, zero, suc, _+_, _*_, _/_, _%_, _≤_, _<_, add-zero, zero-add, add-one, arith, length, getD, take, drop}
+use native.Mathlib.Numerals.{add-two, add-three}
 use lib.Seq.{set-getD}
-use Rattle.words.specs.Words.{word, bytesOf, canon, canons, Put, Holds}
-use Rattle.words.specs.Inner.{Plain}
-use Rattle.words.proofs.Back.{canon-itself}
-use Rattle.words.proofs.Written.{length-bytesOf, bytesOf-append, put-splits, sets-other, then, whole}
+use Rattle.words.specs.{Words.{word, bytesOf, canon, canons, Put, Holds}, Inner.Plain}
+use Rattle.words.proofs.{Back.canon-itself, Written.{length-bytesOf, bytesOf-append, put-splits, sets-other, then, whole}}
 
 -- every byte is one, as of a lent [u8]
 abbrev pub Bytes : List ℕ → Type 0

@@ -1,13 +1,7 @@
 -- Laws of written words, for callers: runs join, other bytes stay, and neither a buffer written whole nor a run written over depends on what was there. Assumes nothing.
-use mathlib.Core.Path.{_≡_, refl, ap, subst, _∙_}
-use mathlib.Core.Logic.{_⊎_, inl, inr, ⊎-elim}
-use mathlib.Core.List.{List, [], _∷_, _++_, append-nil}
-use Prim.Native.Nat.{ℕ, suc, _+_, _*_, _%_, _≤_, _<_}
-use native.Mathlib.Nat.{add-zero, add-assoc}
-use native.Mathlib.Numerals.{add-one}
-use native.Mathlib.Omega.{arith}
-use lib.ListN.{length, getD, set, take, drop, length-append, drop-of-length-le, List·getD-append}
-use lib.Seq.{sets, sets-eq, set-set, set-comm, length-take-le, take-suc, getD-set-other, getD-append-add}
+use Rattle.laws.proofs.Prelude.{_≡_, refl, ap, subst, _∙_, _⊎_, inl, inr, ⊎-elim, List, [], _∷_, _++_, append-nil, ℕ, suc, _+_, _*_, _%_, _≤_, _<_, add-zero, add-assoc, add-one, arith, length, getD}
+use Rattle.laws.proofs.Prelude.{set, take, drop, length-append, List·getD-append, sets, sets-eq, length-take-le, getD-append-add}
+use lib.{ListN.drop-of-length-le, Seq.{set-set, set-comm, take-suc, getD-set-other}}
 use Rattle.words.specs.Words.{word, bytesOf, Put}
 use Rattle.words.proofs.Back.{word-bytesOf}
 

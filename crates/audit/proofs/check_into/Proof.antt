@@ -1,15 +1,10 @@
 -- `audit::check_into`: refused as it stands, or the verdict by the mended thresholds. Assumes nothing.
-use borrow.Author.Needs.{needs}
-use borrow.Author.Tests.{eq-eqb, ne-eqb, not-true, not-false}
-use mathlib.Core.Path.{sym, _∙_}
-use Rattle.laws.proofs.Tests.{held}
+use Rattle.laws.proofs.Prelude.{needs, eq-eqb, ne-eqb, not-true, not-false, sym, _∙_, held}
 use Rattle.words.proofs.Written.{whole}
 use Rattle.audit.specs.Entry.{checkCall}
-use Rattle.audit.proofs.Call.{mended, finished}
-use Rattle.audit.proofs.check_into.Statement.{statement}
-use Rattle.audit.proofs.check_into.Tie as tie
+use Rattle.audit.proofs.{Call.{mended, finished}, check_into.{Statement.statement, Tie.{Need-returns-4, close, spec}}}
 
-done : tie.Need-returns-4
+done : Need-returns-4
 done c =
     let put = c .before .before in
     let w = put .before in
@@ -27,8 +22,7 @@ done c =
 pub check-into-spec : {M : Type 1} → statement M
 unfolding checkCall
 check-into-spec =
-    tie.close
-    (tie.spec
+    close (spec
     (λ c. simp (ne-eqb _ _ (c .if1 .taken)))
     (λ c κs. search needs)
     (λ c. let l = c .before in simp (← l .is-log .ensures, not-true (l .is-log .result) (c .if2 .taken), eq-eqb _ _ (l .before .if1 .left)))

@@ -1,15 +1,12 @@
 -- `audit::finites`: axis by axis. Assumes nothing.
-use borrow.Author.Needs.{needs}
-use borrow.Author.Tests.{not-true, not-false}
+use Rattle.laws.proofs.Prelude.{needs, not-true, not-false}
 use Rattle.audit.specs.Right.{finites}
-use Rattle.audit.proofs.finites.Statement.{statement}
-use Rattle.audit.proofs.finites.Tie as tie
+use Rattle.audit.proofs.finites.{Statement.statement, Tie.{close, spec}}
 
 pub finites-spec : {M : Type 1} → statement M
 unfolding finites
 finites-spec =
-    tie.close
-    (tie.spec
+    close (spec
     (λ c κs. search needs)
     (λ c. let one = c .before in rw (← one .finite-on .ensures, not-true (one .finite-on .result) (c .if1 .taken)))
     (λ c κs. search needs)

@@ -1,35 +1,27 @@
 -- `audit::judged`: what is carried along is what looking back says, and the verdict from here on is the verdict. Assumes nothing.
-use borrow.Author.Needs.{needs}
-use mathlib.Core.Path.{_≡_, refl, sym, ap, _∙_}
-use Prim.Native.Nat.{_-_, _≤_}
-use native.Mathlib.Nat.{sub-zero}
-use native.Mathlib.Omega.{arith}
-use lib.ListN.{length}
+use Rattle.laws.proofs.Prelude.{needs, _≡_, refl, sym, ap, _∙_, _-_, _≤_, sub-zero, arith, length}
 use Rattle.slow.specs.Back.{lookBack}
-use Rattle.log.specs.Records.{records}
-use Rattle.log.proofs.Taken.{is-a-log}
-use Rattle.audit.specs.Right.{marginsIn}
-use Rattle.audit.specs.Verdict.{verdictFrom, verdictOf}
-use Rattle.audit.proofs.Walk.{turn, all-turns, carried, goes-on, stops}
-use Rattle.audit.proofs.judged.Statement.{statement}
-use Rattle.audit.proofs.judged.Tie as tie
+use Rattle.log.{specs.Records.records, proofs.Taken.is-a-log}
+use Rattle.audit.specs.{Right.marginsIn, Verdict.{verdictFrom, verdictOf}}
+use Rattle.audit.proofs.{Walk.{turn, all-turns, carried, goes-on, stops}, judged.Statement.statement}
+use Rattle.audit.proofs.judged.Tie.{InvT-loop, MeasureT-loop, Need-loop-holds, Need-returns, Need-loop-again, Need-returns-2, close, spec}
 use Rattle.audit.proofs.judged.Lts as lts
 
-abbrev Inv-loop : tie.InvT-loop
+abbrev Inv-loop : InvT-loop
 Inv-loop log profile enter exit count engaged₀ i₀ engaged i =
     let rs = records log in
     (i ≤ length rs)
     × (engaged ≡ lookBack enter exit (marginsIn rs) i)
     × (verdictFrom profile enter exit rs i (length rs - i) ≡ verdictOf profile enter exit rs)
 
-abbrev μ-loop : tie.MeasureT-loop
+abbrev μ-loop : MeasureT-loop
 μ-loop log profile enter exit count engaged₀ i₀ engaged i = count - i
 
-loop-holds : tie.Need-loop-holds Inv-loop μ-loop
+loop-holds : Need-loop-holds Inv-loop μ-loop
 unfolding lookBack
 loop-holds c = (omega arith, refl, rw sub-zero)
 
-returns : tie.Need-returns Inv-loop μ-loop
+returns : Need-returns Inv-loop μ-loop
 returns c =
     let j = c .before in
     let s = j .before in
@@ -40,7 +32,7 @@ returns c =
     let inv = in-loop .before .loop .inv in
     sym (stops _ _ _ (pre .1) _ _ t (inv .1) (m .float-at .ensures) (s .latch .ensures) (j .right .ensures) (c .if1 .taken)) ∙ inv .2
 
-loop-again : tie.Need-loop-again Inv-loop μ-loop
+loop-again : Need-loop-again Inv-loop μ-loop
 loop-again c =
     let j = c .before in
     let s = j .before in
@@ -54,7 +46,7 @@ loop-again c =
       sym (goes-on _ _ _ (pre .1) _ _ t (inv .1) (m .float-at .ensures) (s .latch .ensures) (j .right .ensures) (c .if1 .left)) ∙ inv .2,
     )
 
-returns-2 : tie.Need-returns-2 Inv-loop μ-loop
+returns-2 : Need-returns-2 Inv-loop μ-loop
 unfolding verdictFrom
 returns-2 c =
     let pre = c .before .before .before .pre in
@@ -63,8 +55,7 @@ returns-2 c =
 
 pub judged-spec : {M : Type 1} → statement M
 judged-spec =
-    tie.close
-    (tie.spec Inv-loop μ-loop
+    close (spec Inv-loop μ-loop
     (λ c. is-a-log _ (c .before .pre .0) .trailer)
     loop-holds
     (λ c. record { fits = omega (arith, turn _ _ (c .before .before .before .pre .0) (c .loop-test .taken) .few) })

@@ -1,15 +1,12 @@
 -- `audit::planners`: axis by axis. Assumes nothing.
-use borrow.Author.Needs.{needs}
-use borrow.Author.Tests.{not-true, not-false}
+use Rattle.laws.proofs.Prelude.{needs, not-true, not-false}
 use Rattle.audit.specs.Right.{planners}
-use Rattle.audit.proofs.planners.Statement.{statement}
-use Rattle.audit.proofs.planners.Tie as tie
+use Rattle.audit.proofs.planners.{Statement.statement, Tie.{close, spec}}
 
 pub planners-spec : {M : Type 1} → statement M
 unfolding planners
 planners-spec =
-    tie.close
-    (tie.spec
+    close (spec
     (λ c κs. search needs)
     (λ c. let one = c .before in rw (← one .passes .ensures, not-true (one .passes .result) (c .if1 .taken)))
     (λ c κs. search needs)

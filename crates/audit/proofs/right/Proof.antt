@@ -1,15 +1,12 @@
 -- `audit::right`: the flag that is demanded, then the words that it asks for. Assumes nothing.
-use borrow.Author.Needs.{needs}
-use borrow.Author.Tests.{eq-eqb, ne-eqb}
+use Rattle.laws.proofs.Prelude.{needs, eq-eqb, ne-eqb}
 use Rattle.audit.specs.Right.{right}
-use Rattle.audit.proofs.right.Statement.{statement}
-use Rattle.audit.proofs.right.Tie as tie
+use Rattle.audit.proofs.right.{Statement.statement, Tie.{close, spec}}
 
 pub right-spec : {M : Type 1} → statement M
 unfolding right
 right-spec =
-    tie.close
-    (tie.spec
+    close (spec
     (λ c κs. search needs)
     (λ c. simp (← c .before .before .word-at .ensures, c .before .if1 .taken, ne-eqb _ _ (c .if2 .taken)))
     (λ c κs. search needs)

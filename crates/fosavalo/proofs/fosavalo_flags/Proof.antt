@@ -1,12 +1,10 @@
 -- `fosavalo::fosavalo_flags`: the number of the outcome, and the buffer as the call leaves it. Assumes nothing.
-use borrow.Author.Needs.{needs}
-use mathlib.Core.Path.{ap}
+use Rattle.laws.proofs.Prelude.{needs, ap}
 use Rattle.outcome.specs.Outcomes.{numbered}
-use Rattle.fosavalo.proofs.fosavalo_flags.Statement.{statement}
-use Rattle.fosavalo.proofs.fosavalo_flags.Tie as tie
+use Rattle.fosavalo.proofs.fosavalo_flags.{Statement.statement, Tie.{Need-returns, close, spec}}
 
-returns : tie.Need-returns
+returns : Need-returns
 returns c = simp (c .number .ensures) (ap numbered (c .before .before .before .flags-into .ensures))
 
 pub fosavalo-flags-spec : {M : Type 1} → statement M
-fosavalo-flags-spec = tie.close (tie.spec (λ c κs. search needs) (λ c κs. search needs) (λ c. search needs) returns)
+fosavalo-flags-spec = close (spec (λ c κs. search needs) (λ c κs. search needs) (λ c. search needs) returns)

@@ -1,12 +1,10 @@
 -- `fosavalo::fosavalo_tick_refusal`: the number of what a tick would be refused for. Assumes nothing.
-use borrow.Author.Needs.{needs}
-use mathlib.Core.Path.{ap}
+use Rattle.laws.proofs.Prelude.{needs, ap}
 use Rattle.outcome.specs.Outcomes.{number}
-use Rattle.fosavalo.proofs.fosavalo_tick_refusal.Statement.{statement}
-use Rattle.fosavalo.proofs.fosavalo_tick_refusal.Tie as tie
+use Rattle.fosavalo.proofs.fosavalo_tick_refusal.{Statement.statement, Tie.{Need-returns, close, spec}}
 
-returns : tie.Need-returns
+returns : Need-returns
 returns c = simp (c .number .ensures) (ap number (c .before .tick-refusal .ensures))
 
 pub fosavalo-tick-refusal-spec : {M : Type 1} → statement M
-fosavalo-tick-refusal-spec = tie.close (tie.spec (λ c κs. search needs) (λ c κs. search needs) returns)
+fosavalo-tick-refusal-spec = close (spec (λ c κs. search needs) (λ c κs. search needs) returns)

@@ -1,12 +1,10 @@
 -- `fosavalo_desk::fosavalo_desk_centre`: the number of the outcome, and the buffers as the call leaves them. Assumes nothing.
-use borrow.Author.Needs.{needs}
-use mathlib.Core.Path.{ap}
+use Rattle.laws.proofs.Prelude.{needs, ap}
 use Rattle.desk.specs.Entry.{deskNumbered}
-use Rattle.fosavalo_desk.proofs.fosavalo_desk_centre.Statement.{statement}
-use Rattle.fosavalo_desk.proofs.fosavalo_desk_centre.Tie as tie
+use Rattle.fosavalo_desk.proofs.fosavalo_desk_centre.{Statement.statement, Tie.{Need-returns, close, spec}}
 
-returns : tie.Need-returns
+returns : Need-returns
 returns c = simp (c .desk-number .ensures) (ap deskNumbered (c .before .before .before .centre .ensures))
 
 pub fosavalo-desk-centre-spec : {M : Type 1} → statement M
-fosavalo-desk-centre-spec = tie.close (tie.spec (λ c κs. search needs) (λ c κs. search needs) (λ c. search needs) returns)
+fosavalo-desk-centre-spec = close (spec (λ c κs. search needs) (λ c κs. search needs) (λ c. search needs) returns)

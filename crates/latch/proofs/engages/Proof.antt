@@ -1,9 +1,8 @@
-use borrow.Author.Needs.{needs}
-use Rattle.latch.proofs.engages.Statement.{statement}
-use Rattle.latch.proofs.engages.Tie as tie
+use Rattle.laws.proofs.Prelude.{needs}
+use Rattle.latch.proofs.engages.{Statement.statement, Tie.{close, spec}}
 
 pub engages-spec : {M : Type 1} → statement M
 engages-spec =
-    tie.close (tie.spec (λ c κs. search needs)
+    close (spec (λ c κs. search needs)
     (λ c. simp (← c .before .is-finite .ensures, c .if1 .taken))
     (λ c. simp (← c .before .is-finite .ensures, c .if1 .left)))

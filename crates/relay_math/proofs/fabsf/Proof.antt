@@ -1,17 +1,8 @@
 -- `relay_math::fabsf`: what is not above zero is taken from zero, which drops its sign. Assumes nothing.
-use mathlib.Core.Path.{_≡_, refl, sym, _∙_, subst}
-use mathlib.Core.Bool.{true, false, cond}
-use Prim.Native.Nat.{ℕ, zero, suc, _*_}
-use native.Mathlib.Nat.{zero-mul, one-mul, mul-one, zero-add}
-use lib.Dec.{T}
-use lib.IntN.{ℤ}
-use lib.Ieee.{Float, nan, inf, fin, binary32, fits, up, down, lt, sub, ofBits}
+use Rattle.laws.proofs.Prelude.{_≡_, refl, sym, _∙_, subst, true, false, cond, ℕ, zero, suc, _*_, zero-mul, one-mul, mul-one, zero-add, T, ℤ, Float, nan, inf, fin, binary32, fits, up, down, lt, sub}
+use Rattle.laws.proofs.Prelude.{ofBits, held, no}
 use Rattle.relay_math.specs.F32.{_⊖_, 0·0, fabsf}
-use Rattle.laws.proofs.Tests.{held, no}
-use Rattle.relay_math.proofs.Signs.{zero-is, is-above}
-use Rattle.relay_math.proofs.Sums.{sum-is, round-own}
-use Rattle.relay_math.proofs.fabsf.Statement.{statement}
-use Rattle.relay_math.proofs.fabsf.Tie as tie
+use Rattle.relay_math.proofs.{Signs.{zero-is, is-above}, Sums.{sum-is, round-own}, fabsf.{Statement.statement, Tie.{close, spec}}}
 
 -- zero less what has a minus sign is the sum of zero and the size, and a size rounds to itself
 less-minus : (m : ℕ) (e : ℤ) → T (fits binary32 (fin true m e)) → 0·0 ⊖ fin true m e ≡ fin false m e
@@ -34,6 +25,5 @@ by-test (fin false (suc m) e) f = rw (is-above m e false)
 
 pub fabsf-spec : {M : Type 1} → statement M
 fabsf-spec =
-    tie.close
-    (tie.spec (λ c. simp (c .if1 .taken) at (by-test (c .before .args .x) (held (c .before .good .0 .1))))
+    close (spec (λ c. simp (c .if1 .taken) at (by-test (c .before .args .x) (held (c .before .good .0 .1))))
     (λ c. simp (c .if1 .left) at (by-test (c .before .args .x) (held (c .before .good .0 .1)))))

@@ -1,14 +1,8 @@
 -- `relay_math::is_finite`: x - x is +0 for a finite x, and a NaN for any other. Assumes nothing.
-use mathlib.Core.Path.{_≡_, refl}
-use mathlib.Core.Bool.{true, false}
-use Prim.Native.Nat.{_*_}
+use Rattle.laws.proofs.Prelude.{_≡_, refl, true, false, _*_, le-ltb, Float, nan, inf, fin, binary32, sub, eq, ofBits, up, down}
 use native.Mathlib.Nat.{sub-self, le-refl}
-use borrow.Author.Tests.{le-ltb}
-use lib.Ieee.{Float, nan, inf, fin, binary32, sub, eq, ofBits, up, down}
 use Rattle.relay_math.specs.F32.{isFinite}
-use Rattle.relay_math.proofs.Sums.{round-zero}
-use Rattle.relay_math.proofs.is_finite.Statement.{statement}
-use Rattle.relay_math.proofs.is_finite.Tie as tie
+use Rattle.relay_math.proofs.{Sums.round-zero, is_finite.{Statement.statement, Tie.{close, spec}}}
 
 test : (x : Float) → eq (sub binary32 x x) (ofBits binary32 0) ≡ isFinite x
 unfolding sub eq ofBits isFinite
@@ -19,4 +13,4 @@ test (fin true m e) = rw (le-ltb (m * up e * down e) (m * up e * down e) (le-ref
 test (fin false m e) = rw (le-ltb (m * up e * down e) (m * up e * down e) (le-refl _), sub-self (m * up e * down e), round-zero false (down e * down e))
 
 pub is-finite-spec : {M : Type 1} → statement M
-is-finite-spec = tie.close (tie.spec (λ c. test (c .args .x)))
+is-finite-spec = close (spec (λ c. test (c .args .x)))

@@ -1,14 +1,10 @@
 -- `slow::fallback_after`: by looking back, where a release is possible. Assumes nothing.
-use borrow.Author.Needs.{needs}
-use mathlib.Core.Path.{sym, _∙_}
-use Rattle.slow.proofs.Walk.{never-flies}
-use Rattle.slow.proofs.fallback_after.Statement.{statement}
-use Rattle.slow.proofs.fallback_after.Tie as tie
+use Rattle.laws.proofs.Prelude.{needs, sym, _∙_}
+use Rattle.slow.proofs.{Walk.never-flies, fallback_after.{Statement.statement, Tie.{close, spec}}}
 
 pub fallback-after-spec : {M : Type 1} → statement M
 fallback-after-spec =
-    tie.close
-    (tie.spec
+    close (spec
     (λ c κs. search needs)
     (λ c κs. let pre = c .before .before .before .pre in (pre .0, (pre .1 .0, sym (c .before .is-finite .ensures) ∙ c .if1 .taken)))
     (λ c. c .look-back .ensures)

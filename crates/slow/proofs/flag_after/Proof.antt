@@ -1,10 +1,8 @@
-use borrow.Author.Needs.{needs}
-use Rattle.slow.proofs.flag_after.Statement.{statement}
-use Rattle.slow.proofs.flag_after.Tie as tie
+use Rattle.laws.proofs.Prelude.{needs}
+use Rattle.slow.proofs.flag_after.{Statement.statement, Tie.{close, spec}}
 
 pub flag-after-spec : {M : Type 1} → statement M
 flag-after-spec =
-    tie.close
-    (tie.spec (λ c κs. search needs)
+    close (spec (λ c κs. search needs)
     (λ c. simp (← c .before .fallback-after .ensures, c .if1 .taken))
     (λ c. simp (← c .before .fallback-after .ensures, c .if1 .left)))

@@ -1,13 +1,9 @@
 -- `slow::flags_into`: refused as it stands, or every flag by the mended thresholds. Assumes nothing.
-use borrow.Author.Needs.{needs}
-use borrow.Author.Tests.{lt-ltb, le-ltb, ne-eqb}
-use Rattle.laws.proofs.Tests.{held}
+use Rattle.laws.proofs.Prelude.{needs, lt-ltb, le-ltb, ne-eqb, held}
 use Rattle.slow.specs.Entry.{flagsCall}
-use Rattle.slow.proofs.Call.{mended, finished}
-use Rattle.slow.proofs.flags_into.Statement.{statement}
-use Rattle.slow.proofs.flags_into.Tie as tie
+use Rattle.slow.proofs.{Call.{mended, finished}, flags_into.{Statement.statement, Tie.{Need-returns-3, close, spec}}}
 
-done : tie.Need-returns-3
+done : Need-returns-3
 done c =
     let put = c .before .before in
     let m = put .before .before in
@@ -16,8 +12,7 @@ done c =
 pub flags-into-spec : {M : Type 1} → statement M
 unfolding flagsCall
 flags-into-spec =
-    tie.close
-    (tie.spec
+    close (spec
     (λ c. simp (lt-ltb _ _ (c .if1 .taken)))
     (λ c. search needs)
     (λ c. simp (ne-eqb _ _ (c .if2 .taken), le-ltb _ _ (c .before .if1 .left)))

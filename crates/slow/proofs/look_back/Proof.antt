@@ -1,23 +1,15 @@
 -- `slow::look_back`: what the first i margins say is what all say. Assumes nothing.
-use borrow.Author.Needs.{needs}
-use borrow.Author.Tests.{not-true, not-false}
-use mathlib.Core.Path.{_≡_, sym, ap, _∙_}
-use mathlib.Core.Bool.{not}
-use Prim.Native.Nat.{_≤_}
-use native.Mathlib.Omega.{arith}
-use Rattle.slow.specs.Back.{lookBack}
-use Rattle.slow.specs.Entry.{marginsOf}
-use Rattle.slow.proofs.Walk.{goes-on, decides, at-start}
-use Rattle.slow.proofs.look_back.Statement.{statement}
-use Rattle.slow.proofs.look_back.Tie as tie
+use Rattle.laws.proofs.Prelude.{needs, not-true, not-false, _≡_, sym, ap, _∙_, not, _≤_, arith}
+use Rattle.slow.specs.{Back.lookBack, Entry.marginsOf}
+use Rattle.slow.proofs.{Walk.{goes-on, decides, at-start}, look_back.{Statement.statement, Tie.{InvT-loop, MeasureT-loop, Need-returns, Need-loop-again, Need-returns-2, close, spec}}}
 
-abbrev Inv-loop : tie.InvT-loop
+abbrev Inv-loop : InvT-loop
 Inv-loop margins enter exit count i₀ i = (i ≤ count) × (lookBack enter exit (marginsOf margins) i ≡ lookBack enter exit (marginsOf margins) count)
 
-abbrev μ-loop : tie.MeasureT-loop
+abbrev μ-loop : MeasureT-loop
 μ-loop margins enter exit count i₀ i = i
 
-returns : tie.Need-returns Inv-loop μ-loop
+returns : Need-returns Inv-loop μ-loop
 returns c =
     let band = c .before .before in
     let read = band .before in
@@ -27,7 +19,7 @@ returns c =
     ∙ sym (decides _ _ (pre .1 .0) (pre .1 .1) _ _ (turn .loop-test .taken) (omega arith) _ (read .float-at .ensures) (sym (band .in-band .ensures) ∙ not-true (band .in-band .result) (c .before .if1 .taken)))
     ∙ turn .before .loop .inv .1
 
-loop-again : tie.Need-loop-again Inv-loop μ-loop
+loop-again : Need-loop-again Inv-loop μ-loop
 loop-again c =
     let band = c .before in
     let read = band .before in
@@ -38,13 +30,12 @@ loop-again c =
           ∙ turn .before .loop .inv .1,
     )
 
-returns-2 : tie.Need-returns-2 Inv-loop μ-loop
+returns-2 : Need-returns-2 Inv-loop μ-loop
 returns-2 c = sym (at-start _ _ _ _ (c .loop-test .left)) ∙ c .before .loop .inv .1
 
 pub look-back-spec : {M : Type 1} → statement M
 look-back-spec =
-    tie.close
-    (tie.spec Inv-loop μ-loop
+    close (spec Inv-loop μ-loop
     (λ c κs. c .before .pre)
     (λ c. c .passed-over .ensures)
     (λ c. omega arith)

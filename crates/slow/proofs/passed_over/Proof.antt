@@ -1,24 +1,16 @@
 -- `slow::passed_over`: what the first i margins say is what all say. Assumes nothing.
-use borrow.Author.Needs.{needs}
-use mathlib.Core.Path.{_≡_, refl, ap, _∙_}
-use Prim.Native.Nat.{_≤_}
-use native.Mathlib.Omega.{arith}
-use Rattle.laws.proofs.Tests.{held}
+use Rattle.laws.proofs.Prelude.{needs, _≡_, refl, ap, _∙_, _≤_, arith, held}
 use Rattle.words.specs.Words.{floatOf, float}
-use Rattle.slow.specs.Back.{lookBack}
-use Rattle.slow.specs.Entry.{marginsOf}
-use Rattle.slow.proofs.Walk.{goes-on}
-use Rattle.slow.proofs.Words.{in-band-word}
-use Rattle.slow.proofs.passed_over.Statement.{statement}
-use Rattle.slow.proofs.passed_over.Tie as tie
+use Rattle.slow.specs.{Back.lookBack, Entry.marginsOf}
+use Rattle.slow.proofs.{Walk.goes-on, Words.in-band-word, passed_over.{Statement.statement, Tie.{InvT-loop, MeasureT-loop, Need-loop-again, close, spec}}}
 
-abbrev Inv-loop : tie.InvT-loop
+abbrev Inv-loop : InvT-loop
 Inv-loop margins enter exit count lo hi i₀ i = (i ≤ count) × (lookBack enter exit (marginsOf margins) i ≡ lookBack enter exit (marginsOf margins) count)
 
-abbrev μ-loop : tie.MeasureT-loop
+abbrev μ-loop : MeasureT-loop
 μ-loop margins enter exit count lo hi i₀ i = i
 
-loop-again : tie.Need-loop-again Inv-loop μ-loop
+loop-again : Need-loop-again Inv-loop μ-loop
 unfolding float
 loop-again c =
     let read = c .before .before in
@@ -35,8 +27,7 @@ loop-again c =
 
 pub passed-over-spec : {M : Type 1} → statement M
 passed-over-spec =
-    tie.close
-    (tie.spec Inv-loop μ-loop
+    close (spec Inv-loop μ-loop
     (λ c κs. search needs)
     (λ c κs. search needs)
     (λ c. (omega arith, refl))

@@ -1,38 +1,28 @@
 -- `slow::put_flags`: after i turns the first i flags are written. Assumes nothing.
-use borrow.Author.Needs.{needs}
-use mathlib.Core.Path.{_≡_, refl, _∙_}
-use mathlib.Core.List.{map}
-use Prim.Native.Nat.{_-_, _≤_}
-use native.Mathlib.Omega.{arith}
-use lib.ListN.{length, length-set}
-use lib.Seq.{sets}
+use Rattle.laws.proofs.Prelude.{needs, _≡_, refl, _∙_, map, _-_, _≤_, arith, length, length-set, sets}
 use Rattle.words.specs.Words.{flag}
-use Rattle.slow.specs.Back.{flagsTo}
-use Rattle.slow.specs.Entry.{marginsOf}
-use Rattle.slow.proofs.Walk.{one-more, all-flags}
-use Rattle.slow.proofs.put_flags.Statement.{statement}
-use Rattle.slow.proofs.put_flags.Tie as tie
+use Rattle.slow.specs.{Back.flagsTo, Entry.marginsOf}
+use Rattle.slow.proofs.{Walk.{one-more, all-flags}, put_flags.{Statement.statement, Tie.{InvT-loop, MeasureT-loop, Need-loop-holds, Need-loop-again, close, spec}}}
 
-abbrev Inv-loop : tie.InvT-loop
+abbrev Inv-loop : InvT-loop
 Inv-loop margins enter exit flags₀ i₀ flags i =
     (i ≤ length flags₀) × (length flags ≡ length flags₀) × (flags ≡ sets flags₀ 0 (map flag (flagsTo enter exit (marginsOf margins) i)))
 
-abbrev μ-loop : tie.MeasureT-loop
+abbrev μ-loop : MeasureT-loop
 μ-loop margins enter exit flags₀ i₀ flags i = length flags₀ - i
 
-loop-holds : tie.Need-loop-holds Inv-loop μ-loop
+loop-holds : Need-loop-holds Inv-loop μ-loop
 unfolding flagsTo
 loop-holds c = (omega arith, refl, refl)
 
-loop-again : tie.Need-loop-again Inv-loop μ-loop
+loop-again : Need-loop-again Inv-loop μ-loop
 loop-again c =
     let inv = c .before .before .loop .inv in
     (omega arith, simp length-set (inv .1), rw (inv .2, c .flag-after .ensures) (one-more _ _ _ _ _))
 
 pub put-flags-spec : {M : Type 1} → statement M
 put-flags-spec =
-    tie.close
-    (tie.spec Inv-loop μ-loop loop-holds
+    close (spec Inv-loop μ-loop loop-holds
     (λ c. omega arith)
     (λ c κs. let pre = c .before .before .before .before .pre in (omega arith, pre .1))
     (λ c. search needs)

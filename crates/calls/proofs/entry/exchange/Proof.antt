@@ -1,12 +1,9 @@
 -- `calls::entry::exchange` meets its contract: what its calls ensure, put together. Assumes nothing.
-use borrow.Author.Needs.{needs}
-use borrow.Author.Tests.{eq-eqb, ne-eqb, not-true}
+use Rattle.laws.proofs.Prelude.{needs, eq-eqb, ne-eqb, not-true}
 use Rattle.calls.specs.Entry.{exchangeCall, exchangeRefusal}
-use Rattle.calls.proofs.Flown.{exchanged}
-use Rattle.calls.proofs.entry.exchange.Statement.{statement}
-use Rattle.calls.proofs.entry.exchange.Tie as tie
+use Rattle.calls.proofs.{Flown.exchanged, entry.exchange.{Statement.statement, Tie.{Need-returns-4, close, spec}}}
 
-writes : tie.Need-returns-4
+writes : Need-returns-4
 writes c =
     let u = c .before .before .before .before in
     let l = u .before in
@@ -19,7 +16,7 @@ writes c =
 pub exchange-spec : {M : Type 1} → statement M
 unfolding exchangeCall exchangeRefusal
 exchange-spec =
-    tie.close (tie.spec
+    close (spec
     (λ c. simp (
     ne-eqb _ _ (c .if1 .taken)))
     (λ c. simp (

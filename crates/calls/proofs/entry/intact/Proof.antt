@@ -1,14 +1,12 @@
 -- `calls::entry::intact` meets its contract: what its calls ensure, put together. Assumes nothing.
-use borrow.Author.Needs.{needs}
-use borrow.Author.Tests.{eq-eqb, ne-eqb, not-true, not-false}
+use Rattle.laws.proofs.Prelude.{needs, eq-eqb, ne-eqb, not-true, not-false}
 use Rattle.calls.specs.Entry.{intact}
-use Rattle.calls.proofs.entry.intact.Statement.{statement}
-use Rattle.calls.proofs.entry.intact.Tie as tie
+use Rattle.calls.proofs.entry.intact.{Statement.statement, Tie.{close, spec}}
 
 pub intact-spec : {M : Type 1} → statement M
 unfolding intact
 intact-spec =
-    tie.close (tie.spec
+    close (spec
     (λ c κs. search needs) (λ c κs. search needs) (λ c. search needs)
     (λ c. simp (
       ← c .before .before .word-at .ensures,

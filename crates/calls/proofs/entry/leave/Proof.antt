@@ -1,8 +1,7 @@
-use borrow.Author.Needs.{needs}
-use Rattle.calls.proofs.entry.leave.Statement.{statement}
-use Rattle.calls.proofs.entry.leave.Tie as tie
+use Rattle.laws.proofs.Prelude.{needs}
+use Rattle.calls.proofs.entry.leave.{Statement.statement, Tie.{Need-returns, close, spec}}
 
-returns : tie.Need-returns
+returns : Need-returns
 returns c =
     let answered = c .before .before in
     let written = answered .before .before .before .before in
@@ -10,5 +9,4 @@ returns c =
 
 pub leave-spec : {M : Type 1} → statement M
 leave-spec =
-    tie.close
-    (tie.spec (λ c κs. let p = c .before .before .before .pre in (p .0 .0, p .1)) (λ c κs. search needs) (λ c. search needs) (λ c. search needs) returns)
+    close (spec (λ c κs. let p = c .before .before .before .pre in (p .0 .0, p .1)) (λ c κs. search needs) (λ c. search needs) (λ c. search needs) returns)

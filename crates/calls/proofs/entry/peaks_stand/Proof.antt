@@ -1,14 +1,12 @@
-use borrow.Author.Needs.{needs}
+use Rattle.laws.proofs.Prelude.{needs}
 use Rattle.relay_traj.specs.Segment.{peakAbsJerk3}
 use Rattle.image.specs.Image.{fixedAt, peaksStand}
-use Rattle.calls.proofs.entry.peaks_stand.Statement.{statement}
-use Rattle.calls.proofs.entry.peaks_stand.Tie as tie
+use Rattle.calls.proofs.entry.peaks_stand.{Statement.statement, Tie.{close, spec}}
 
 pub peaks-stand-spec : {M : Type 1} → statement M
 unfolding fixedAt peaksStand peakAbsJerk3
 peaks-stand-spec =
-    tie.close
-    (tie.spec (λ c κs. search needs) (λ c. search needs) (λ c κs. search needs) (λ c. search needs) (λ c κs. search needs)
+    close (spec (λ c κs. search needs) (λ c. search needs) (λ c κs. search needs) (λ c. search needs) (λ c κs. search needs)
     (λ c. let y = c .before .before in let z = y .before .before in
     simp (← z .before .before .pre .1, ← z .peak-stands .ensures, ← y .peak-stands2 .ensures, y .before .if1 .taken, c .before .if2 .taken, c .peak-stands3 .ensures))
     (λ c. let y = c .before in let z = y .before .before in

@@ -1,13 +1,11 @@
-use borrow.Author.Needs.{needs}
+use Rattle.laws.proofs.Prelude.{needs}
 use Rattle.joint_tick.specs.Good.{segmentOk}
-use Rattle.calls.proofs.entry.segment_lasts.Statement.{statement}
-use Rattle.calls.proofs.entry.segment_lasts.Tie as tie
+use Rattle.calls.proofs.entry.segment_lasts.{Statement.statement, Tie.{close, spec}}
 
 pub segment-lasts-spec : {M : Type 1} → statement M
 unfolding segmentOk
 segment-lasts-spec =
-    tie.close
-    (tie.spec (λ c κs. search needs) (λ c κs. search needs) (λ c κs. search needs)
+    close (spec (λ c κs. search needs) (λ c κs. search needs) (λ c κs. search needs)
     (λ c. let y = c .before .before in let z = y .before .before in
     simp (← z .lasts .ensures, ← y .lasts2 .ensures, y .before .if1 .taken, c .before .if2 .taken, c .lasts3 .ensures))
     (λ c. let y = c .before in let z = y .before .before in simp (← z .lasts .ensures, ← y .lasts2 .ensures, y .before .if1 .taken, c .if2 .left))

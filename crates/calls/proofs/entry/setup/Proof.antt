@@ -1,14 +1,12 @@
 -- `calls::entry::setup` meets its contract: what its calls ensure, put together. Assumes nothing.
-use borrow.Author.Needs.{needs}
-use borrow.Author.Tests.{eq-eqb, ne-eqb, not-true, not-false}
+use Rattle.laws.proofs.Prelude.{needs, eq-eqb, ne-eqb, not-true, not-false}
 use Rattle.calls.specs.Entry.{setUpCall, setUpRefusal}
-use Rattle.calls.proofs.entry.setup.Statement.{statement}
-use Rattle.calls.proofs.entry.setup.Tie as tie
+use Rattle.calls.proofs.entry.setup.{Statement.statement, Tie.{close, spec}}
 
 pub setup-spec : {M : Type 1} → statement M
 unfolding setUpCall setUpRefusal
 setup-spec =
-    tie.close (tie.spec
+    close (spec
     (λ c. simp (
     ne-eqb _ _ (c .if1 .taken)))
     (λ c. simp (

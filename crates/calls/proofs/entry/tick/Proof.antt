@@ -1,27 +1,22 @@
 -- `calls::entry::tick`: refused as it stands, or flown and written. Assumes nothing.
-use borrow.Author.Needs.{needs}
-use borrow.Author.Tests.{eq-eqb, ne-eqb, not-true}
-use mathlib.Core.Path.{refl}
-use native.Mathlib.Omega.{arith}
+use Rattle.laws.proofs.Prelude.{needs, eq-eqb, ne-eqb, not-true, refl, arith}
 use Rattle.words.proofs.Plain.{scanned}
 use Rattle.calls.specs.Entry.{tickRefusal, tickFrom, tickCall}
-use Rattle.calls.proofs.Flown.{takes, read-of, flown, keeps}
-use Rattle.calls.proofs.entry.tick.Statement.{statement}
-use Rattle.calls.proofs.entry.tick.Tie as tie
+use Rattle.calls.proofs.{Flown.{takes, read-of, flown, keeps}, entry.tick.{Statement.statement, Tie.{Need-returns, Need-returns-2, Need-returns-3, Need-returns-4, Need-returns-5, close, spec}}}
 
-image-length : tie.Need-returns
+image-length : Need-returns
 unfolding tickCall tickFrom tickRefusal
 image-length c = simp (ne-eqb _ _ (c .if1 .taken))
 
-input-length : tie.Need-returns-2
+input-length : Need-returns-2
 unfolding tickCall tickFrom tickRefusal
 input-length c = simp (ne-eqb _ _ (c .if2 .taken), eq-eqb _ _ (c .before .if1 .left))
 
-answer-length : tie.Need-returns-3
+answer-length : Need-returns-3
 unfolding tickCall tickFrom tickRefusal
 answer-length c = simp (ne-eqb _ _ (c .if3 .taken), eq-eqb _ _ (c .before .if2 .left), eq-eqb _ _ (c .before .before .if1 .left))
 
-broken : tie.Need-returns-4
+broken : Need-returns-4
 unfolding tickCall tickFrom tickRefusal
 broken c =
     let t = c .before in
@@ -29,7 +24,7 @@ broken c =
     let l = f .before .before .before in
     simp (← t .intact .ensures, not-true (t .intact .result) (c .if4 .taken), eq-eqb _ _ (l .if3 .left), eq-eqb _ _ (l .before .if2 .left), eq-eqb _ _ (l .before .before .if1 .left))
 
-flies : tie.Need-returns-5
+flies : Need-returns-5
 unfolding tickCall
 flies c =
     let w = c .before .before .before .before in
@@ -46,8 +41,7 @@ flies c =
 
 pub tick-spec : {M : Type 1} → statement M
 tick-spec =
-    tie.close
-    (tie.spec image-length input-length answer-length (λ c κs. search needs)
+    close (spec image-length input-length answer-length (λ c κs. search needs)
     (λ c κs. let n = c .before .before .before .before .if1 .left in (n, scanned _ 99 _ (c .all-plain .ensures) n))
     (λ c κs. let n = c .before .before .before .before .if2 .left in omega arith)
     (λ c κs. let n = c .before .before .before .before .before .if2 .left in (n, scanned _ 17 _ (c .all-plain2 .ensures) n))

@@ -1,14 +1,12 @@
 -- `calls::entry::tick_refusal` meets its contract: what its calls ensure, put together. Assumes nothing.
-use borrow.Author.Needs.{needs}
-use borrow.Author.Tests.{eq-eqb, ne-eqb}
+use Rattle.laws.proofs.Prelude.{needs, eq-eqb, ne-eqb}
 use Rattle.calls.specs.Entry.{tickRefusal}
-use Rattle.calls.proofs.entry.tick_refusal.Statement.{statement}
-use Rattle.calls.proofs.entry.tick_refusal.Tie as tie
+use Rattle.calls.proofs.entry.tick_refusal.{Statement.statement, Tie.{close, spec}}
 
 pub tick-refusal-spec : {M : Type 1} → statement M
 unfolding tickRefusal
 tick-refusal-spec =
-    tie.close (tie.spec
+    close (spec
     (λ c. simp (
     ne-eqb _ _ (c .if1 .taken)))
     (λ c. simp (

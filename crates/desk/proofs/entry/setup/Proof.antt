@@ -1,14 +1,12 @@
 -- `desk::entry::setup`: refused as it stands, or a fresh desk. Assumes nothing.
-use borrow.Author.Needs.{needs}
-use borrow.Author.Tests.{eq-eqb, ne-eqb}
+use Rattle.laws.proofs.Prelude.{needs, eq-eqb, ne-eqb}
 use Rattle.desk.specs.Entry.{deskSetUpCall}
-use Rattle.desk.proofs.entry.setup.Statement.{statement}
-use Rattle.desk.proofs.entry.setup.Tie as tie
+use Rattle.desk.proofs.entry.setup.{Statement.statement, Tie.{close, spec}}
 
 pub setup-spec : {M : Type 1} → statement M
 unfolding deskSetUpCall
 setup-spec =
-    tie.close (tie.spec
+    close (spec
     (λ c. simp (ne-eqb _ _ (c .if1 .taken)))
     (λ c. simp (ne-eqb _ _ (c .if2 .taken), eq-eqb _ _ (c .before .if1 .left)))
     (λ c κs. search needs) (λ c κs. search needs) (λ c. search needs)

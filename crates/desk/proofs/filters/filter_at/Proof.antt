@@ -1,12 +1,11 @@
-use borrow.Author.Needs.{needs}
+use Rattle.laws.proofs.Prelude.{needs}
 use Rattle.desk.specs.Filters.{filterAt}
-use Rattle.desk.proofs.filters.filter_at.Statement.{statement}
-use Rattle.desk.proofs.filters.filter_at.Tie as tie
+use Rattle.desk.proofs.filters.filter_at.{Statement.statement, Tie.{close, spec}}
 
 pub filter-at-spec : {M : Type 1} → statement M
 unfolding filterAt
 filter-at-spec =
-    tie.close (tie.spec
+    close (spec
     (λ c κs. search needs) (λ c. search needs) (λ c κs. search needs) (λ c. search needs) (λ c κs. search needs) (λ c. search needs)
     (λ c κs. search needs) (λ c. search needs) (λ c κs. search needs)
     (λ c. simp (

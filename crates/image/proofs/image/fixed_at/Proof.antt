@@ -1,13 +1,11 @@
-use borrow.Author.Needs.{needs}
+use Rattle.laws.proofs.Prelude.{needs}
 use Rattle.image.specs.Image.{fixedAt}
-use Rattle.image.proofs.image.fixed_at.Statement.{statement}
-use Rattle.image.proofs.image.fixed_at.Tie as tie
+use Rattle.image.proofs.image.fixed_at.{Statement.statement, Tie.{close, spec}}
 
 pub fixed-at-spec : {M : Type 1} → statement M
 unfolding fixedAt
 fixed-at-spec =
-    tie.close
-    (tie.spec (λ c κs. search needs) (λ c κs. search needs) (λ c κs. search needs) (λ c κs. search needs) (λ c κs. search needs) (λ c κs. search needs)
+    close (spec (λ c κs. search needs) (λ c κs. search needs) (λ c κs. search needs) (λ c κs. search needs) (λ c κs. search needs) (λ c κs. search needs)
     (λ c. simp (
       c .profile-at .ensures,
       c .before .segment-at .ensures,

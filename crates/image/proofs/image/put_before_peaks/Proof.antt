@@ -1,10 +1,8 @@
-use borrow.Author.Needs.{needs}
-use mathlib.Core.Path.{refl}
+use Rattle.laws.proofs.Prelude.{needs, refl}
 use Rattle.words.proofs.Written.{then}
-use Rattle.image.proofs.image.put_before_peaks.Statement.{statement}
-use Rattle.image.proofs.image.put_before_peaks.Tie as tie
+use Rattle.image.proofs.image.put_before_peaks.{Statement.statement, Tie.{Need-returns, close, spec}}
 
-returns : tie.Need-returns
+returns : Need-returns
 returns c =
     let rest = c .before .before in
     let lpf = rest .before .before .before .before in
@@ -19,6 +17,5 @@ returns c =
 
 pub put-before-peaks-spec : {M : Type 1} → statement M
 put-before-peaks-spec =
-    tie.close
-    (tie.spec (λ c. search needs) (λ c κs. search needs) (λ c κs. search needs) (λ c κs. search needs) (λ c κs. search needs) (λ c κs. search needs) (λ c κs. search needs) (λ c κs. search needs) (λ c κs. search needs) (λ c. search needs)
+    close (spec (λ c. search needs) (λ c κs. search needs) (λ c κs. search needs) (λ c κs. search needs) (λ c κs. search needs) (λ c κs. search needs) (λ c κs. search needs) (λ c κs. search needs) (λ c κs. search needs) (λ c. search needs)
     returns)

@@ -1,9 +1,7 @@
-use borrow.Author.Needs.{needs}
-use Rattle.image.proofs.Moved.{moved}
-use Rattle.image.proofs.image.put_moved.Statement.{statement}
-use Rattle.image.proofs.image.put_moved.Tie as tie
+use Rattle.laws.proofs.Prelude.{needs}
+use Rattle.image.proofs.{Moved.moved, image.put_moved.{Statement.statement, Tie.{Need-returns, close, spec}}}
 
-returns : tie.Need-returns
+returns : Need-returns
 returns c =
     let z = c .before .before in
     let y = z .before .before .before .before in
@@ -21,7 +19,7 @@ returns c =
 
 pub put-moved-spec : {M : Type 1} → statement M
 put-moved-spec =
-    tie.close (tie.spec
+    close (spec
     (λ c κs. search needs) (λ c κs. search needs) (λ c κs. search needs) (λ c. search needs) (λ c κs. search needs) (λ c. search needs) (λ c. search needs)
     (λ c κs. search needs) (λ c κs. search needs) (λ c. search needs) (λ c κs. search needs) (λ c. search needs) (λ c. search needs) (λ c κs. search needs)
     (λ c. search needs)

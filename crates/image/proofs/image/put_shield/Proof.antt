@@ -1,12 +1,10 @@
-use borrow.Author.Needs.{needs}
-use mathlib.Core.Path.{refl}
+use Rattle.laws.proofs.Prelude.{needs, refl}
 use Rattle.words.proofs.Written.{then}
-use Rattle.image.proofs.image.put_shield.Statement.{statement}
-use Rattle.image.proofs.image.put_shield.Tie as tie
+use Rattle.image.proofs.image.put_shield.{Statement.statement, Tie.{close, spec}}
 
 pub put-shield-spec : {M : Type 1} → statement M
 put-shield-spec =
-    tie.close (tie.spec
+    close (spec
     (λ c κs. search needs) (λ c κs. search needs) (λ c κs. search needs) (λ c κs. search needs) (λ c. search needs)
     (λ c. (then (then (then (c .before .before .before .before .before .before .before .before .before .before .before .before .before .before .put-set .ensures)
     (c .before .before .before .before .before .before .before .before .before .before .put-float .ensures) refl)

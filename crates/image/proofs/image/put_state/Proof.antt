@@ -1,11 +1,9 @@
-use borrow.Author.Needs.{needs}
-use mathlib.Core.Path.{refl}
+use Rattle.laws.proofs.Prelude.{needs, refl}
 use Rattle.words.proofs.Written.{then, whole}
 use Rattle.image.specs.Image.{imageOf}
-use Rattle.image.proofs.image.put_state.Statement.{statement}
-use Rattle.image.proofs.image.put_state.Tie as tie
+use Rattle.image.proofs.image.put_state.{Statement.statement, Tie.{Need-returns, close, spec}}
 
-returns : tie.Need-returns
+returns : Need-returns
 unfolding imageOf
 returns c =
     let peaks = c .before .before in
@@ -14,4 +12,4 @@ returns c =
     whole (then (rest .put-before-peaks .ensures) (rw (worked .peak-abs-jerk .ensures) at (peaks .put-vec .ensures)) refl) (worked .before .before .before .pre)
 
 pub put-state-spec : {M : Type 1} → statement M
-put-state-spec = tie.close (tie.spec (λ c κs. search needs) (λ c κs. search needs) (λ c κs. search needs) (λ c. search needs) returns)
+put-state-spec = close (spec (λ c κs. search needs) (λ c κs. search needs) (λ c κs. search needs) (λ c. search needs) returns)

@@ -1,11 +1,8 @@
-use borrow.Author.Needs.{needs}
-use native.Mathlib.Omega.{arith}
-use Rattle.image.specs.Parts.{rateAt, lpfAt}
-use Rattle.image.specs.Image.{movingAt}
-use Rattle.image.proofs.image.state_at.Statement.{statement}
-use Rattle.image.proofs.image.state_at.Tie as tie
+use Rattle.laws.proofs.Prelude.{needs, arith}
+use Rattle.image.specs.{Parts.{rateAt, lpfAt}, Image.movingAt}
+use Rattle.image.proofs.image.state_at.{Statement.statement, Tie.{Need-returns, close, spec}}
 
-returns : tie.Need-returns
+returns : Need-returns
 unfolding movingAt rateAt lpfAt
 returns c =
     let rate = c .before .before .before in
@@ -23,5 +20,5 @@ returns c =
     )
 
 pub state-at-spec : {M : Type 1} → statement M
-state-at-spec = tie.close (tie.spec (λ c κs. search needs) (λ c κs. search needs) (λ c κs. search needs) (λ c κs. search needs) (λ c. search needs) (λ c κs. search needs) (λ c. search needs) (λ c. search needs) (λ c κs. search needs) (λ c κs. search needs) (λ c. search needs) (λ c κs. search needs) (λ c. search needs) (λ c. search needs)
+state-at-spec = close (spec (λ c κs. search needs) (λ c κs. search needs) (λ c κs. search needs) (λ c κs. search needs) (λ c. search needs) (λ c κs. search needs) (λ c. search needs) (λ c. search needs) (λ c κs. search needs) (λ c κs. search needs) (λ c. search needs) (λ c κs. search needs) (λ c. search needs) (λ c. search needs)
     (λ c κs. let pre = c .before .before .before .before .before .before .before .before .before .pre in (omega arith, tt)) returns)

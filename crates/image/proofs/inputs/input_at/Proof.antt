@@ -1,12 +1,11 @@
-use borrow.Author.Needs.{needs}
+use Rattle.laws.proofs.Prelude.{needs}
 use Rattle.image.specs.Inputs.{inputAt}
-use Rattle.image.proofs.inputs.input_at.Statement.{statement}
-use Rattle.image.proofs.inputs.input_at.Tie as tie
+use Rattle.image.proofs.inputs.input_at.{Statement.statement, Tie.{close, spec}}
 
 pub input-at-spec : {M : Type 1} → statement M
 unfolding inputAt
 input-at-spec =
-    tie.close (tie.spec
+    close (spec
     (λ c κs. search needs) (λ c κs. search needs) (λ c κs. search needs) (λ c κs. search needs) (λ c κs. search needs) (λ c κs. search needs)
     (λ c κs. search needs) (λ c κs. search needs)
     (λ c. simp (

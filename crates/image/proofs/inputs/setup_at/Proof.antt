@@ -1,13 +1,11 @@
-use borrow.Author.Needs.{needs}
-use native.Mathlib.Omega.{arith}
+use Rattle.laws.proofs.Prelude.{needs, arith}
 use Rattle.image.specs.Inputs.{setupAt}
-use Rattle.image.proofs.inputs.setup_at.Statement.{statement}
-use Rattle.image.proofs.inputs.setup_at.Tie as tie
+use Rattle.image.proofs.inputs.setup_at.{Statement.statement, Tie.{close, spec}}
 
 pub setup-at-spec : {M : Type 1} → statement M
 unfolding setupAt
 setup-at-spec =
-    tie.close (tie.spec
+    close (spec
     (λ c κs. search needs) (λ c κs. search needs) (λ c κs. search needs) (λ c κs. search needs) (λ c κs. search needs) (λ c. search needs)
     (λ c κs. search needs) (λ c. search needs) (λ c κs. search needs) (λ c κs. search needs) (λ c κs. search needs) (λ c. search needs)
     (λ c κs. search needs) (λ c. search needs) (λ c. search needs)

@@ -1,12 +1,11 @@
-use borrow.Author.Needs.{needs}
+use Rattle.laws.proofs.Prelude.{needs}
 use Rattle.image.specs.Parts.{biquadAt}
-use Rattle.image.proofs.parts.biquad_at.Statement.{statement}
-use Rattle.image.proofs.parts.biquad_at.Tie as tie
+use Rattle.image.proofs.parts.biquad_at.{Statement.statement, Tie.{close, spec}}
 
 pub biquad-at-spec : {M : Type 1} → statement M
 unfolding biquadAt
 biquad-at-spec =
-    tie.close (tie.spec
+    close (spec
     (λ c κs. search needs) (λ c. search needs) (λ c κs. search needs) (λ c. search needs) (λ c κs. search needs) (λ c. search needs)
     (λ c κs. search needs) (λ c. search needs) (λ c κs. search needs) (λ c. search needs) (λ c κs. search needs) (λ c. search needs)
     (λ c κs. search needs) (λ c. search needs) (λ c κs. search needs) (λ c. search needs) (λ c κs. search needs)

@@ -1,12 +1,11 @@
-use borrow.Author.Needs.{needs}
+use Rattle.laws.proofs.Prelude.{needs}
 use Rattle.image.specs.Parts.{legAt}
-use Rattle.image.proofs.parts.leg_at.Statement.{statement}
-use Rattle.image.proofs.parts.leg_at.Tie as tie
+use Rattle.image.proofs.parts.leg_at.{Statement.statement, Tie.{close, spec}}
 
 pub leg-at-spec : {M : Type 1} → statement M
 unfolding legAt
 leg-at-spec =
-    tie.close (tie.spec
+    close (spec
     (λ c κs. search needs) (λ c. search needs) (λ c κs. search needs) (λ c. search needs) (λ c κs. search needs) (λ c. search needs)
     (λ c κs. search needs) (λ c. search needs) (λ c κs. search needs) (λ c. search needs) (λ c κs. search needs) (λ c. search needs)
     (λ c κs. search needs)

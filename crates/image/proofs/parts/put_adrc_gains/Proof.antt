@@ -1,12 +1,10 @@
-use borrow.Author.Needs.{needs}
-use mathlib.Core.Path.{refl}
+use Rattle.laws.proofs.Prelude.{needs, refl}
 use Rattle.words.proofs.Written.{then}
-use Rattle.image.proofs.parts.put_adrc_gains.Statement.{statement}
-use Rattle.image.proofs.parts.put_adrc_gains.Tie as tie
+use Rattle.image.proofs.parts.put_adrc_gains.{Statement.statement, Tie.{close, spec}}
 
 pub put-adrc-gains-spec : {M : Type 1} → statement M
 put-adrc-gains-spec =
-    tie.close (tie.spec
+    close (spec
     (λ c κs. search needs) (λ c. search needs) (λ c κs. search needs) (λ c. search needs)
     (λ c. (then (c .before .before .before .before .before .before .put-three .ensures)
     (c .before .before .put-float .ensures) refl)))

@@ -1,12 +1,10 @@
-use borrow.Author.Needs.{needs}
-use mathlib.Core.Path.{refl}
+use Rattle.laws.proofs.Prelude.{needs, refl}
 use Rattle.words.proofs.Written.{then}
-use Rattle.image.proofs.parts.put_axis.Statement.{statement}
-use Rattle.image.proofs.parts.put_axis.Tie as tie
+use Rattle.image.proofs.parts.put_axis.{Statement.statement, Tie.{close, spec}}
 
 pub put-axis-spec : {M : Type 1} → statement M
 put-axis-spec =
-    tie.close (tie.spec
+    close (spec
     (λ c κs. search needs) (λ c. search needs) (λ c κs. search needs) (λ c. search needs)
     (λ c. (then (c .before .before .before .before .before .before .put-axis-moved .ensures)
     (c .before .before .put-adrc-gains .ensures) refl)))

@@ -1,13 +1,10 @@
-use borrow.Author.Needs.{needs}
-use native.Mathlib.Omega.{arith}
-use mathlib.Core.Path.{refl}
+use Rattle.laws.proofs.Prelude.{needs, arith, refl}
 use Rattle.words.proofs.Written.{then}
-use Rattle.image.proofs.parts.put_lpf.Statement.{statement}
-use Rattle.image.proofs.parts.put_lpf.Tie as tie
+use Rattle.image.proofs.parts.put_lpf.{Statement.statement, Tie.{close, spec}}
 
 pub put-lpf-spec : {M : Type 1} → statement M
 put-lpf-spec =
-    tie.close (tie.spec
+    close (spec
     (λ c κs. search needs) (λ c. search needs) (λ c κs. search needs) (λ c. search needs) (λ c. search needs) (λ c κs. search needs)
     (λ c. search needs)
     (λ c. (then (then (c .before .before .before .before .before .before .before .before .before .before .put-biquad .ensures)

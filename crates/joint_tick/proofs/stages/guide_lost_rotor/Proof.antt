@@ -1,9 +1,7 @@
-use borrow.Author.Needs.{needs}
-use Rattle.joint_tick.proofs.Once.{guided-lost-once}
-use Rattle.joint_tick.proofs.stages.guide_lost_rotor.Statement.{statement}
-use Rattle.joint_tick.proofs.stages.guide_lost_rotor.Tie as tie
+use Rattle.laws.proofs.Prelude.{needs}
+use Rattle.joint_tick.proofs.{Once.guided-lost-once, stages.guide_lost_rotor.{Statement.statement, Tie.{Need-returns, close, spec}}}
 
-returns : tie.Need-returns
+returns : Need-returns
 returns c =
     let m = c .before in
     let p = m .before .before in
@@ -15,5 +13,4 @@ returns c =
 
 pub guide-lost-rotor-spec : {M : Type 1} → statement M
 guide-lost-rotor-spec =
-    tie.close
-    (tie.spec (λ c κs. search needs) (λ c κs. search needs) (λ c κs. search needs) (λ c κs. search needs) (λ c κs. search needs) (λ c κs. search needs) (λ c κs. search needs) (λ c κs. search needs) returns)
+    close (spec (λ c κs. search needs) (λ c κs. search needs) (λ c κs. search needs) (λ c κs. search needs) (λ c κs. search needs) (λ c κs. search needs) (λ c κs. search needs) (λ c κs. search needs) returns)

@@ -1,9 +1,7 @@
-use borrow.Author.Needs.{needs}
-use Rattle.joint_tick.proofs.Once.{guided-once}
-use Rattle.joint_tick.proofs.stages.guide_whole.Statement.{statement}
-use Rattle.joint_tick.proofs.stages.guide_whole.Tie as tie
+use Rattle.laws.proofs.Prelude.{needs}
+use Rattle.joint_tick.proofs.{Once.guided-once, stages.guide_whole.{Statement.statement, Tie.{Need-returns, close, spec}}}
 
-returns : tie.Need-returns
+returns : Need-returns
 returns c =
     let m = c .before in
     let e = m .before .before in
@@ -16,5 +14,4 @@ returns c =
 
 pub guide-whole-spec : {M : Type 1} → statement M
 guide-whole-spec =
-    tie.close
-    (tie.spec (λ c κs. search needs) (λ c κs. search needs) (λ c κs. search needs) (λ c κs. search needs) (λ c κs. search needs) (λ c κs. search needs) (λ c κs. search needs) (λ c κs. search needs) (λ c κs. search needs) (λ c κs. search needs) (λ c κs. search needs) (λ c κs. search needs) returns)
+    close (spec (λ c κs. search needs) (λ c κs. search needs) (λ c κs. search needs) (λ c κs. search needs) (λ c κs. search needs) (λ c κs. search needs) (λ c κs. search needs) (λ c κs. search needs) (λ c κs. search needs) (λ c κs. search needs) (λ c κs. search needs) (λ c κs. search needs) returns)

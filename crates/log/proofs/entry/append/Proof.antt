@@ -1,21 +1,16 @@
 -- `log::entry::append`: refused as it stands, or the record, then the trailer. Assumes nothing.
-use borrow.Author.Needs.{needs}
-use mathlib.Core.Path.{sym}
-use lib.Seq.{length-take-le}
+use Rattle.laws.proofs.Prelude.{needs, sym, length-take-le}
 use Rattle.outcome.proofs.Tables.{accepted, refused}
 use Rattle.log.specs.Entry.{appendCall}
-use Rattle.log.proofs.Taken.{is-a-log, taken, written}
-use Rattle.log.proofs.entry.append.Statement.{statement}
-use Rattle.log.proofs.entry.append.Tie as tie
+use Rattle.log.proofs.{Taken.{is-a-log, taken, written}, entry.append.{Statement.statement, Tie.{Need-returns, close, spec}}}
 
-stays : tie.Need-returns
+stays : Need-returns
 unfolding appendCall
 stays c = refused (c .before .before .append-refusal .ensures) (c .before .is-done .ensures) (c .if1 .taken) _
 
 pub append-spec : {M : Type 1} → statement M
 append-spec =
-    tie.close
-    (tie.spec (λ c κs. search needs) (λ c κs. search needs) (λ c. search needs)
+    close (spec (λ c κs. search needs) (λ c κs. search needs) (λ c. search needs)
     stays
     (λ c. taken _ _ _ _ (accepted (c .before .before .append-refusal .ensures) (c .before .is-done .ensures) (c .if1 .left)) .within)
     (λ c.

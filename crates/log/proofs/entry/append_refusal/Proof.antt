@@ -1,17 +1,12 @@
 -- `log::entry::append_refusal`: the tests in their order. Assumes nothing.
-use borrow.Author.Needs.{needs}
-use borrow.Author.Tests.{lt-ltb, le-ltb, eq-eqb, ne-eqb, not-true, not-false}
-use mathlib.Core.Path.{sym, _∙_}
-use lib.Seq.{length-take-le}
+use Rattle.laws.proofs.Prelude.{needs, lt-ltb, le-ltb, eq-eqb, ne-eqb, not-true, not-false, sym, _∙_, length-take-le}
 use Rattle.log.specs.Entry.{appendRefusal}
-use Rattle.log.proofs.Taken.{is-a-log}
-use Rattle.log.proofs.entry.append_refusal.Statement.{statement}
-use Rattle.log.proofs.entry.append_refusal.Tie as tie
+use Rattle.log.proofs.{Taken.is-a-log, entry.append_refusal.{Statement.statement, Tie.{close, spec}}}
 
 pub append-refusal-spec : {M : Type 1} → statement M
 unfolding appendRefusal
 append-refusal-spec =
-    tie.close (tie.spec
+    close (spec
     (λ c. simp (ne-eqb _ _ (c .if1 .taken)))
     (λ c. simp (ne-eqb _ _ (c .if2 .taken), eq-eqb _ _ (c .before .if1 .left)))
     (λ c. simp (lt-ltb _ _ (c .if3 .taken), eq-eqb _ _ (c .before .if2 .left), eq-eqb _ _ (c .before .before .if1 .left)))

@@ -1,13 +1,10 @@
 -- `log::entry::put_record`: the input, the answer and the trailer, one after another. Assumes nothing.
-use borrow.Author.Needs.{needs}
-use Rattle.log.proofs.Taken.{recorded}
-use Rattle.log.proofs.entry.put_record.Statement.{statement}
-use Rattle.log.proofs.entry.put_record.Tie as tie
+use Rattle.laws.proofs.Prelude.{needs}
+use Rattle.log.proofs.{Taken.recorded, entry.put_record.{Statement.statement, Tie.{close, spec}}}
 
 pub put-record-spec : {M : Type 1} → statement M
 put-record-spec =
-    tie.close
-    (tie.spec (λ c. search needs)
+    close (spec (λ c. search needs)
     (λ c κs. search needs) (λ c. search needs) (λ c κs. search needs) (λ c. search needs) (λ c. search needs) (λ c κs. search needs)
     (λ c. search needs)
     (λ c.

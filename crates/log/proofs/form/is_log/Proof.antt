@@ -1,14 +1,12 @@
 -- `log::form::is_log`: the tests in their order. Assumes nothing.
-use borrow.Author.Needs.{needs}
-use borrow.Author.Tests.{lt-leb, le-leb, eq-eqb, ne-eqb}
+use Rattle.laws.proofs.Prelude.{needs, lt-leb, le-leb, eq-eqb, ne-eqb}
 use Rattle.log.specs.Form.{isLog}
-use Rattle.log.proofs.form.is_log.Statement.{statement}
-use Rattle.log.proofs.form.is_log.Tie as tie
+use Rattle.log.proofs.form.is_log.{Statement.statement, Tie.{close, spec}}
 
 pub is-log-spec : {M : Type 1} → statement M
 unfolding isLog
 is-log-spec =
-    tie.close (tie.spec
+    close (spec
     (λ c. simp (lt-leb _ _ (c .if1 .taken)))
     (λ c κs. search needs)
     (λ c. simp (

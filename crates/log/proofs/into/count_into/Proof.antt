@@ -1,18 +1,12 @@
-use borrow.Author.Needs.{needs}
-use borrow.Author.Tests.{eq-eqb, ne-eqb, not-true, not-false}
-use mathlib.Core.Path.{sym, _∙_}
-use native.Mathlib.Omega.{arith}
+use Rattle.laws.proofs.Prelude.{needs, eq-eqb, ne-eqb, not-true, not-false, sym, _∙_, arith}
 use Rattle.words.proofs.Written.{whole}
 use Rattle.log.specs.Entry.{countCall}
-use Rattle.log.proofs.Taken.{is-a-log}
-use Rattle.log.proofs.into.count_into.Statement.{statement}
-use Rattle.log.proofs.into.count_into.Tie as tie
+use Rattle.log.proofs.{Taken.is-a-log, into.count_into.{Statement.statement, Tie.{close, spec}}}
 
 pub count-into-spec : {M : Type 1} → statement M
 unfolding countCall
 count-into-spec =
-    tie.close
-    (tie.spec
+    close (spec
     (λ c. simp (ne-eqb _ _ (c .if1 .taken)))
     (λ c κs. search needs)
     (λ c. let i = c .before in simp (← i .is-log .ensures, not-true (i .is-log .result) (c .if2 .taken), eq-eqb _ _ (i .before .if1 .left)))

@@ -1,20 +1,13 @@
 -- `log::into::record_into`: the tests in their order, then what the reader hands out. Assumes nothing.
-use borrow.Author.Needs.{needs}
-use borrow.Author.Tests.{eq-eqb, ne-eqb, not-true, not-false}
-use mathlib.Core.Path.{_≡_, sym, _∙_, ap}
-use native.Mathlib.Omega.{arith}
-use lib.ListN.{length}
+use Rattle.laws.proofs.Prelude.{needs, eq-eqb, ne-eqb, not-true, not-false, _≡_, sym, _∙_, ap, arith, length}
 use Rattle.words.proofs.Written.{over-all}
 use Rattle.log.specs.Entry.{recordCall}
-use Rattle.log.proofs.Taken.{record-length, handed}
-use Rattle.log.proofs.into.record_into.Statement.{statement}
-use Rattle.log.proofs.into.record_into.Tie as tie
+use Rattle.log.proofs.{Taken.{record-length, handed}, into.record_into.{Statement.statement, Tie.{close, spec}}}
 
 pub record-into-spec : {M : Type 1} → statement M
 unfolding recordCall
 record-into-spec =
-    tie.close
-    (tie.spec
+    close (spec
     (λ c. simp (ne-eqb _ _ (c .if1 .taken)))
     (λ c κs. search needs)
     (λ c. let i = c .before in simp (← i .is-log .ensures, not-true (i .is-log .result) (c .if2 .taken), eq-eqb _ _ (i .before .if1 .left)))

@@ -1,23 +1,20 @@
 -- `log::reader::has_next` meets its contract: a walk of its MIR, by hand. The reader is taken apart, and `has_record` is called on the log and the place.
 -- Assumes nothing.
-use mathlib.Core.Path.{_≡_, refl}
-use mathlib.Core.Bool.{Bool}
-use mathlib.Core.List.{[], _∷_}
+use Rattle.laws.proofs.Prelude.{_≡_, refl, Bool, [], _∷_}
 use lib.Dec.{T as Holds}
+use Rattle.laws.proofs.Walk.{URA, named, w64, Val, WT, hasTy, vint, SProp, ent, emp, via, fst∗, snd∗, exE, id⊢, Lft, Share, ftrue, flft, Memory, Routine, Heap, Calls, Loops, WpFn, Tables, Atoms, sem}
+use Rattle.laws.proofs.Walk.{Fun, fact, givenOf, tables, tablesOf, FmC, fmOf, WpFn-mono, Given, ‵, raw, _⊛_, ⋆, some, later, _$_, _∵_, !, qed, by, move, use1, split, join, pick, fjoin, suffices}
+use Rattle.laws.proofs.Walk.{frame, await, done, whole, sub, look-in, look, init, forget, stop, fld, from, load, of-opd, and-then, no-more, assigns, land, returns, enter, alloc1, alloc0, params1}
+use Rattle.laws.proofs.Walk.{pass1, pass0, free1, free0, peeks, heard, nothing, calls-at, Is, shows, bool-lawful, bool, now, namedLft, Contract, Triple, onEntry, Meets, tripleOf, entered, cited, says}
+use Rattle.laws.proofs.Walk.{Stays, stay-none, walkOf, goes-none, Walks, ends-at, walked, walk-meets, yes, ensured, lasts}
+use Rattle.log.specs.{Records.hasRecord, declared.reader.Reader.Reader}
+use Rattle.log.proofs.{Apart.{B, mach, log-val, Own, Parts, With, apart}, record.has_record.Symbol.name as #callee, reader.has_next.Key.name as #has-next}
 use denote.Struct.Laws as LL
-use Rattle.laws.proofs.Walk.{URA, named, w64, Val, WT, hasTy, vint, SProp, ent, emp, via, fst∗, snd∗, exE, id⊢, Lft, Share, ftrue, flft, Memory, Routine, Heap, Calls, Loops, WpFn, Tables, Atoms, sem, Fun, fact, givenOf, tables, tablesOf, FmC, fmOf, WpFn-mono}
-use Rattle.laws.proofs.Walk.{Given, ‵, raw, _⊛_, ⋆, some, later, _$_, _∵_, !, qed, by, move, use1, split, join, pick, fjoin, suffices, frame, await, done, whole, sub, look-in, look, init, forget, stop, fld, from, load, of-opd, and-then, no-more, assigns, land, returns, enter, alloc1, alloc0, params1, pass1, pass0, free1, free0, peeks, heard, nothing, calls-at}
-use Rattle.laws.proofs.Walk.{Is, shows, bool-lawful, bool, now, namedLft, Contract, Triple, onEntry, Meets, tripleOf, entered, cited, says, Stays, stay-none, walkOf, goes-none, Walks, ends-at, walked, walk-meets, yes, ensured, lasts}
-use Rattle.log.specs.Records.{hasRecord}
-use Rattle.log.specs.declared.reader.Reader.{Reader}
-use Rattle.log.proofs.Apart.{B, mach, log-val, Own, Parts, With, apart}
 use Rattle.log.proofs.reader.Reader as T
 use Rattle.log.proofs.reader.Reader.Laws as T′
 use Rattle.log.proofs.record.has_record as callee
 use Rattle.log.proofs.record.has_record.Symbol as callee-def
-use Rattle.log.proofs.record.has_record.Symbol.{name as #callee}
 use Rattle.log.proofs.record.has_record.Met as callee-thm
-use Rattle.log.proofs.reader.has_next.Key.{name as #has-next}
 use Rattle.log.proofs.reader.has_next as has-next
 use Rattle.log.proofs.reader.has_next.Statement as stated
 use Rattle.log.proofs.reader.has_next.Code as code

@@ -1,24 +1,21 @@
 -- `log::reader::next` meets its contract: a walk of its MIR, by hand. The reader is taken apart, and `record_at` is called on the log and the place.
 -- What it hands out, a part of the log, is handed on.
 -- Assumes nothing.
-use mathlib.Core.Path.{_≡_, refl}
-use Prim.Native.Nat.{ℕ}
-use mathlib.Core.List.{List, [], _∷_}
+use Rattle.laws.proofs.Prelude.{_≡_, refl, ℕ, List, [], _∷_}
 use lib.Dec.{T as Holds}
+use Rattle.laws.proofs.Walk.{URA, named, w64, Val, WT, hasTy, vint, SProp, ent, emp, via, fst∗, snd∗, exE, id⊢, Lft, Share, ftrue, flft, Memory, Routine, Heap, Calls, Loops, WpFn, Tables, Atoms, sem}
+use Rattle.laws.proofs.Walk.{Fun, fact, givenOf, tables, tablesOf, FmC, fmOf, WpFn-mono, Given, ‵, raw, _⊛_, ⋆, some, later, _$_, _∵_, !, qed, by, move, use1, split, join, pick, fjoin, suffices}
+use Rattle.laws.proofs.Walk.{frame, await, done, whole, sub, look-in, look, init, forget, stop, fld, from, load, of-opd, and-then, no-more, assigns, land, returns, enter, alloc1, alloc0, params1}
+use Rattle.laws.proofs.Walk.{pass1, pass0, free1, free0, peeks, heard, nothing, calls-at, RattleType, Is, shows, u8, RefT, now, namedLft, ShrSlice, shr-slice-lawful, Contract, Triple, onEntry, Meets}
+use Rattle.laws.proofs.Walk.{tripleOf, entered, cited, says, Stays, stay-none, walkOf, goes-none, Walks, ends-at, walked, walk-meets, yes, ensured, lasts}
+use Rattle.log.specs.{Records.recordAt, declared.reader.Reader.Reader}
+use Rattle.log.proofs.{Apart.{B, mach, log-val, Own, Parts, With, apart}, record.record_at.Symbol.name as #callee, reader.next.Key.name as #next}
 use denote.Struct.Laws as LL
-use Rattle.laws.proofs.Walk.{URA, named, w64, Val, WT, hasTy, vint, SProp, ent, emp, via, fst∗, snd∗, exE, id⊢, Lft, Share, ftrue, flft, Memory, Routine, Heap, Calls, Loops, WpFn, Tables, Atoms, sem, Fun, fact, givenOf, tables, tablesOf, FmC, fmOf, WpFn-mono}
-use Rattle.laws.proofs.Walk.{Given, ‵, raw, _⊛_, ⋆, some, later, _$_, _∵_, !, qed, by, move, use1, split, join, pick, fjoin, suffices, frame, await, done, whole, sub, look-in, look, init, forget, stop, fld, from, load, of-opd, and-then, no-more, assigns, land, returns, enter, alloc1, alloc0, params1, pass1, pass0, free1, free0, peeks, heard, nothing, calls-at}
-use Rattle.laws.proofs.Walk.{RattleType, Is, shows, u8, RefT, now, namedLft, ShrSlice, shr-slice-lawful, Contract, Triple, onEntry, Meets, tripleOf, entered, cited, says, Stays, stay-none, walkOf, goes-none, Walks, ends-at, walked, walk-meets, yes, ensured, lasts}
-use Rattle.log.specs.Records.{recordAt}
-use Rattle.log.specs.declared.reader.Reader.{Reader}
-use Rattle.log.proofs.Apart.{B, mach, log-val, Own, Parts, With, apart}
 use Rattle.log.proofs.reader.Reader as T
 use Rattle.log.proofs.reader.Reader.Laws as T′
 use Rattle.log.proofs.record.record_at as callee
 use Rattle.log.proofs.record.record_at.Symbol as callee-def
-use Rattle.log.proofs.record.record_at.Symbol.{name as #callee}
 use Rattle.log.proofs.record.record_at.Met as callee-thm
-use Rattle.log.proofs.reader.next.Key.{name as #next}
 use Rattle.log.proofs.reader.next as next
 use Rattle.log.proofs.reader.next.Statement as stated
 use Rattle.log.proofs.reader.next.Code as code

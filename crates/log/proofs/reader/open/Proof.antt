@@ -1,16 +1,15 @@
 -- `log::reader::open` meets its contract: a walk of its MIR, by hand. A reader is made of the log and the place, in the result's local.
 -- A `&[u8]` is Copy, so what it owns is had twice: once for the log at exit, and once inside the result, beside the facts of the place. Assumes nothing.
-use mathlib.Core.Path.{refl}
-use Prim.Native.Nat.{ℕ, _<_, _^_}
-use mathlib.Core.List.{List, [], _∷_}
-use lib.ListN.{length}
-use Rattle.laws.proofs.Walk.{URA, named, w64, Val, vint, SProp, ent, emp, via, fst∗, Lft, Share, Fml, ftrue, flft, Memory, Routine, Heap, Calls, Loops, WpFn, Tables, Atoms, Fun, givenOf, tables, tablesOf, WpFn-mono}
-use Rattle.laws.proofs.Walk.{Given, ‵, raw, _⊛_, _$_, _∵_, !, qed, by, move, use1, split, fsplit, fjoin, suffices, frame, agg, look, init, forget, stop, from, load, and-then, no-more, assigns, returns, enter, alloc1, alloc0, params1, pass1, pass0, free1, free0, nothing, owned}
-use Rattle.laws.proofs.Walk.{owns, Is, uint-vals, uint-tells, uint-makes, u8, usize, RefT, NamedLft, plain, namedLft, sliceVal, ShrSlice, slice-vals, shr-slice-tells, shr-slice-lawful, shr-slice-copy, own-shut, Vals, onEntry, Meets, tripleOf, entered, says, Stays, stay-none, stay-none-slice, walkOf, goes-none, goes-none-slice, Walks, ends-at, walked, walk-meets, yes}
+use Rattle.laws.proofs.Prelude.{refl, ℕ, _<_, _^_, List, [], _∷_, length}
+use Rattle.laws.proofs.Walk.{URA, named, w64, Val, vint, SProp, ent, emp, via, fst∗, Lft, Share, Fml, ftrue, flft, Memory, Routine, Heap, Calls, Loops, WpFn, Tables, Atoms, Fun, givenOf, tables}
+use Rattle.laws.proofs.Walk.{tablesOf, WpFn-mono, Given, ‵, raw, _⊛_, _$_, _∵_, !, qed, by, move, use1, split, fsplit, fjoin, suffices, frame, agg, look, init, forget, stop, from, load, and-then}
+use Rattle.laws.proofs.Walk.{no-more, assigns, returns, enter, alloc1, alloc0, params1, pass1, pass0, free1, free0, nothing, owned, owns, Is, uint-vals, uint-tells, uint-makes, u8, usize, RefT}
+use Rattle.laws.proofs.Walk.{NamedLft, plain, namedLft, sliceVal, ShrSlice, slice-vals, shr-slice-tells, shr-slice-lawful, shr-slice-copy, own-shut, Vals, onEntry, Meets, tripleOf, entered, says}
+use Rattle.laws.proofs.Walk.{Stays, stay-none, stay-none-slice, walkOf, goes-none, goes-none-slice, Walks, ends-at, walked, walk-meets, yes}
 use Rattle.log.specs.declared.reader.Reader.{Reader}
+use Rattle.log.proofs.reader.open.Key.{name as #open}
 use Rattle.log.proofs.reader.Reader as T
 use Rattle.log.proofs.reader.Reader.Laws as T′
-use Rattle.log.proofs.reader.open.Key.{name as #open}
 use Rattle.log.proofs.reader.open as opened
 use Rattle.log.proofs.reader.open.Statement as stated
 use Rattle.log.proofs.reader.open.Code as code

@@ -1,27 +1,23 @@
 -- `log::reader::read` meets its contract: a walk of its MIR, by hand. The reader that `open` returns is held in a local and passed to `next`. In a local MIR
 -- erases the lifetime of the struct's type, so its value is shown to have the type at `erased`. Assumes nothing.
-use mathlib.Core.Path.{_≡_, refl, ap, _∙_}
-use Prim.Native.Nat.{ℕ, _<_, _^_}
-use mathlib.Core.List.{List, [], _∷_}
-use lib.ListN.{length}
+use Rattle.laws.proofs.Prelude.{_≡_, refl, ap, _∙_, ℕ, _<_, _^_, List, [], _∷_, length}
+use Rattle.laws.proofs.Walk.{URA, named, erased, w64, Val, vint, SProp, ent, sep, emp, via, fst∗, snd∗, exE, id⊢, Lft, Share, Fml, ftrue, flft, Memory, Routine, Heap, Calls, Loops, WpFn, Tables}
+use Rattle.laws.proofs.Walk.{Atoms, sem, Fun, fact, givenOf, tables, tablesOf, FmC, fmOf, WpFn-mono, Given, ‵, raw, _⊛_, ⋆, some, later, _$_, _∵_, !, qed, by, move, use1, use2, split, join, pick}
+use Rattle.laws.proofs.Walk.{fsplit, fjoin, suffices, frame, await, done, look, init, forget, stop, from, load, and-then, no-more, land, returns, enter, alloc1, alloc0, params1, pass1, pass0, free1}
+use Rattle.laws.proofs.Walk.{free0, peeks, heard, owned, nothing, calls-at, RattleType, owns, Is, shows, uint-vals, uint-tells, uint-makes, u8, usize, RefT, NamedLft, now, plain, sliceVal, ShrSlice}
+use Rattle.laws.proofs.Walk.{slice-vals, shr-slice-tells, shr-slice-lawful, shr-slice-copy, Contract, Triple, Vals, onEntry, Meets, tripleOf, entered, cited, says, Stays, stay-none, stay-none-slice}
+use Rattle.laws.proofs.Walk.{walkOf, goes-none, goes-none-slice, Walks, ends-at, walked, walk-meets, yes, ensured, lasts}
+use Rattle.log.specs.{Records.recordAt, declared.reader.Reader.Reader}
+use Rattle.log.proofs.{Apart.B, reader.{open.Symbol.name as #open, next.Symbol.name as #next, read.Key.name as #read}}
 use denote.Struct.Laws as LL
-use Rattle.laws.proofs.Walk.{URA, named, erased, w64, Val, vint, SProp, ent, sep, emp, via, fst∗, snd∗, exE, id⊢, Lft, Share, Fml, ftrue, flft, Memory, Routine, Heap, Calls, Loops, WpFn, Tables, Atoms, sem, Fun, fact, givenOf, tables, tablesOf, FmC, fmOf, WpFn-mono}
-use Rattle.laws.proofs.Walk.{Given, ‵, raw, _⊛_, ⋆, some, later, _$_, _∵_, !, qed, by, move, use1, use2, split, join, pick, fsplit, fjoin, suffices, frame, await, done, look, init, forget, stop, from, load, and-then, no-more, land, returns, enter, alloc1, alloc0, params1, pass1, pass0, free1, free0, peeks, heard, owned, nothing, calls-at}
-use Rattle.laws.proofs.Walk.{RattleType, owns, Is, shows, uint-vals, uint-tells, uint-makes, u8, usize, RefT, NamedLft, now, plain, sliceVal, ShrSlice, slice-vals, shr-slice-tells, shr-slice-lawful, shr-slice-copy, Contract, Triple, Vals, onEntry, Meets, tripleOf, entered, cited, says, Stays, stay-none, stay-none-slice, walkOf, goes-none, goes-none-slice, Walks, ends-at, walked, walk-meets, yes, ensured, lasts}
-use Rattle.log.specs.Records.{recordAt}
-use Rattle.log.specs.declared.reader.Reader.{Reader}
-use Rattle.log.proofs.Apart.{B}
 use Rattle.log.proofs.reader.Reader as T
 use Rattle.log.proofs.reader.Reader.Laws as T′
 use Rattle.log.proofs.reader.open as opened
 use Rattle.log.proofs.reader.open.Symbol as open-def
-use Rattle.log.proofs.reader.open.Symbol.{name as #open}
 use Rattle.log.proofs.reader.open.Met as open-thm
 use Rattle.log.proofs.reader.next as next
 use Rattle.log.proofs.reader.next.Symbol as next-def
-use Rattle.log.proofs.reader.next.Symbol.{name as #next}
 use Rattle.log.proofs.reader.next.Met as next-thm
-use Rattle.log.proofs.reader.read.Key.{name as #read}
 use Rattle.log.proofs.reader.read as read
 use Rattle.log.proofs.reader.read.Statement as stated
 use Rattle.log.proofs.reader.read.Code as code

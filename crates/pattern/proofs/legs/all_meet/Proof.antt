@@ -1,22 +1,16 @@
 -- `pattern::legs::all_meet`: the joins from leg i on decide, as all of them do. Assumes nothing.
-use borrow.Author.Needs.{needs}
-use borrow.Author.Tests.{not-true, not-false}
-use mathlib.Core.Path.{_≡_, refl, sym, _∙_}
-use Prim.Native.Nat.{_-_, _≤_}
-use native.Mathlib.Omega.{arith}
-use lib.ListN.{drop}
+use Rattle.laws.proofs.Prelude.{needs, not-true, not-false, _≡_, refl, sym, _∙_, _-_, _≤_, arith, drop}
 use Rattle.pattern.specs.Entry.{allMeet}
-use Rattle.pattern.proofs.Found.{legsAt, leg-long, joins, meet-on, meet-stops, meet-ends}
-use Rattle.pattern.proofs.legs.all_meet.Statement.{statement}
-use Rattle.pattern.proofs.legs.all_meet.Tie as tie
+use Rattle.pattern.proofs.{Found.{legsAt, leg-long, joins, meet-on, meet-stops, meet-ends}, legs.all_meet.Statement.statement}
+use Rattle.pattern.proofs.legs.all_meet.Tie.{InvT-loop, MeasureT-loop, Need-legs-meet-requires, Need-returns, Need-loop-again, Need-returns-2, close, spec}
 
-abbrev Inv-loop : tie.InvT-loop
+abbrev Inv-loop : InvT-loop
 Inv-loop b places count i₀ i = (1 ≤ i) × (allMeet (drop (i - 1) (legsAt b places count)) ≡ allMeet (legsAt b places count))
 
-abbrev μ-loop : tie.MeasureT-loop
+abbrev μ-loop : MeasureT-loop
 μ-loop b places count i₀ i = count - i
 
-legs-meet-requires : tie.Need-legs-meet-requires Inv-loop μ-loop
+legs-meet-requires : Need-legs-meet-requires Inv-loop μ-loop
 legs-meet-requires c κs =
     let first = c .before .before in
     let turn = first .before .before in
@@ -26,7 +20,7 @@ legs-meet-requires c κs =
     let two = leg-long _ _ _ pre i (turn .loop-test .taken) (c .leg-in2 .ensures) in
     (omega (arith, one), omega (arith, two))
 
-returns : tie.Need-returns Inv-loop μ-loop
+returns : Need-returns Inv-loop μ-loop
 returns c =
     let met = c .before in
     let second = met .before in
@@ -37,7 +31,7 @@ returns c =
     (joins (first .leg-in .ensures) (second .leg-in2 .ensures) (met .legs-meet .ensures) ∙ not-true (met .legs-meet .result) (c .if1 .taken)))
     ∙ turn .before .loop .inv .1
 
-loop-again : tie.Need-loop-again Inv-loop μ-loop
+loop-again : Need-loop-again Inv-loop μ-loop
 loop-again c =
     let met = c .before in
     let second = met .before in
@@ -50,15 +44,14 @@ loop-again c =
           ∙ turn .before .loop .inv .1,
     )
 
-returns-2 : tie.Need-returns-2 Inv-loop μ-loop
+returns-2 : Need-returns-2 Inv-loop μ-loop
 returns-2 c =
     let inv = c .before .loop .inv in
     sym (meet-ends _ _ _ (c .before .before .before .before .pre .few) _ (inv .0) (c .loop-test .left)) ∙ inv .1
 
 pub all-meet-spec : {M : Type 1} → statement M
 all-meet-spec =
-    tie.close
-    (tie.spec Inv-loop μ-loop
+    close (spec Inv-loop μ-loop
     (λ c. (omega arith, refl))
     (λ c. omega arith)
     (λ c. search needs)

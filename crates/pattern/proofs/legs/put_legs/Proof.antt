@@ -1,26 +1,20 @@
 -- `pattern::legs::put_legs`: after i turns the first i legs are written. Assumes nothing.
-use borrow.Author.Needs.{needs}
-use mathlib.Core.Path.{_≡_, refl, _∙_}
-use Prim.Native.Nat.{_-_, _≤_}
-use native.Mathlib.Omega.{arith}
-use lib.ListN.{length, take}
-use lib.Seq.{sets}
+use Rattle.laws.proofs.Prelude.{needs, _≡_, refl, _∙_, _-_, _≤_, arith, length, take, sets}
 use Rattle.pattern.specs.Entry.{joined}
-use Rattle.pattern.proofs.Found.{legsAt, leg-long, put-one-more, all-put}
-use Rattle.pattern.proofs.legs.put_legs.Statement.{statement}
-use Rattle.pattern.proofs.legs.put_legs.Tie as tie
+use Rattle.pattern.proofs.{Found.{legsAt, leg-long, put-one-more, all-put}, legs.put_legs.Statement.statement}
+use Rattle.pattern.proofs.legs.put_legs.Tie.{InvT-loop, MeasureT-loop, Need-loop-holds, Need-put-bytes-requires, Need-loop-again, close, spec}
 
-abbrev Inv-loop : tie.InvT-loop
+abbrev Inv-loop : InvT-loop
 Inv-loop b places count route₀ i₀ route i = (i ≤ count) × (length route ≡ length route₀) × (route ≡ sets route₀ 0 (joined (take i (legsAt b places count))))
 
-abbrev μ-loop : tie.MeasureT-loop
+abbrev μ-loop : MeasureT-loop
 μ-loop b places count route₀ i₀ route i = count - i
 
-loop-holds : tie.Need-loop-holds Inv-loop μ-loop
+loop-holds : Need-loop-holds Inv-loop μ-loop
 unfolding joined
 loop-holds c = (omega arith, refl, refl)
 
-put-bytes-requires : tie.Need-put-bytes-requires Inv-loop μ-loop
+put-bytes-requires : Need-put-bytes-requires Inv-loop μ-loop
 put-bytes-requires c κs =
     let turn = c .before .before .before in
     let pre = turn .before .before .before .before .before .pre in
@@ -28,7 +22,7 @@ put-bytes-requires c κs =
     let inv = turn .before .loop .inv in
     omega (arith, l, inv .1, pre .1, turn .loop-test .taken)
 
-loop-again : tie.Need-loop-again Inv-loop μ-loop
+loop-again : Need-loop-again Inv-loop μ-loop
 loop-again c =
     let put = c .before .before in
     let turn = put .before .before .before .before in
@@ -38,8 +32,7 @@ loop-again c =
 
 pub put-legs-spec : {M : Type 1} → statement M
 put-legs-spec =
-    tie.close
-    (tie.spec Inv-loop μ-loop
+    close (spec Inv-loop μ-loop
     loop-holds
     (λ c. search needs)
     (λ c. search needs)

@@ -1,19 +1,15 @@
 -- `pattern::legs::put_route`: the two tests in their order, then the legs, the trailer and the length. Assumes nothing.
-use borrow.Author.Needs.{needs}
-use borrow.Author.Tests.{not-true, not-false}
-use mathlib.Core.Path.{sym, _∙_}
-use Rattle.pattern.proofs.Found.{legsAt, how-many, legs-length-all}
-use Rattle.pattern.proofs.Call.{no-room, apart, all-done}
-use Rattle.pattern.proofs.legs.put_route.Statement.{statement}
-use Rattle.pattern.proofs.legs.put_route.Tie as tie
+use Rattle.laws.proofs.Prelude.{needs, not-true, not-false, sym, _∙_}
+use Rattle.pattern.proofs.{Found.{legsAt, how-many, legs-length-all}, Call.{no-room, apart, all-done}, legs.put_route.Statement.statement}
+use Rattle.pattern.proofs.legs.put_route.Tie.{Need-returns, Need-returns-2, Need-returns-3, close, spec}
 
-returns : tie.Need-returns
+returns : Need-returns
 returns c =
     let start = c .before .before .before .before .before in
     let a = start .args in
     no-room (legsAt (a .b .now) (a .places .now) (a .count)) (a .route .now) (a .written .now) (how-many _ _ _ (start .pre .0 .few)) (c .if1 .taken)
 
-returns-2 : tie.Need-returns-2
+returns-2 : Need-returns-2
 returns-2 c =
     let met = c .before in
     let start = met .before .before .before .before .before .before in
@@ -21,7 +17,7 @@ returns-2 c =
     apart (legsAt (a .b .now) (a .places .now) (a .count)) (a .route .now) (a .written .now) (how-many _ _ _ (start .pre .0 .few)) (met .before .if1 .left)
     (sym (met .all-meet .ensures) ∙ not-true (met .all-meet .result) (c .if2 .taken))
 
-returns-3 : tie.Need-returns-3
+returns-3 : Need-returns-3
 returns-3 c =
     let word = c .before .before in
     let trailer = word .before .before .before .before in
@@ -36,8 +32,7 @@ returns-3 c =
 
 pub put-route-spec : {M : Type 1} → statement M
 put-route-spec =
-    tie.close
-    (tie.spec (λ c. search needs) (λ c. search needs)
+    close (spec (λ c. search needs) (λ c. search needs)
     returns
     (λ c κs. search needs)
     returns-2

@@ -1,10 +1,8 @@
-use borrow.Author.Needs.{needs}
-use mathlib.Core.Path.{refl}
+use Rattle.laws.proofs.Prelude.{needs, refl}
 use Rattle.words.proofs.Written.{then}
-use Rattle.pattern.proofs.legs.put_trailer.Statement.{statement}
-use Rattle.pattern.proofs.legs.put_trailer.Tie as tie
+use Rattle.pattern.proofs.legs.put_trailer.{Statement.statement, Tie.{Need-returns, close, spec}}
 
-returns : tie.Need-returns
+returns : Need-returns
 returns c =
     let second = c .before .before in
     let first = second .before .before .before .before in
@@ -12,6 +10,5 @@ returns c =
 
 pub put-trailer-spec : {M : Type 1} → statement M
 put-trailer-spec =
-    tie.close
-    (tie.spec (λ c. search needs) (λ c. search needs) (λ c κs. search needs) (λ c. search needs) (λ c. search needs) (λ c. search needs) (λ c κs. search needs)
+    close (spec (λ c. search needs) (λ c. search needs) (λ c κs. search needs) (λ c. search needs) (λ c. search needs) (λ c. search needs) (λ c κs. search needs)
     (λ c. search needs) returns)

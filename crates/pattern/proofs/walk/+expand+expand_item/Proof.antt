@@ -1,15 +1,10 @@
 -- `pattern::walk::expand` and `expand_item` call each other: the depth falls, and in the loop the bytes do. Assumes nothing.
-use borrow.Author.Needs.{needs}
-use mathlib.Core.Path.{_≡_, sym, _∙_}
-use Prim.Native.Nat.{ℕ, _+_, _-_, _≤_, _<_}
-use native.Mathlib.Omega.{arith}
-use lib.ListN.{length}
-use lib.Seq.{slice}
+use Rattle.laws.proofs.Prelude.{needs, _≡_, sym, _∙_, ℕ, _+_, _-_, _≤_, _<_, arith, length, slice}
 use Rattle.route.specs.Form.{MOST-LEGS}
 use Rattle.pattern.specs.Read.{read}
-use Rattle.pattern.proofs.Going.{Going, going-few, going-start, told, came-up, item-next, leg-fits, repeat-fits, neither-done, leg-done, too-deep, body-broken, repeat-done, step-broken, step-on, step-end}
-use borrow.Fn.Kinds.{In}
-use borrow.Fn.PlainCycle.{Measures, is, falls, and}
+use Rattle.pattern.proofs.Going.{Going, going-few, going-start, told, came-up, item-next, leg-fits, repeat-fits, neither-done, leg-done, too-deep, body-broken, repeat-done, step-broken}
+use Rattle.pattern.proofs.{Going.{step-on, step-end}, walk.+expand+expand_item.{statement, Tie.close}}
+use borrow.Fn.{Kinds.In, PlainCycle.{Measures, is, falls, and}}
 use Rattle.pattern.proofs.walk.expand.Reads as expand
 use Rattle.pattern.proofs.walk.expand.Kinds as expand-kinds
 use Rattle.pattern.proofs.walk.+expand+expand_item.Lts-expand as expand-lts
@@ -19,8 +14,6 @@ use Rattle.pattern.proofs.walk.+expand+expand_item.Lts-expand_item as e
 use Rattle.pattern.proofs.form.head_at.Reads as head-at-reads
 use Rattle.pattern.proofs.walk.put_place.Reads as put-place-reads
 use Rattle.pattern.proofs.walk.put_rounds.Reads as put-rounds-reads
-use Rattle.pattern.proofs.walk.+expand+expand_item.{statement}
-use Rattle.pattern.proofs.walk.+expand+expand_item.Tie.{close}
 
 abbrev μ-expand : Measures 2 expand-kinds.ps ℕ
 μ-expand κs a = a .1 .1 .1 .0 + a .1 .1 .1 .0 + 1

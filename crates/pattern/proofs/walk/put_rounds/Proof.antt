@@ -1,22 +1,14 @@
 -- `pattern::walk::put_rounds`: up to place i the buffer holds the rounds. Assumes nothing.
-use borrow.Author.Needs.{needs}
-use mathlib.Core.Path.{_≡_, refl, _∙_}
-use Prim.Native.Nat.{ℕ, _-_, _*_, _≤_, _<_}
-use native.Mathlib.Nat.{mul-le-mul}
-use native.Mathlib.Omega.{arith}
-use lib.ListN.{length, take, length-set}
-use lib.Seq.{sets, slice}
-use Rattle.pattern.specs.Tree.{times as rounds}
-use Rattle.pattern.specs.Walk.{capped}
-use Rattle.pattern.proofs.Walks.{capped-below, to-end, rounds-start, rounds-on, rounds-end}
-use Rattle.pattern.proofs.walk.put_rounds.Statement.{statement}
-use Rattle.pattern.proofs.walk.put_rounds.Tie as tie
+use Rattle.laws.proofs.Prelude.{needs, _≡_, refl, _∙_, ℕ, _-_, _*_, _≤_, _<_, mul-le-mul, arith, length, take, length-set, sets, slice}
+use Rattle.pattern.specs.{Tree.times as rounds, Walk.capped}
+use Rattle.pattern.proofs.{Walks.{capped-below, to-end, rounds-start, rounds-on, rounds-end}, walk.put_rounds.Statement.statement}
+use Rattle.pattern.proofs.walk.put_rounds.Tie.{InvT-loop, MeasureT-loop, Need-returns, Need-loop-holds, Need-loop-again, Need-returns-2, close, spec}
 
-abbrev Inv-loop : tie.InvT-loop
+abbrev Inv-loop : InvT-loop
 Inv-loop places₀ from to times legs end i₀ places i =
     (to ≤ i) × (i ≤ end) × (length places ≡ length places₀) × (places ≡ sets places₀ from (take (i - from) (rounds times (slice from to places₀))))
 
-abbrev μ-loop : tie.MeasureT-loop
+abbrev μ-loop : MeasureT-loop
 μ-loop places₀ from to times legs end i₀ places i = end - i
 
 too-many : (n : ℕ) {r : ℕ} → n ≤ 32 → (r ≡ capped n) × (32 < r) → ⊥
@@ -29,19 +21,19 @@ product n from to h k = mul-le-mul h (le to from k)
     le : (to from : ℕ) → to ≤ 33 → to - from ≤ 33
     le to from k = omega arith
 
-returns : tie.Need-returns Inv-loop μ-loop
+returns : Need-returns Inv-loop μ-loop
 returns c =
     let e = c .before .at-most-33 .ensures in
     record { counted = e; put = λ h. absurd (too-many _ h (e, c .if1 .taken)) }
 
-loop-holds : tie.Need-loop-holds Inv-loop μ-loop
+loop-holds : Need-loop-holds Inv-loop μ-loop
 loop-holds c =
     let start = c .before .before .before in
     let pre = start .pre in
     let e = c .before .at-most-33 .ensures in
     (omega arith, to-end (start .args .places .now) _ _ _ (pre .0) (pre .3) (pre .1) e (c .if1 .left), refl, rounds-start _ _ _ _ (pre .0) (pre .3) (pre .1) e (c .if1 .left))
 
-loop-again : tie.Need-loop-again Inv-loop μ-loop
+loop-again : Need-loop-again Inv-loop μ-loop
 loop-again c =
     let turn = c .before in
     let inv = turn .before .loop .inv in
@@ -49,7 +41,7 @@ loop-again c =
     let pre = few .before .before .before .pre in
     (omega arith, omega arith, simp length-set (inv .2), rw (inv .3) (rounds-on _ _ _ _ (pre .0) (pre .3) (pre .1) (few .before .at-most-33 .ensures) (few .if1 .left) _ (inv .0) (turn .loop-test .taken)))
 
-returns-2 : tie.Need-returns-2 Inv-loop μ-loop
+returns-2 : Need-returns-2 Inv-loop μ-loop
 returns-2 c =
     let inv = c .before .loop .inv in
     let few = c .before .before in
@@ -59,8 +51,7 @@ returns-2 c =
 
 pub put-rounds-spec : {M : Type 1} → statement M
 put-rounds-spec =
-    tie.close
-    (tie.spec Inv-loop μ-loop
+    close (spec Inv-loop μ-loop
     (λ c. search needs)
     (λ c. record { fits = omega (arith, product _ (c .before .args .from) _ (c .before .pre .4) (c .before .pre .2)) })
     (λ c. record { fits = omega (arith, product _ (c .before .args .from) _ (c .before .pre .4) (c .before .pre .2)) })

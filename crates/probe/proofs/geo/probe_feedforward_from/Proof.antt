@@ -1,6 +1,5 @@
-use borrow.Author.Needs.{needs}
-use Rattle.probe.proofs.geo.probe_feedforward_from.Statement.{statement}
-use Rattle.probe.proofs.geo.probe_feedforward_from.Tie as tie
+use Rattle.laws.proofs.Prelude.{needs}
+use Rattle.probe.proofs.geo.probe_feedforward_from.{Statement.statement, Tie.{close, spec}}
 
 pub probe-feedforward-from-spec : {M : Type 1} → statement M
-probe-feedforward-from-spec = tie.close (tie.spec (λ c κs. search needs) (λ c κs. search needs) (λ c κs. search needs) (λ c. simp (c .rate-answer .ensures, c .before .feedforward-from .ensures, c .before .before .thrust-attitude .ensures)))
+probe-feedforward-from-spec = close (spec (λ c κs. search needs) (λ c κs. search needs) (λ c κs. search needs) (λ c. simp (c .rate-answer .ensures, c .before .feedforward-from .ensures, c .before .before .thrust-attitude .ensures)))

@@ -1,26 +1,22 @@
 -- `probe_simplexshield_step_lent` meets its contract, which is `step_lent`'s own: a walk of its MIR, by hand. What it is given is what the call asks, and what the call leaves is what it owes.
 -- Assumes nothing.
-use mathlib.Core.Path.{refl}
-use Prim.Native.Nat.{ℕ}
-use mathlib.Core.List.{[], _∷_, _++_, List}
-use lib.Ieee.{binary32}
+use Rattle.laws.proofs.Prelude.{refl, ℕ, [], _∷_, _++_, List, binary32}
+use Rattle.laws.proofs.Walk.{URA, named, Val, vptr, SProp, ent, emp, via, fst∗, id⊢, GName, Lft, Share, ftrue, flft, Memory, Routine, Heap, Calls, Loops, WpFn, Tables, Atoms, Fun, givenOf, tables}
+use Rattle.laws.proofs.Walk.{tablesOf, FmC, fmOf, Given, ‵, raw, _⊛_, some, later, _$_, _∵_, !, qed, by, move, use1, use2, split, join, pick, await, done, look, init, forget, stop, hop, from, load}
+use Rattle.laws.proofs.Walk.{addr, and-then, no-more, assigns, land, returns, enter, alloc1, alloc0, params1, pass1, pass0, free1, free0, said, peeks, nothing, calls-at, RattleType, Denots, Valss}
+use Rattle.laws.proofs.Walk.{flat, owns, Is, Ises, Are, valss, shows, float-vals, float-tells, float-lawful, f32, RefT, MutRef, ptr-vals, mut-tells, onEntry, Meets, tripleOf, Contract, Triple}
+use Rattle.laws.proofs.{Walk.{ensured, entered, cited}, Lent.passed-on}
+use Rattle.relay_geo.{specs.declared.{shield.SimplexShield.SimplexShield, lent.Picked.Picked}, proofs.shield.SimplexShield.step_lent.Symbol.name as #lent}
+use Rattle.probe.proofs.lent.probe_simplexshield_step_lent.Key.{name as #probe}
 use denote.Struct.Laws as LL
-use Rattle.laws.proofs.Walk.{URA, named, Val, vptr, SProp, ent, emp, via, fst∗, id⊢, GName, Lft, Share, ftrue, flft, Memory, Routine, Heap, Calls, Loops, WpFn, Tables, Atoms, Fun, givenOf, tables, tablesOf, FmC, fmOf}
-use Rattle.laws.proofs.Walk.{Given, ‵, raw, _⊛_, some, later, _$_, _∵_, !, qed, by, move, use1, use2, split, join, pick, await, done, look, init, forget, stop, hop, from, load, addr, and-then, no-more, assigns, land, returns, enter, alloc1, alloc0, params1, pass1, pass0, free1, free0, said, peeks, nothing, calls-at}
-use Rattle.laws.proofs.Walk.{RattleType, Denots, Valss, flat, owns, Is, Ises, Are, valss, shows, float-vals, float-tells, float-lawful, f32, RefT, MutRef, ptr-vals, mut-tells, onEntry, Meets, tripleOf, Contract, Triple, ensured, entered, cited}
-use Rattle.laws.proofs.Lent.{passed-on}
 use Rattle.relay_math.proofs.BodyRate as B
 use Rattle.relay_math.proofs.BodyRate.Laws as B′
-use Rattle.relay_geo.specs.declared.shield.SimplexShield.{SimplexShield}
-use Rattle.relay_geo.specs.declared.lent.Picked.{Picked}
 use Rattle.relay_geo.proofs.shield.SimplexShield as T
 use Rattle.relay_geo.proofs.lent.Picked as R
 use Rattle.relay_geo.proofs.lent.Picked.Laws as R′
 use Rattle.relay_geo.proofs.shield.SimplexShield.step_lent as lent
 use Rattle.relay_geo.proofs.shield.SimplexShield.step_lent.Symbol as lent-def
-use Rattle.relay_geo.proofs.shield.SimplexShield.step_lent.Symbol.{name as #lent}
 use Rattle.relay_geo.proofs.shield.SimplexShield.step_lent.Met as lent-thm
-use Rattle.probe.proofs.lent.probe_simplexshield_step_lent.Key.{name as #probe}
 use Rattle.probe.proofs.lent.probe_simplexshield_step_lent as probe
 use Rattle.probe.proofs.lent.probe_simplexshield_step_lent.Statement as stated
 use Rattle.probe.proofs.lent.probe_simplexshield_step_lent.Code as code

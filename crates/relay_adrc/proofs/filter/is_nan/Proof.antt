@@ -1,6 +1,5 @@
 use Rattle.relay_math.proofs.Order.{differs-as-nan}
-use Rattle.relay_adrc.proofs.filter.is_nan.Statement.{statement}
-use Rattle.relay_adrc.proofs.filter.is_nan.Tie as tie
+use Rattle.relay_adrc.proofs.filter.is_nan.{Statement.statement, Tie.{close, spec}}
 
 pub is-nan-spec : {M : Type 1} → statement M
-is-nan-spec = tie.close (tie.spec (λ c. differs-as-nan (c .args .x)))
+is-nan-spec = close (spec (λ c. differs-as-nan (c .args .x)))

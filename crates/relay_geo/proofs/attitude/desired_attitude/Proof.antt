@@ -1,13 +1,12 @@
-use borrow.Author.Needs.{needs}
+use Rattle.laws.proofs.Prelude.{needs}
 use Rattle.relay_geo.specs.Attitude.{desiredAttitude}
-use Rattle.relay_geo.proofs.attitude.desired_attitude.Statement.{statement}
-use Rattle.relay_geo.proofs.attitude.desired_attitude.Tie as tie
+use Rattle.relay_geo.proofs.attitude.desired_attitude.{Statement.statement, Tie.{Need-returns, Need-returns-2, Need-returns-3, close, spec}}
 
-returns : tie.Need-returns
+returns : Need-returns
 unfolding desiredAttitude
 returns c = simp (← c .before .before .normalize .ensures, c .enum-told .given .1)
 
-returns-2 : tie.Need-returns-2
+returns-2 : Need-returns-2
 unfolding desiredAttitude
 returns-2 c =
     let n = c .before .before in
@@ -15,7 +14,7 @@ returns-2 c =
     let b = h .before .before in
     simp (← b .before .before .normalize .ensures, b .b3 .given .1, ← h .heading .ensures, ← n .before .cross .ensures, ← n .normalize2 .ensures, c .enum-told2 .given .1)
 
-returns-3 : tie.Need-returns-3
+returns-3 : Need-returns-3
 unfolding desiredAttitude
 returns-3 c =
     let k = c .before .before in
@@ -26,5 +25,4 @@ returns-3 c =
 
 pub desired-attitude-spec : {M : Type 1} → statement M
 desired-attitude-spec =
-    tie.close
-    (tie.spec (λ c κs. search needs) (λ c. search needs) (λ c. search needs) returns (λ c κs. search needs) (λ c κs. search needs) (λ c κs. search needs) (λ c. search needs) (λ c. search needs) returns-2 (λ c κs. search needs) returns-3)
+    close (spec (λ c κs. search needs) (λ c. search needs) (λ c. search needs) returns (λ c κs. search needs) (λ c κs. search needs) (λ c κs. search needs) (λ c. search needs) (λ c. search needs) returns-2 (λ c κs. search needs) returns-3)

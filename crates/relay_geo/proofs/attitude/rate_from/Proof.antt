@@ -1,9 +1,8 @@
-use borrow.Author.Needs.{needs}
+use Rattle.laws.proofs.Prelude.{needs}
 use Rattle.relay_geo.specs.Attitude.{bodyRate}
-use Rattle.relay_geo.proofs.attitude.rate_from.Statement.{statement}
-use Rattle.relay_geo.proofs.attitude.rate_from.Tie as tie
+use Rattle.relay_geo.proofs.attitude.rate_from.{Statement.statement, Tie.{Need-returns-2, close, spec}}
 
-returns-2 : tie.Need-returns-2
+returns-2 : Need-returns-2
 unfolding bodyRate
 returns-2 c =
     let w = c .before .before in
@@ -12,5 +11,4 @@ returns-2 c =
 
 pub rate-from-spec : {M : Type 1} → statement M
 rate-from-spec =
-    tie.close
-    (tie.spec (λ c. search needs) (λ c. search needs) (λ c. search needs) (λ c κs. search needs) (λ c κs. search needs) (λ c κs. search needs) returns-2)
+    close (spec (λ c. search needs) (λ c. search needs) (λ c. search needs) (λ c κs. search needs) (λ c κs. search needs) (λ c κs. search needs) returns-2)

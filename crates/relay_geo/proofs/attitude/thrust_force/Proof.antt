@@ -1,8 +1,7 @@
-use mathlib.Core.Path.{refl}
+use Rattle.laws.proofs.Prelude.{refl}
 use Rattle.relay_geo.specs.Attitude.{thrustForce}
-use Rattle.relay_geo.proofs.attitude.thrust_force.Statement.{statement}
-use Rattle.relay_geo.proofs.attitude.thrust_force.Tie as tie
+use Rattle.relay_geo.proofs.attitude.thrust_force.{Statement.statement, Tie.{close, spec}}
 
 pub thrust-force-spec : {M : Type 1} → statement M
 unfolding thrustForce
-thrust-force-spec = tie.close (tie.spec (λ c. refl))
+thrust-force-spec = close (spec (λ c. refl))

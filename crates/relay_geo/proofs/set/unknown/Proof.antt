@@ -1,9 +1,8 @@
-use borrow.Author.Needs.{needs}
-use Rattle.relay_geo.proofs.set.unknown.Statement.{statement}
-use Rattle.relay_geo.proofs.set.unknown.Tie as tie
+use Rattle.laws.proofs.Prelude.{needs}
+use Rattle.relay_geo.proofs.set.unknown.{Statement.statement, Tie.{close, spec}}
 
 pub unknown-spec : {M : Type 1} → statement M
-unknown-spec = tie.close (tie.spec (λ c κs. search needs)
+unknown-spec = close (spec (λ c κs. search needs)
     (λ c. simp (← c .before .is-finite .ensures, c .if1 .taken))
     (λ c κs. search needs)
     (λ c. simp (← c .before .before .before .is-finite .ensures, ← c .before .is-finite2 .ensures, c .before .before .if1 .left, c .if2 .taken))

@@ -1,8 +1,7 @@
-use mathlib.Core.Path.{refl}
+use Rattle.laws.proofs.Prelude.{refl}
 use Rattle.relay_geo.specs.Vectors.{cross}
-use Rattle.relay_geo.proofs.vectors.cross.Statement.{statement}
-use Rattle.relay_geo.proofs.vectors.cross.Tie as tie
+use Rattle.relay_geo.proofs.vectors.cross.{Statement.statement, Tie.{close, spec}}
 
 pub cross-spec : {M : Type 1} → statement M
 unfolding cross
-cross-spec = tie.close (tie.spec (λ c. refl))
+cross-spec = close (spec (λ c. refl))

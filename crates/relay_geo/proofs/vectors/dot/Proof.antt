@@ -1,8 +1,7 @@
-use mathlib.Core.Path.{refl}
+use Rattle.laws.proofs.Prelude.{refl}
 use Rattle.relay_geo.specs.Vectors.{dot}
-use Rattle.relay_geo.proofs.vectors.dot.Statement.{statement}
-use Rattle.relay_geo.proofs.vectors.dot.Tie as tie
+use Rattle.relay_geo.proofs.vectors.dot.{Statement.statement, Tie.{close, spec}}
 
 pub dot-spec : {M : Type 1} → statement M
 unfolding dot
-dot-spec = tie.close (tie.spec (λ c. refl))
+dot-spec = close (spec (λ c. refl))

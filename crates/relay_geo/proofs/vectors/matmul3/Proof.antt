@@ -1,9 +1,8 @@
-use borrow.Author.Needs.{needs}
+use Rattle.laws.proofs.Prelude.{needs}
 use Rattle.relay_geo.specs.Vectors.{matmul3}
-use Rattle.relay_geo.proofs.vectors.matmul3.Statement.{statement}
-use Rattle.relay_geo.proofs.vectors.matmul3.Tie as tie
+use Rattle.relay_geo.proofs.vectors.matmul3.{Statement.statement, Tie.{Need-returns, close, spec}}
 
-returns : tie.Need-returns
+returns : Need-returns
 unfolding matmul3
 returns c =
     simp (
@@ -21,5 +20,4 @@ returns c =
 
 pub matmul3-spec : {M : Type 1} → statement M
 matmul3-spec =
-    tie.close
-    (tie.spec (λ c κs. search needs) (λ c κs. search needs) (λ c κs. search needs) (λ c κs. search needs) (λ c κs. search needs) (λ c κs. search needs) (λ c κs. search needs) (λ c κs. search needs) (λ c κs. search needs) (λ c κs. search needs) returns)
+    close (spec (λ c κs. search needs) (λ c κs. search needs) (λ c κs. search needs) (λ c κs. search needs) (λ c κs. search needs) (λ c κs. search needs) (λ c κs. search needs) (λ c κs. search needs) (λ c κs. search needs) (λ c κs. search needs) returns)

@@ -1,9 +1,7 @@
-use borrow.Author.Needs.{needs}
-use Rattle.relay_geo.proofs.vectors.sanitise3.Statement.{statement}
-use Rattle.relay_geo.proofs.vectors.sanitise3.Tie as tie
+use Rattle.laws.proofs.Prelude.{needs}
+use Rattle.relay_geo.proofs.vectors.sanitise3.{Statement.statement, Tie.{close, spec}}
 
 pub sanitise3-spec : {M : Type 1} → statement M
 sanitise3-spec =
-    tie.close
-    (tie.spec (λ c κs. search needs) (λ c κs. search needs) (λ c κs. search needs)
+    close (spec (λ c κs. search needs) (λ c κs. search needs) (λ c κs. search needs)
     (λ c. simp (c .finite-or3 .ensures, c .before .finite-or2 .ensures, c .before .before .finite-or .ensures)))

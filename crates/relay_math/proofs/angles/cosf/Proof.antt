@@ -1,19 +1,12 @@
 -- `angles::cosf`: each arm is a case of the definition, which meets document 01's rule. Assumes nothing.
-use borrow.Author.Needs.{needs}
-use mathlib.Core.Path.{refl, _∙_}
-use mathlib.Core.Bool.{true, false}
-use lib.Ieee.{ofBits}
+use Rattle.laws.proofs.Prelude.{needs, refl, _∙_, true, false, ofBits, held}
 use Rattle.relay_math.specs.Steps.{large}
-use Rattle.laws.proofs.Tests.{held}
-use Rattle.relay_math.proofs.Arms.{arm, sized, one, is-cosine}
-use Rattle.relay_math.proofs.angles.cosf.Statement.{statement}
-use Rattle.relay_math.proofs.angles.cosf.Tie as tie
+use Rattle.relay_math.proofs.{Arms.{arm, sized, one, is-cosine}, angles.cosf.{Statement.statement, Tie.{close, spec}}}
 
 pub cosf-spec : {M : Type 1} → statement M
 unfolding ofBits large
 cosf-spec =
-    tie.close
-    (tie.spec (λ c κs. search needs) (λ c κs. search needs)
+    close (spec (λ c κs. search needs) (λ c κs. search needs)
     (λ c κs. let d = c .before .before in sized _ _ _ (held (d .before .before .good .0 .1)) (d .before .signed-of .ensures) (d .served .ensures) (c .before .if1 .taken) (c .if2 .taken))
     (λ c κs. search needs) (λ c. search needs) (λ c κs. search needs) (λ c κs. search needs)
     (λ c.

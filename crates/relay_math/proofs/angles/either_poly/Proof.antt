@@ -1,12 +1,7 @@
 -- `angles::either_poly`: `poly_of` with the coefficients of one or the other. Assumes nothing.
-use borrow.Author.Needs.{needs}
-use mathlib.Core.Path.{_≡_, refl, _∙_}
-use mathlib.Core.Bool.{Bool, true, false, cond}
-use Prim.Native.Nat.{ℕ, _≤_, _<_}
-use native.Mathlib.Omega.{arith}
+use Rattle.laws.proofs.Prelude.{needs, _≡_, refl, _∙_, Bool, true, false, cond, ℕ, _≤_, _<_, arith}
 use Rattle.relay_math.specs.Steps.{polyOf, sinPoly, cosPoly}
-use Rattle.relay_math.proofs.angles.either_poly.Statement.{statement}
-use Rattle.relay_math.proofs.angles.either_poly.Tie as tie
+use Rattle.relay_math.proofs.angles.either_poly.{Statement.statement, Tie.{close, spec}}
 
 falling : (s : Bool) (r : ℕ) → r < 281474976710656
     → (cond s r 281474976710656 ≤ 281474976710656) × ((cond s 0x2AAAAAAB 0x80000000 ≤ 4294967296)
@@ -21,8 +16,7 @@ one false r z = refl
 
 pub either-poly-spec : {M : Type 1} → statement M
 either-poly-spec =
-    tie.close
-    (tie.spec (λ c κs. search needs) (λ c κs. search needs) (λ c κs. search needs) (λ c κs. search needs) (λ c κs. search needs)
+    close (spec (λ c κs. search needs) (λ c κs. search needs) (λ c κs. search needs) (λ c κs. search needs) (λ c κs. search needs)
     (λ c κs.
     let b = c .before .before .before .before in
     let a = b .before .args in

@@ -1,20 +1,13 @@
 -- `angles::fixed_of`: the fields of a float of size 2^-12 to 2^13 are in range. Assumes nothing.
-use borrow.Author.Needs.{needs}
-use Prim.Native.Nat.{_+_, _-_, _%_, _/_, _≤_}
-use native.Mathlib.Nat.{lt-of-lt-of-le}
-use native.Mathlib.Omega.{arith}
-use lib.Pow.{shl-exact, shl-lt, pow-mono}
-use lib.Ieee.{binary32, toBits}
+use Rattle.laws.proofs.Prelude.{needs, _+_, _-_, _%_, _/_, _≤_, lt-of-lt-of-le, arith, shl-lt, pow-mono, binary32, toBits, held}
+use lib.Pow.{shl-exact}
 use Rattle.relay_math.specs.Steps.{fixed}
-use Rattle.laws.proofs.Tests.{held}
-use Rattle.relay_math.proofs.AngleReduction.{Parts, known}
-use Rattle.relay_math.proofs.angles.fixed_of.Statement.{statement}
-use Rattle.relay_math.proofs.angles.fixed_of.Tie as tie
+use Rattle.relay_math.proofs.{AngleReduction.{Parts, known}, angles.fixed_of.{Statement.statement, Tie.{Start, Need-returns, close, spec}}}
 
-parts : (c : tie.Start) → Parts (c .args .x)
+parts : (c : Start) → Parts (c .args .x)
 parts c = known (c .args .x) (held (c .good .0 .1)) (c .pre .0) (c .pre .1)
 
-returns : tie.Need-returns
+returns : Need-returns
 unfolding fixed
 returns c =
     let b = toBits binary32 (c .args .x) in
@@ -25,5 +18,4 @@ returns c =
 
 pub fixed-of-spec : {M : Type 1} → statement M
 fixed-of-spec =
-    tie.close
-    (tie.spec (λ c. parts c .number) (λ c. search needs) (λ c. search needs) (λ c. omega (arith, parts c .low)) (λ c. omega (arith, parts c .high)) (λ c. omega (arith, parts c .high)) returns)
+    close (spec (λ c. parts c .number) (λ c. search needs) (λ c. search needs) (λ c. omega (arith, parts c .low)) (λ c. omega (arith, parts c .high)) (λ c. omega (arith, parts c .high)) returns)

@@ -1,11 +1,8 @@
 -- `angles::poly_of`: the calls are the definition's steps. Assumes nothing.
-use borrow.Author.Needs.{needs}
-use native.Mathlib.Omega.{arith}
-use Rattle.relay_math.proofs.angles.poly_of.Statement.{statement}
-use Rattle.relay_math.proofs.angles.poly_of.Tie as tie
+use Rattle.laws.proofs.Prelude.{needs, arith}
+use Rattle.relay_math.proofs.angles.poly_of.{Statement.statement, Tie.{close, spec}}
 
 pub poly-of-spec : {M : Type 1} → statement M
 poly-of-spec =
-    tie.close
-    (tie.spec (λ c κs. search needs) (λ c. search needs) (λ c κs. search needs) (λ c. search needs) (λ c κs. search needs) (λ c. search needs) (λ c κs. search needs) (λ c κs. search needs)
+    close (spec (λ c κs. search needs) (λ c. search needs) (λ c κs. search needs) (λ c. search needs) (λ c κs. search needs) (λ c. search needs) (λ c κs. search needs) (λ c κs. search needs)
     (λ c. (simp (c .less-part .ensures .0, c .before .part-of4 .ensures .0, c .before .before .part-of3 .ensures .0, c .before .before .before .part-of2 .ensures .0, c .before .before .before .before .part-of .ensures .0), omega arith)))

@@ -1,11 +1,7 @@
 -- `angles::reduce`: the definition's steps, and the remainder by 2^63 is the number itself. Assumes nothing.
-use borrow.Author.Needs.{needs}
-use mathlib.Core.Path.{_≡_}
-use Prim.Native.Nat.{ℕ, _+_, _%_, _<_}
-use native.Mathlib.Omega.{arith}
+use Rattle.laws.proofs.Prelude.{needs, _≡_, ℕ, _+_, _%_, _<_, arith}
 use Rattle.relay_math.specs.Steps.{cutSquare, reduceOf}
-use Rattle.relay_math.proofs.angles.reduce.Statement.{statement}
-use Rattle.relay_math.proofs.angles.reduce.Tie as tie
+use Rattle.relay_math.proofs.angles.reduce.{Statement.statement, Tie.{close, spec}}
 
 kept : (x : ℕ) → x < 4611686018427387904 → (x + 221069929750888) % 9223372036854775808 ≡ x + 221069929750888
 kept x h = omega arith
@@ -13,6 +9,5 @@ kept x h = omega arith
 pub reduce-spec : {M : Type 1} → statement M
 unfolding reduceOf cutSquare
 reduce-spec =
-    tie.close
-    (tie.spec (λ c. search needs) (λ c. search needs) (λ c κs. search needs) (λ c κs. omega (arith, c .gap-of .ensures)) (λ c. search needs)
+    close (spec (λ c. search needs) (λ c. search needs) (λ c κs. search needs) (λ c κs. omega (arith, c .gap-of .ensures)) (λ c. search needs)
     (λ c. (simp (c .part-of .ensures .0, c .before .gap-of .ensures, kept (c .before .before .args .x) (c .before .before .pre)), (omega arith, omega (arith, c .before .gap-of .ensures), c .part-of .ensures .1 .0))))

@@ -1,9 +1,7 @@
 -- `angles::served`: the constant is the definition's. Assumes nothing.
-use mathlib.Core.Path.{refl}
-use lib.Ieee.{ofBits}
-use Rattle.relay_math.proofs.angles.served.Statement.{statement}
-use Rattle.relay_math.proofs.angles.served.Tie as tie
+use Rattle.laws.proofs.Prelude.{refl, ofBits}
+use Rattle.relay_math.proofs.angles.served.{Statement.statement, Tie.{close, spec}}
 
 pub served-spec : {M : Type 1} → statement M
 unfolding ofBits
-served-spec = tie.close (tie.spec (λ c. refl))
+served-spec = close (spec (λ c. refl))

@@ -1,22 +1,15 @@
 -- `sqrt::digits`: a subnormal is shifted up to 24 digits, by its count of leading zeros; any other has its fields. Assumes nothing.
-use borrow.Author.Needs.{needs}
-use mathlib.Core.Path.{_≡_, refl}
-use Prim.Native.Nat.{ℕ, suc, _+_, _-_, _*_, _%_, _^_, _<_}
-use native.Mathlib.Omega.{arith}
+use Rattle.laws.proofs.Prelude.{needs, _≡_, refl, ℕ, suc, _+_, _-_, _*_, _%_, _^_, _<_, arith, Float, binary32, toBits}
 use lib.Count.{leadingZeros}
-use lib.Ieee.{Float, binary32, toBits}
 use Rattle.relay_math.specs.F32.{grains}
-use Rattle.relay_math.proofs.Signs.{of-positive}
-use Rattle.relay_math.proofs.Grains.{reads}
-use Rattle.relay_math.proofs.Root.{Scaled, M, E, joined, zeros, small-is, scaled-small, scaled-normal}
-use Rattle.relay_math.proofs.sqrt.digits.Statement.{statement}
-use Rattle.relay_math.proofs.sqrt.digits.Tie as tie
+use Rattle.relay_math.proofs.{Signs.of-positive, Grains.reads, Root.{Scaled, M, E, joined, zeros, small-is, scaled-small, scaled-normal}, sqrt.digits.Statement.statement}
+use Rattle.relay_math.proofs.sqrt.digits.Tie.{Then1, close, spec}
 
 -- where b is below 2 ^ 23
-shown : (c : tie.Then1) → (8 < leadingZeros 32 (c .before .args .b)) × (leadingZeros 32 (c .before .args .b) < 32)
+shown : (c : Then1) → (8 < leadingZeros 32 (c .before .args .b)) × (leadingZeros 32 (c .before .args .b) < 32)
 shown c = zeros (c .before .args .b) (c .before .pre .0) (c .if1 .taken)
 
-scaled : (c : tie.Then1) → let b = c .before .args .b in let z = leadingZeros 32 b in Scaled b ((b * 2 ^ (z - 8)) % 2 ^ 32) (31 - z)
+scaled : (c : Then1) → let b = c .before .args .b in let z = leadingZeros 32 b in Scaled b ((b * 2 ^ (z - 8)) % 2 ^ 32) (31 - z)
 scaled c =
     let b = c .before .args .b in
     let w = scaled-small b (c .before .pre .0) (c .if1 .taken) in
@@ -33,8 +26,7 @@ kept {d = d} w i = let j = joined {d = d} w i in rw (j .0, j .1) (w .is)
 
 pub digits-spec : {M : Type 1} → statement M
 digits-spec =
-    tie.close
-    (tie.spec (λ c. omega (arith, shown c)) (λ c. search needs) (λ c. omega (arith, shown c)) (λ c. omega (arith, shown c))
+    close (spec (λ c. omega (arith, shown c)) (λ c. search needs) (λ c. omega (arith, shown c)) (λ c. omega (arith, shown c))
     (λ c. omega (arith, scaled c .high, shown c)) (λ c. search needs)
     (λ c. (
       (joined (scaled c) refl .2, joined (scaled c) refl .3),

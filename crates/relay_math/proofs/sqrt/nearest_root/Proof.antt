@@ -1,11 +1,6 @@
 -- `sqrt::nearest_root`: what the test says of the guess. Assumes nothing.
-use borrow.Author.Needs.{needs}
-use Prim.Native.Nat.{ℕ, _+_, _-_, _*_, _%_, _^_, _≤_, _<_}
-use mathlib.Core.Path.{_≡_}
-use native.Mathlib.Omega.{arith}
-use Rattle.relay_math.proofs.Squares.{square-le, own-square, capped}
-use Rattle.relay_math.proofs.sqrt.nearest_root.Statement.{statement}
-use Rattle.relay_math.proofs.sqrt.nearest_root.Tie as tie
+use Rattle.laws.proofs.Prelude.{needs, ℕ, _+_, _-_, _*_, _%_, _^_, _≤_, _<_, _≡_, arith}
+use Rattle.relay_math.proofs.{Squares.{square-le, own-square, capped}, sqrt.nearest_root.{Statement.statement, Tie.{close, spec}}}
 
 -- a small difference did not wrap
 tested : (n r d : ℕ) → n < 2 ^ 48 → r ≤ 2 ^ 26 → (d + (r * r - r + 1)) % 2 ^ 64 ≡ n → d < 2 * r → (r * r < n + r) × (n ≤ r * r + r) × (r ≤ 2 ^ 24)
@@ -17,8 +12,7 @@ tested n r d h b e t =
 
 pub nearest-root-spec : {M : Type 1} → statement M
 nearest-root-spec =
-    tie.close
-    (tie.spec (λ c κs. search needs)
+    close (spec (λ c κs. search needs)
     (λ c. omega (arith, square-le (c .guess .result) (c .guess .ensures)))
     (λ c. own-square (c .guess .result))
     (λ c. omega (arith, square-le (c .guess .result) (c .guess .ensures)))

@@ -1,16 +1,11 @@
 -- `sqrt::root_bits`: m shifted so that its exponent is even has 47 or 48 digits, and its root 24. Assumes nothing.
-use borrow.Author.Needs.{needs}
-use mathlib.Core.Path.{_≡_}
-use Prim.Native.Nat.{ℕ, _+_, _-_, _*_, _/_, _%_, _^_, _≤_}
-use native.Mathlib.Omega.{arith}
-use Rattle.relay_math.proofs.Root.{Scaled, M, E, under, half, under-size, as-product, closest-read}
-use Rattle.relay_math.proofs.sqrt.root_bits.Statement.{statement}
-use Rattle.relay_math.proofs.sqrt.root_bits.Tie as tie
+use Rattle.laws.proofs.Prelude.{needs, _≡_, ℕ, _+_, _-_, _*_, _/_, _%_, _^_, _≤_, arith}
+use Rattle.relay_math.proofs.{Root.{Scaled, M, E, under, half, under-size, as-product, closest-read}, sqrt.root_bits.{Statement.statement, Tie.{Need-returns, close, spec}}}
 
 sized : (d : ℕ) → 2 ^ 23 ≤ d → let n = M d * (d / 2 ^ 23 % 2 * 2 ^ 23 + 2 ^ 23) in (2 ^ 46 ≤ n) × (n ≤ 2 ^ 48 - 2 ^ 24)
 sized d l = rw (as-product d l) (under-size (M d) ((E d + 103) % 2) (omega arith) (omega arith) (omega arith))
 
-returns : tie.Need-returns
+returns : Need-returns
 returns c = (
   λ x h.
       let s = c .before in
@@ -24,8 +19,7 @@ returns c = (
 
 pub root-bits-spec : {M : Type 1} → statement M
 root-bits-spec =
-    tie.close
-    (tie.spec (λ c. search needs) (λ c. search needs) (λ c. search needs) (λ c. search needs) (λ c. search needs)
+    close (spec (λ c. search needs) (λ c. search needs) (λ c. search needs) (λ c. search needs) (λ c. search needs)
     (λ c. omega (arith, sized (c .args .d) (c .pre .0)))
     (λ c. search needs) (λ c. search needs)
     (λ c κs. omega (arith, sized (c .args .d) (c .pre .0)))

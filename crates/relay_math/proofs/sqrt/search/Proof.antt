@@ -1,26 +1,22 @@
 -- `sqrt::search`: the first loop leaves r with r * r < n + r, which the second keeps. Assumes nothing.
-use Prim.Native.Nat.{_+_, _-_, _*_, _^_, _≤_, _<_}
-use native.Mathlib.Omega.{arith}
-use Rattle.relay_math.proofs.Squares.{square-le, some, capped, next}
-use Rattle.relay_math.proofs.sqrt.search.Statement.{statement}
-use Rattle.relay_math.proofs.sqrt.search.Tie as tie
+use Rattle.laws.proofs.Prelude.{_+_, _-_, _*_, _^_, _≤_, _<_, arith}
+use Rattle.relay_math.proofs.{Squares.{square-le, some, capped, next}, sqrt.search.{Statement.statement, Tie.{InvT-loop, MeasureT-loop, InvT-loop2, MeasureT-loop2, close, spec}}}
 
-abbrev Inv-loop : tie.InvT-loop
+abbrev Inv-loop : InvT-loop
 Inv-loop n from r₀ r = r ≤ 2 ^ 26
 
-abbrev μ-loop : tie.MeasureT-loop
+abbrev μ-loop : MeasureT-loop
 μ-loop n from r₀ r = r
 
-abbrev Inv-loop2 : tie.InvT-loop2
+abbrev Inv-loop2 : InvT-loop2
 Inv-loop2 n from r₀ r = (r ≤ 2 ^ 26) × (r * r < n + r)
 
-abbrev μ-loop2 : tie.MeasureT-loop2
+abbrev μ-loop2 : MeasureT-loop2
 μ-loop2 n from r₀ r = 2 ^ 26 - r
 
 pub search-spec : {M : Type 1} → statement M
 search-spec =
-    tie.close
-    (tie.spec Inv-loop μ-loop Inv-loop2 μ-loop2
+    close (spec Inv-loop μ-loop Inv-loop2 μ-loop2
     (λ c. omega arith)
     (λ c. omega arith)
     (λ c. omega (arith, square-le (c .loop .r) (c .loop .inv)))

@@ -1,30 +1,20 @@
 -- `sqrt::sqrtf`: the tests part the cases of the definition, and `positive_root` has the pattern of the root. Assumes nothing.
-use mathlib.Core.Path.{_≡_, refl}
-use Prim.Native.Nat.{_*_, _%_, _^_}
-use native.Mathlib.Omega.{arith}
-use borrow.Author.Tests.{le-ltb}
-use lib.Dec.{T}
-use lib.Ieee.{Float, binary32, fits, ofBits, div}
+use Rattle.laws.proofs.Prelude.{_≡_, refl, _*_, _%_, _^_, arith, le-ltb, T, Float, binary32, fits, ofBits, div, held}
 use lib.Ieee.Bits.{nanBits-above}
 use Rattle.relay_math.specs.Sqrt.{IsRoot, sqrtf}
-use Rattle.laws.proofs.Tests.{held}
-use Rattle.relay_math.proofs.Signs.{not-nan}
-use Rattle.relay_math.proofs.Root.{is-root, by-tests, above}
-use Rattle.relay_math.proofs.sqrt.sqrtf.Statement.{statement}
-use Rattle.relay_math.proofs.sqrt.sqrtf.Tie as tie
+use Rattle.relay_math.proofs.{Signs.not-nan, Root.{is-root, by-tests, above}, sqrt.sqrtf.{Statement.statement, Tie.{Start, close, spec}}}
 
-fit : (c : tie.Start) → T (fits binary32 (c .args .x))
+fit : (c : Start) → T (fits binary32 (c .args .x))
 fit c = held (c .good .0 .1)
 
 -- what is `sqrtf x` is the root of x
-answer : (c : tie.Start) {r : Float} → r ≡ sqrtf (c .args .x) → IsRoot (c .args .x) r × (r ≡ sqrtf (c .args .x))
+answer : (c : Start) {r : Float} → r ≡ sqrtf (c .args .x) → IsRoot (c .args .x) r × (r ≡ sqrtf (c .args .x))
 answer c {r} e = (rw e (is-root (c .args .x) (fit c)), e)
 
 pub sqrtf-spec : {M : Type 1} → statement M
 unfolding ofBits div
 sqrtf-spec =
-    tie.close
-    (tie.spec (λ c. not-nan (c .before .args .x) (c .if1 .taken))
+    close (spec (λ c. not-nan (c .before .args .x) (c .if1 .taken))
     (λ c κs. (above (c .before .before .args .x) (fit (c .before .before)) (c .before .if1 .taken) (c .if2 .taken) .1, c .if2 .taken))
     (λ c. rw (nanBits-above, le-ltb (255 * 2 ^ 23) (c .positive-root .result % 2 ^ 31) (omega (arith, c .positive-root .ensures .1))) tt)
     (λ c.

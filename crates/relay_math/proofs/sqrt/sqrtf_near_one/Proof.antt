@@ -1,23 +1,10 @@
 -- `sqrt::sqrtf_near_one`: what `near-one` says of the numbers that the test takes. Assumes nothing.
-use borrow.Author.Needs.{needs}
-use borrow.Author.Tests.{le-ltb}
-use mathlib.Core.Path.{_≡_}
-use mathlib.Core.Bool.{true}
-use Prim.Native.Nat.{suc, _+_, _*_, _/_, _%_, _^_, _<_}
-use native.Mathlib.Omega.{arith}
-use lib.Dec.{T}
-use lib.Ieee.{Float, binary32, fits, ofBits, toBits, lt}
+use Rattle.laws.proofs.Prelude.{needs, le-ltb, _≡_, true, suc, _+_, _*_, _/_, _%_, _^_, _<_, arith, T, Float, binary32, fits, ofBits, toBits, lt, held}
 use lib.Ieee.Bits.{nanBits-above, toBits-lt}
-use Rattle.relay_math.specs.Steps.{Zero}
-use Rattle.relay_math.specs.Sqrt.{sqrtf}
-use Rattle.laws.proofs.Tests.{held}
-use Rattle.relay_math.proofs.Signs.{not-nan, of-positive}
-use Rattle.relay_math.proofs.Grains.{reads}
-use Rattle.relay_math.proofs.Root.{above, near-one}
-use Rattle.relay_math.proofs.sqrt.sqrtf_near_one.Statement.{statement}
-use Rattle.relay_math.proofs.sqrt.sqrtf_near_one.Tie as tie
+use Rattle.relay_math.specs.{Steps.Zero, Sqrt.sqrtf}
+use Rattle.relay_math.proofs.{Signs.{not-nan, of-positive}, Grains.reads, Root.{above, near-one}, sqrt.sqrtf_near_one.{Statement.statement, Tie.{Start, close, spec}}}
 
-fit : (c : tie.Start) → T (fits binary32 (c .args .x))
+fit : (c : Start) → T (fits binary32 (c .args .x))
 fit c = held (c .good .0 .1)
 
 halfway : (x : Float) → T (fits binary32 x) → lt Zero x ≡ true → (toBits binary32 x / 2048 + 1) / 2 ≡ 0x3f800 → ofBits binary32 (toBits binary32 x / 2 + 0x1fc0_0000) ≡ sqrtf x
@@ -29,8 +16,7 @@ halfway x f t h =
 pub sqrtf-near-one-spec : {M : Type 1} → statement M
 unfolding ofBits
 sqrtf-near-one-spec =
-    tie.close
-    (tie.spec (λ c. not-nan (c .before .args .x) (c .if1 .taken))
+    close (spec (λ c. not-nan (c .before .args .x) (c .if1 .taken))
     (λ c. let b : toBits binary32 (c .before .args .x) < 2 ^ 32 = toBits-lt binary32 (c .before .args .x) (fit (c .before)) in omega arith)
     (λ c. omega arith)
     (λ c. rw (nanBits-above, le-ltb (255 * 2 ^ 23) ((toBits binary32 (c .before .before .args .x) / 2 + 0x1fc0_0000) % 2 ^ 31) (omega arith)) tt)

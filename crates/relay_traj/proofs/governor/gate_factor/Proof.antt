@@ -1,11 +1,10 @@
-use borrow.Author.Needs.{needs}
+use Rattle.laws.proofs.Prelude.{needs}
 use Rattle.relay_traj.specs.Governor.{gateFactor}
-use Rattle.relay_traj.proofs.governor.gate_factor.Statement.{statement}
-use Rattle.relay_traj.proofs.governor.gate_factor.Tie as tie
+use Rattle.relay_traj.proofs.governor.gate_factor.{Statement.statement, Tie.{close, spec}}
 
 pub gate-factor-spec : {M : Type 1} → statement M
 unfolding gateFactor
 gate-factor-spec =
-    tie.close (tie.spec (λ c κs. search needs) (λ c κs. search needs) (λ c κs. search needs) (λ c κs. search needs)
+    close (spec (λ c κs. search needs) (λ c κs. search needs) (λ c κs. search needs) (λ c κs. search needs)
     (λ c. simp (← c .before .no-band .ensures, c .before .before .clamp-to .ensures, c .if1 .taken))
     (λ c. simp (c .clamp-to2 .ensures, c .before .ramp .ensures, ← c .before .before .before .no-band .ensures, c .before .before .before .before .clamp-to .ensures, c .before .before .if1 .left)))

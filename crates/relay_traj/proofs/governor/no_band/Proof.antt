@@ -1,10 +1,9 @@
-use borrow.Author.Needs.{needs}
-use Rattle.relay_traj.proofs.governor.no_band.Statement.{statement}
-use Rattle.relay_traj.proofs.governor.no_band.Tie as tie
+use Rattle.laws.proofs.Prelude.{needs}
+use Rattle.relay_traj.proofs.governor.no_band.{Statement.statement, Tie.{close, spec}}
 
 pub no-band-spec : {M : Type 1} → statement M
 no-band-spec =
-    tie.close (tie.spec (λ c κs. search needs) (λ c κs. search needs) (λ c κs. search needs)
+    close (spec (λ c κs. search needs) (λ c κs. search needs) (λ c κs. search needs)
     (λ c. simp (← c .before .is-finite .ensures, c .if1 .taken))
     (λ c. simp (← c .before .before .before .is-finite .ensures, ← c .before .is-finite2 .ensures, c .before .before .if1 .left, c .if2 .taken))
     (λ c. simp (← c .before .before .before .before .before .is-finite .ensures, ← c .before .before .before .is-finite2 .ensures, ← c .before .is-finite3 .ensures, c .before .before .before .before .if1 .left, c .before .before .if2 .left, c .if3 .taken))

@@ -2,13 +2,11 @@ use borrow.Author.Needs.{needs}
 use mathlib.Core.Path.{sym}
 use native.Mathlib.Omega.{arith}
 use lib.Seq.{length-take-le}
-use Rattle.replay.proofs.lent.lent.Statement.{statement}
-use Rattle.replay.proofs.lent.lent.Tie as tie
+use Rattle.replay.proofs.lent.lent.{Statement.statement, Tie.{close, spec}}
 
 pub lent-spec : {M : Type 1} → statement M
 lent-spec =
-    tie.close
-    (tie.spec
+    close (spec
     (λ c. search needs) (λ c. search needs) (λ c. search needs) (λ c. search needs) (λ c. search needs)
     (λ c. sym (length-take-le _ _ (omega arith)))
     (λ c. sym (length-take-le _ _ (omega arith)))

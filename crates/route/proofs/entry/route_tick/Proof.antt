@@ -1,30 +1,24 @@
 -- `route::entry::route_tick`: refused as it stands, or flown and written. Assumes nothing.
-use borrow.Author.Needs.{needs}
-use borrow.Author.Tests.{eq-eqb, ne-eqb, not-true}
-use mathlib.Core.Bool.{not}
-use mathlib.Core.Path.{ap}
-use native.Mathlib.Omega.{arith}
+use Rattle.laws.proofs.Prelude.{needs, eq-eqb, ne-eqb, not-true, not, ap, arith}
 use Rattle.words.proofs.Plain.{scanned}
-use Rattle.calls.specs.Entry.{tickFrom}
-use Rattle.calls.proofs.Flown.{takes, read-of, flown, keeps}
+use Rattle.calls.{specs.Entry.tickFrom, proofs.Flown.{takes, read-of, flown, keeps}}
 use Rattle.route.specs.Entry.{onRoute, routeRefusal, routeCall}
-use Rattle.route.proofs.Taken.{formed, form-decides, formless, broken}
-use Rattle.route.proofs.entry.route_tick.Statement.{statement}
-use Rattle.route.proofs.entry.route_tick.Tie as tie
+use Rattle.route.proofs.{Taken.{formed, form-decides, formless, broken}, entry.route_tick.Statement.statement}
+use Rattle.route.proofs.entry.route_tick.Tie.{Need-returns, Need-returns-2, Need-returns-3, Need-returns-4, Need-returns-5, Need-returns-6, Need-returns-7, close, spec}
 
-image-length : tie.Need-returns
+image-length : Need-returns
 unfolding routeCall tickFrom routeRefusal
 image-length c = simp (ne-eqb _ _ (c .if1 .taken))
 
-input-length : tie.Need-returns-2
+input-length : Need-returns-2
 unfolding routeCall tickFrom routeRefusal
 input-length c = simp (ne-eqb _ _ (c .if2 .taken), eq-eqb _ _ (c .before .if1 .left))
 
-answer-length : tie.Need-returns-3
+answer-length : Need-returns-3
 unfolding routeCall tickFrom routeRefusal
 answer-length c = simp (ne-eqb _ _ (c .if3 .taken), eq-eqb _ _ (c .before .if2 .left), eq-eqb _ _ (c .before .before .if1 .left))
 
-no-form : tie.Need-returns-4
+no-form : Need-returns-4
 no-form c =
     let t = c .before in
     let d = t .before .before in
@@ -32,19 +26,19 @@ no-form c =
     formless _ (d .before .form-refusal .ensures) (d .is-done .ensures) _ _ _
     (takes _ _ _ (l .before .before .if1 .left) (l .before .if2 .left) (l .if3 .left) (t .intact .ensures) (ap not (c .if5 .taken))) (t .before .if4 .taken)
 
-broken-besides : tie.Need-returns-5
+broken-besides : Need-returns-5
 broken-besides c =
     let t = c .before in
     let l = t .before .before .before .before .before .before .before .before .before .before in
     broken _ _ _ _ (l .before .before .if1 .left) (l .before .if2 .left) (l .if3 .left) (t .intact .ensures) (c .if5 .left)
 
-broken-image : tie.Need-returns-6
+broken-image : Need-returns-6
 broken-image c =
     let t = c .before in
     let l = t .before .before .before .before .before .before .before .before .before .before .before .before .before in
     broken _ _ _ _ (l .before .before .if1 .left) (l .before .if2 .left) (l .if3 .left) (t .intact2 .ensures) (not-true (t .intact2 .result) (c .if6 .taken))
 
-flies : tie.Need-returns-7
+flies : Need-returns-7
 unfolding routeCall onRoute
 flies c =
     let w = c .before .before .before .before in
@@ -65,8 +59,7 @@ flies c =
 
 pub route-tick-spec : {M : Type 1} → statement M
 route-tick-spec =
-    tie.close
-    (tie.spec image-length input-length answer-length (λ c κs. search needs)
+    close (spec image-length input-length answer-length (λ c κs. search needs)
     (λ c κs. let n = c .before .before .before .before .if1 .left in (n, scanned _ 99 _ (c .all-plain .ensures) n))
     (λ c κs. let n = c .before .before .before .before .if2 .left in omega arith)
     (λ c κs. let n = c .before .before .before .before .before .if2 .left in (n, scanned _ 17 _ (c .all-plain2 .ensures) n))

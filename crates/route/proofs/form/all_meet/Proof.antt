@@ -1,28 +1,22 @@
 -- `route::form::all_meet`: the joins from leg i on decide, as all of them do. Assumes nothing.
-use borrow.Author.Needs.{needs}
-use borrow.Author.Tests.{not-true, not-false}
-use mathlib.Core.Path.{_≡_, refl, sym, _∙_}
-use Prim.Native.Nat.{_-_, _≤_}
-use native.Mathlib.Omega.{arith}
+use Rattle.laws.proofs.Prelude.{needs, not-true, not-false, _≡_, refl, sym, _∙_, _-_, _≤_, arith}
 use Rattle.route.specs.Form.{meetFrom, allMeet}
-use Rattle.route.proofs.Walks.{meet-on, meet-stops, meet-ends}
-use Rattle.route.proofs.form.all_meet.Statement.{statement}
-use Rattle.route.proofs.form.all_meet.Tie as tie
+use Rattle.route.proofs.{Walks.{meet-on, meet-stops, meet-ends}, form.all_meet.{Statement.statement, Tie.{InvT-loop, MeasureT-loop, Need-returns, Need-loop-again, Need-returns-2, close, spec}}}
 
-abbrev Inv-loop : tie.InvT-loop
+abbrev Inv-loop : InvT-loop
 Inv-loop route count i₀ i = (1 ≤ i) × (meetFrom route (count - i) i ≡ meetFrom route (count - 1) 1)
 
-abbrev μ-loop : tie.MeasureT-loop
+abbrev μ-loop : MeasureT-loop
 μ-loop route count i₀ i = count - i
 
-returns : tie.Need-returns Inv-loop μ-loop
+returns : Need-returns Inv-loop μ-loop
 unfolding allMeet
 returns c =
     let at = c .before in
     sym (meet-stops _ _ _ (at .before .loop-test .taken) (sym (at .legs-meet .ensures) ∙ not-true (at .legs-meet .result) (c .if1 .taken)))
     ∙ at .before .before .loop .inv .1
 
-loop-again : tie.Need-loop-again Inv-loop μ-loop
+loop-again : Need-loop-again Inv-loop μ-loop
 loop-again c =
     let at = c .before in (
       omega arith,
@@ -30,14 +24,13 @@ loop-again c =
           ∙ at .before .before .loop .inv .1,
     )
 
-returns-2 : tie.Need-returns-2 Inv-loop μ-loop
+returns-2 : Need-returns-2 Inv-loop μ-loop
 unfolding allMeet
 returns-2 c = sym (meet-ends _ _ _ (c .loop-test .left)) ∙ c .before .loop .inv .1
 
 pub all-meet-spec : {M : Type 1} → statement M
 all-meet-spec =
-    tie.close
-    (tie.spec Inv-loop μ-loop
+    close (spec Inv-loop μ-loop
     (λ c. (omega arith, refl))
     (λ c. omega arith) (λ c. search needs) (λ c. search needs)
     (λ c κs. (omega arith, omega arith))

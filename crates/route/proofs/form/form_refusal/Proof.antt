@@ -1,14 +1,12 @@
 -- `route::form::form_refusal`: the tests in their order. Assumes nothing.
-use borrow.Author.Needs.{needs}
-use borrow.Author.Tests.{lt-ltb, le-ltb, eq-eqb, ne-eqb, not-true, not-false}
+use Rattle.laws.proofs.Prelude.{needs, lt-ltb, le-ltb, eq-eqb, ne-eqb, not-true, not-false}
 use Rattle.route.specs.Form.{formRefusal}
-use Rattle.route.proofs.form.form_refusal.Statement.{statement}
-use Rattle.route.proofs.form.form_refusal.Tie as tie
+use Rattle.route.proofs.form.form_refusal.{Statement.statement, Tie.{close, spec}}
 
 pub form-refusal-spec : {M : Type 1} → statement M
 unfolding formRefusal
 form-refusal-spec =
-    tie.close (tie.spec
+    close (spec
     (λ c. simp (lt-ltb _ _ (c .if1 .taken)))
     (λ c κs. search needs)
     (λ c. simp (

@@ -1,16 +1,9 @@
 -- `route::form::words_meet`: the same word is the same number, unless it is a NaN's. Assumes nothing.
-use borrow.Author.Needs.{needs}
-use borrow.Author.Tests.{le-ltb, lt-ltb}
-use mathlib.Core.Path.{_≡_, sym, ap, _∙_}
-use mathlib.Core.Bool.{Bool, true, false, not}
-use Prim.Native.Nat.{ℕ, _%_}
-use lib.Dec.{ltb}
-use lib.Ieee.{binary32, eq, ne}
+use Rattle.laws.proofs.Prelude.{needs, le-ltb, lt-ltb, _≡_, sym, ap, _∙_, Bool, true, false, not, ℕ, _%_, ltb, binary32, eq, ne}
 use lib.Ieee.Bits.{nanBits-above, nanBits-is}
 use Rattle.words.specs.Words.{floatOf}
 use Rattle.relay_math.proofs.Order.{differs-as-nan}
-use Rattle.route.proofs.form.words_meet.Statement.{statement}
-use Rattle.route.proofs.form.words_meet.Tie as tie
+use Rattle.route.proofs.form.words_meet.{Statement.statement, Tie.{close, spec}}
 
 back : (t u : Bool) → not t ≡ u → t ≡ not u
 back true u e = ap not e
@@ -23,8 +16,7 @@ itself {w} {x} {t} p e =
 
 pub words-meet-spec : {M : Type 1} → statement M
 words-meet-spec =
-    tie.close
-    (tie.spec
+    close (spec
     (λ c. sym (itself (c .before .if1 .taken) (lt-ltb _ _ (c .if2 .taken))))
     (λ c. sym (itself (c .before .if1 .taken) (le-ltb _ _ (c .if2 .left))))
     (λ c κs. search needs)

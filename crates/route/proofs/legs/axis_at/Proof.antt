@@ -1,9 +1,8 @@
-use borrow.Author.Needs.{needs}
+use Rattle.laws.proofs.Prelude.{needs}
 use Rattle.relay_traj.specs.Quintic.{mend}
-use Rattle.route.proofs.legs.axis_at.Statement.{statement}
-use Rattle.route.proofs.legs.axis_at.Tie as tie
+use Rattle.route.proofs.legs.axis_at.{Statement.statement, Tie.{Need-returns, close, spec}}
 
-returns : tie.Need-returns
+returns : Need-returns
 unfolding mend
 returns c =
     let f = c .before .before .before .before in
@@ -19,7 +18,6 @@ returns c =
 
 pub axis-at-spec : {M : Type 1} → statement M
 axis-at-spec =
-    tie.close
-    (tie.spec (λ c κs. search needs) (λ c. search needs) (λ c κs. search needs) (λ c. search needs) (λ c κs. search needs) (λ c. search needs) (λ c κs. search needs)
+    close (spec (λ c κs. search needs) (λ c. search needs) (λ c κs. search needs) (λ c. search needs) (λ c κs. search needs) (λ c. search needs) (λ c κs. search needs)
     (λ c. search needs) (λ c κs. search needs) (λ c. search needs) (λ c κs. search needs) (λ c κs. search needs)
     returns)

@@ -1,19 +1,12 @@
 -- `route::legs::reference_of`: three axes of mended words are the leg's segment. Assumes nothing.
-use borrow.Author.Needs.{needs}
-use mathlib.Core.Path.{_≡_}
-use mathlib.Core.List.{List}
-use Prim.Native.Nat.{ℕ, _+_}
+use Rattle.laws.proofs.Prelude.{needs, _≡_, List, ℕ, _+_, Float}
 use native.Mathlib.Nat.{add-right-comm}
-use lib.Ieee.{Float}
 use Rattle.words.specs.Words.{float, vec}
-use Rattle.relay_traj.specs.declared.quintic.Quintic.{Quintic}
-use Rattle.relay_traj.specs.Quintic.{mend, ofMended, quintic}
-use Rattle.relay_traj.specs.Segment.{segment}
+use Rattle.relay_traj.specs.{declared.quintic.Quintic.Quintic, Quintic.{mend, ofMended, quintic}, Segment.segment}
 use Rattle.joint_tick.specs.SetUp.{segmentOf}
 use Rattle.image.specs.Parts.{legAt}
 use Rattle.route.specs.Legs.{referenceOf}
-use Rattle.route.proofs.legs.reference_of.Statement.{statement}
-use Rattle.route.proofs.legs.reference_of.Tie as tie
+use Rattle.route.proofs.legs.reference_of.{Statement.statement, Tie.{Need-returns, close, spec}}
 
 abbrev axis : List ℕ → ℕ → ℕ → Quintic
 axis b k j = ofMended (mend (float b j) (float b (j + 3)) (float b (j + 6)) (float b (j + 9)) (float b (j + 12)) (float b (j + 15)) (float b (k + 18)))
@@ -27,7 +20,7 @@ axes : (b : List ℕ) (k : ℕ) → segmentOf (legAt b k) ≡ (axis b k k, axis 
 unfolding segmentOf segment quintic legAt vec
 axes b k = rw (axis-of b k 1, axis-of b k 2)
 
-returns : tie.Need-returns
+returns : Need-returns
 unfolding referenceOf
 returns c =
     let y = c .before .before .before in
@@ -46,7 +39,6 @@ returns c =
 
 pub reference-of-spec : {M : Type 1} → statement M
 reference-of-spec =
-    tie.close
-    (tie.spec (λ c. search needs) (λ c. search needs) (λ c κs. search needs) (λ c κs. search needs) (λ c κs. search needs) (λ c. search needs) (λ c κs. search needs)
+    close (spec (λ c. search needs) (λ c. search needs) (λ c κs. search needs) (λ c κs. search needs) (λ c κs. search needs) (λ c. search needs) (λ c κs. search needs)
     (λ c κs. search needs) (λ c. search needs) (λ c κs. search needs) (λ c κs. search needs) (λ c κs. search needs)
     returns)

@@ -1,20 +1,9 @@
 -- `words::read::all_plain`: the top bit is off so long as every word that it looked at is plain. Assumes nothing.
-use borrow.Author.Needs.{needs}
-use mathlib.Core.Path.{_≡_, refl, sym, _∙_}
-use mathlib.Core.Bool.{Bool, _&&_}
-use mathlib.Core.Logic.{inl, inr}
-use Prim.Native.Nat.{ℕ, _+_, _-_, _%_, _≤_}
+use Rattle.laws.proofs.Prelude.{needs, _≡_, refl, sym, _∙_, Bool, _&&_, inl, inr, ℕ, _+_, _-_, _%_, _≤_, add-one, arith, le-leb, lt-leb, lt-ltb, le-ltb, ltb, le-or-lt}
 use native.Mathlib.Nat.{le-antisymm}
-use native.Mathlib.Numerals.{add-one}
-use native.Mathlib.Omega.{arith}
-use borrow.Author.Tests.{le-leb, lt-leb, lt-ltb, le-ltb}
 use lib.Bits.{bitOr, or-lt, or-add-and, and-le-l, and-le-r}
-use lib.Dec.{ltb}
-use Rattle.laws.proofs.Tests.{le-or-lt}
 use Rattle.words.specs.Inner.{isPlain, allPlain}
-use Rattle.words.proofs.Plain.{plain-is}
-use Rattle.words.proofs.read.all_plain.Statement.{statement}
-use Rattle.words.proofs.read.all_plain.Tie as tie
+use Rattle.words.proofs.{Plain.plain-is, read.all_plain.{Statement.statement, Tie.{InvT-loop, MeasureT-loop, Need-loop-again, Need-returns, close, spec}}}
 
 abbrev Low : ℕ → Bool
 Low a = ltb a 2147483648
@@ -42,18 +31,18 @@ low-plain w =
       | inr h ↦ rw (le-ltb (a + 8388607) 2147483648 (omega arith)) (sym (lt-leb a 2139095040 h) ∙ plain-is w)
     ]
 
-abbrev Inv-loop : tie.InvT-loop
+abbrev Inv-loop : InvT-loop
 Inv-loop bytes count k₀ above₀ k above = (k ≤ count) × (Low above ≡ allPlain bytes k)
 
-abbrev μ-loop : tie.MeasureT-loop
+abbrev μ-loop : MeasureT-loop
 μ-loop bytes count k₀ above₀ k above = count - k
 
-loop-again : tie.Need-loop-again Inv-loop μ-loop
+loop-again : Need-loop-again Inv-loop μ-loop
 loop-again c =
     let at = c .before .before .loop in
     (omega arith, low-or (at .above) _ ∙ rw (add-one (at .k), low-plain _, c .word-at .ensures, at .inv .1))
 
-returns : tie.Need-returns Inv-loop μ-loop
+returns : Need-returns Inv-loop μ-loop
 returns c =
     let at = c .before .loop in
     let e : at .k ≡ c .before .before .before .args .count = le-antisymm (at .inv .0) (omega arith) in
@@ -61,5 +50,4 @@ returns c =
 
 pub all-plain-spec : {M : Type 1} → statement M
 all-plain-spec =
-    tie.close
-    (tie.spec Inv-loop μ-loop (λ c. (omega arith, refl)) (λ c κs. omega arith) (λ c. search needs) (λ c. search needs) (λ c. omega arith) loop-again returns)
+    close (spec Inv-loop μ-loop (λ c. (omega arith, refl)) (λ c κs. omega arith) (λ c. search needs) (λ c. search needs) (λ c. omega arith) loop-again returns)

@@ -1,23 +1,16 @@
 -- A word whose exponent is below the infinity's is read as it stands. Assumes nothing.
-use borrow.Author.Needs.{needs}
-use borrow.Author.Tests.{lt-ltb, le-ltb}
-use mathlib.Core.Path.{sym, _∙_}
-use lib.Ieee.{binary32}
+use Rattle.laws.proofs.Prelude.{needs, lt-ltb, le-ltb, sym, _∙_, binary32, held}
 use lib.Ieee.Bits.{nanBits-is}
-use Rattle.laws.proofs.Tests.{held}
 use Rattle.relay_math.proofs.Order.{finite-number}
 use Rattle.words.specs.Words.{float}
-use Rattle.words.proofs.Finite.{finite-is}
-use Rattle.words.proofs.read.finite_at.Statement.{statement}
-use Rattle.words.proofs.read.finite_at.Tie as tie
+use Rattle.words.proofs.{Finite.finite-is, read.finite_at.{Statement.statement, Tie.{Need-float-from-bits-result, close, spec}}}
 
-defined : tie.Need-float-from-bits-result
+defined : Need-float-from-bits-result
 defined c = rw (nanBits-is binary32 (c .before .word-at .result)) (finite-number _ (held (sym (finite-is (c .before .word-at .result)) ∙ lt-ltb _ _ (c .if1 .taken))))
 
 pub finite-at-spec : {M : Type 1} → statement M
 unfolding float
 finite-at-spec =
-    tie.close
-    (tie.spec (λ c κs. search needs) (λ c. search needs) defined
+    close (spec (λ c κs. search needs) (λ c. search needs) defined
     (λ c. rw (← c .before .word-at .ensures, ← finite-is (c .before .word-at .result), lt-ltb _ _ (c .if1 .taken)))
     (λ c. rw (← c .before .word-at .ensures, ← finite-is (c .before .word-at .result), le-ltb _ _ (c .if1 .left))))

@@ -1,16 +1,10 @@
 -- A plain word is read as it stands, and any other by `float_of`. Assumes nothing.
-use borrow.Author.Needs.{needs}
-use mathlib.Core.Path.{subst}
-use mathlib.Core.Bool.{Bool, true, not}
-use lib.Dec.{T}
-use lib.Ieee.{binary32}
+use Rattle.laws.proofs.Prelude.{needs, subst, Bool, true, not, T, binary32}
 use lib.Ieee.Bits.{nanBits-is}
-use Rattle.words.specs.Words.{float}
-use Rattle.words.specs.Inner.{Plain}
-use Rattle.words.proofs.read.read_float.Statement.{statement}
-use Rattle.words.proofs.read.read_float.Tie as tie
+use Rattle.words.specs.{Words.float, Inner.Plain}
+use Rattle.words.proofs.read.read_float.{Statement.statement, Tie.{Need-float-from-bits-result, close, spec}}
 
-defined : tie.Need-float-from-bits-result
+defined : Need-float-from-bits-result
 defined c =
     let w = c .before in
     let a = w .before .before in
@@ -19,6 +13,4 @@ defined c =
 
 pub read-float-spec : {M : Type 1} → statement M
 unfolding float
-read-float-spec =
-    tie.close
-    (tie.spec (λ c κs. search needs) defined (λ c κs. search needs) (λ c. cc) (λ c. cc))
+read-float-spec = close (spec (λ c κs. search needs) defined (λ c κs. search needs) (λ c. cc) (λ c. cc))

@@ -1,13 +1,8 @@
 -- `x != x` is true of `nan` alone, whose bits `toBits` gives as 0x7fc0_0000; elsewhere `to_bits` is defined. Assumes nothing.
-use borrow.Author.Needs.{needs}
-use mathlib.Core.Path.{_≡_, sym, subst, _∙_}
-use mathlib.Core.Bool.{true, false, not}
-use lib.Dec.{T}
-use lib.Ieee.{Float, binary32, isNan, toBits, ne}
+use Rattle.laws.proofs.Prelude.{needs, _≡_, sym, subst, _∙_, true, false, not, T, Float, binary32, isNan, toBits, ne}
 use lib.Ieee.Compare.{differs-from-itself}
 use Rattle.relay_math.proofs.Order.{differs-as-nan}
-use Rattle.words.proofs.write.bits_of.Statement.{statement}
-use Rattle.words.proofs.write.bits_of.Tie as tie
+use Rattle.words.proofs.write.bits_of.{Statement.statement, Tie.{close, spec}}
 
 not-nan : (x : Float) → ne x x ≡ false → T (not (isNan x))
 not-nan x e = rw (sym (differs-as-nan x) ∙ e) tt
@@ -17,8 +12,4 @@ unfolding toBits
 nan-bits x e = rw (differs-from-itself x (subst T (sym e) tt))
 
 pub bits-of-spec : {M : Type 1} → statement M
-bits-of-spec =
-    tie.close (tie.spec
-    (λ c. not-nan (c .before .args .x) (c .if1 .left))
-    (λ c. nan-bits (c .before .args .x) (c .if1 .taken))
-    (λ c. search needs))
+bits-of-spec = close (spec (λ c. not-nan (c .before .args .x) (c .if1 .left)) (λ c. nan-bits (c .before .args .x) (c .if1 .taken)) (λ c. search needs))

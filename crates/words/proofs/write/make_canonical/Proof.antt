@@ -1,32 +1,21 @@
 -- `words::write::make_canonical`: plain words stand; else the first k are made after k rounds. Assumes nothing.
-use borrow.Author.Needs.{needs}
-use mathlib.Core.Path.{_≡_, refl, sym, ap, subst, _∙_}
-use mathlib.Core.Bool.{Bool}
-use mathlib.Core.List.{List}
-use Prim.Native.Nat.{ℕ, _-_, _≤_}
+use Rattle.laws.proofs.Prelude.{needs, _≡_, refl, sym, ap, subst, _∙_, Bool, List, ℕ, _-_, _≤_, add-one, arith, length, length-sets}
 use native.Mathlib.Nat.{le-antisymm}
-use native.Mathlib.Numerals.{add-one}
-use native.Mathlib.Omega.{arith}
-use lib.ListN.{length}
-use lib.Seq.{length-sets}
-use Rattle.words.specs.Words.{bytesOf, canons, float, Put}
-use Rattle.words.specs.Inner.{Plain}
-use Rattle.words.proofs.Written.{whole}
-use Rattle.words.proofs.Standing.{all-stand, length-canons, one-more-canonical}
-use Rattle.words.proofs.write.make_canonical.Statement.{statement}
-use Rattle.words.proofs.write.make_canonical.Tie as tie
+use Rattle.words.specs.{Words.{bytesOf, canons, float, Put}, Inner.Plain}
+use Rattle.words.proofs.{Written.whole, Standing.{all-stand, length-canons, one-more-canonical}, write.make_canonical.Statement.statement}
+use Rattle.words.proofs.write.make_canonical.Tie.{InvT-loop, MeasureT-loop, Need-returns, close, spec}
 
-abbrev Inv-loop : tie.InvT-loop
+abbrev Inv-loop : InvT-loop
 Inv-loop bytes₀ count plain k₀ bytes k = (k ≤ count) × Put bytes₀ 0 (canons bytes₀ 0 k) bytes
 
-abbrev μ-loop : tie.MeasureT-loop
+abbrev μ-loop : MeasureT-loop
 μ-loop bytes₀ count plain k₀ bytes k = count - k
 
 -- what was written so far keeps the length
 long : {b t : List ℕ} (k : ℕ) → Put b 0 (canons b 0 k) t → length t ≡ length b
 long {b} {t} k p = ap length (p .is) ∙ length-sets b 0 (bytesOf (canons b 0 k))
 
-returns : tie.Need-returns Inv-loop μ-loop
+returns : Need-returns Inv-loop μ-loop
 returns c =
     let a = c .before .before in
     all-stand _ _ (λ i. omega (arith, c .before .slice-known .given i)) (subst (λ (p : Bool). Plain p (a .args .bytes .now)) (c .if1 .taken) (a .pre .1)) (a .pre .0)
@@ -34,8 +23,7 @@ returns c =
 pub make-canonical-spec : {M : Type 1} → statement M
 unfolding float
 make-canonical-spec =
-    tie.close
-    (tie.spec Inv-loop μ-loop returns (λ c. (omega arith, record { is = refl }))
+    close (spec Inv-loop μ-loop returns (λ c. (omega arith, record { is = refl }))
     (λ c κs. let at = c .before .before .before in let l = long (at .loop .k) (at .loop .inv .1) in let n = at .before .before .before .pre .0 in omega arith)
     (λ c κs. let at = c .before .before .before .before in let l = long (at .loop .k) (at .loop .inv .1) in let n = at .before .before .before .pre .0 in omega arith)
     (λ c. search needs) (λ c. omega arith)

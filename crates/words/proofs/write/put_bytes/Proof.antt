@@ -1,14 +1,6 @@
 -- `words::write::put_bytes`: after i bytes the first i are written, by fours and then one by one. Assumes nothing.
-use borrow.Author.Needs.{needs}
-use mathlib.Core.Path.{_≡_, refl, ap, _∙_}
-use mathlib.Core.List.{List}
-use Prim.Native.Nat.{ℕ, _+_, _-_, _≤_}
-use native.Mathlib.Omega.{arith}
-use lib.ListN.{length, take, set, getD, length-set}
-use lib.Seq.{sets, length-sets, take-all}
-use Rattle.words.proofs.Written.{one-more}
-use Rattle.words.proofs.write.put_bytes.Statement.{statement}
-use Rattle.words.proofs.write.put_bytes.Tie as tie
+use Rattle.laws.proofs.Prelude.{needs, _≡_, refl, ap, _∙_, List, ℕ, _+_, _-_, _≤_, arith, length, take, set, getD, length-set, sets, length-sets, take-all}
+use Rattle.words.proofs.{Written.one-more, write.put_bytes.{Statement.statement, Tie.{InvT-loop, MeasureT-loop, InvT-loop2, MeasureT-loop2, close, spec}}}
 
 four-more : (b : List ℕ) (at : ℕ) (from : List ℕ) (i : ℕ) → i + 4 ≤ length from
     → set (set (set (set (sets b at (take i from)) (at + i) (getD from i 0)) (at + i + 1) (getD from (i + 1) 0)) (at + i + 2) (getD from (i + 2) 0)) (at + i + 3) (getD from (i + 3) 0)
@@ -23,23 +15,22 @@ four-more b at from i h =
     rw (one-more b at from i (omega arith), one, one-more b at from (i + 1) (omega arith), two, next, one-more b at from (i + 1 + 1) (omega arith), three, last, end)
     (one-more b at from (i + 1 + 1 + 1) (omega arith))
 
-abbrev Inv-loop : tie.InvT-loop
+abbrev Inv-loop : InvT-loop
 Inv-loop bytes₀ at from i₀ bytes i = (i ≤ length from) × (bytes ≡ sets bytes₀ at (take i from))
 
-abbrev μ-loop : tie.MeasureT-loop
+abbrev μ-loop : MeasureT-loop
 μ-loop bytes₀ at from i₀ bytes i = length from - i
 
 -- of whatever the bytes were before the fours
-abbrev Inv-loop2 : tie.InvT-loop2
+abbrev Inv-loop2 : InvT-loop2
 Inv-loop2 bytes₀ at from i₀ bytes i = (i ≤ length from) × ((b : List ℕ) → bytes₀ ≡ sets b at (take i₀ from) → bytes ≡ sets b at (take i from))
 
-abbrev μ-loop2 : tie.MeasureT-loop2
+abbrev μ-loop2 : MeasureT-loop2
 μ-loop2 bytes₀ at from i₀ bytes i = length from - i
 
 pub put-bytes-spec : {M : Type 1} → statement M
 put-bytes-spec =
-    tie.close
-    (tie.spec Inv-loop μ-loop Inv-loop2 μ-loop2
+    close (spec Inv-loop μ-loop Inv-loop2 μ-loop2
     (λ c. (omega arith, refl))
     (λ c. search needs)
     (λ c. search needs) (λ c. search needs) (λ c. search needs) (λ c. search needs) (λ c. search needs) (λ c. search needs) (λ c. search needs)

@@ -1,7 +1,5 @@
-use borrow.Author.Needs.{needs}
-use Rattle.words.proofs.write.put_flag.Statement.{statement}
-use Rattle.words.proofs.write.put_flag.Tie as tie
+use Rattle.laws.proofs.Prelude.{needs}
+use Rattle.words.proofs.write.put_flag.{Statement.statement, Tie.{close, spec}}
 
 pub put-flag-spec : {M : Type 1} → statement M
-put-flag-spec =
-    tie.close (tie.spec (λ c κs. search needs) (λ c κs. search needs) (λ c. search needs) (λ c. record { is = cc }))
+put-flag-spec = close (spec (λ c κs. search needs) (λ c κs. search needs) (λ c. search needs) (λ c. record { is = cc }))

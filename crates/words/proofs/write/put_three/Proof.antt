@@ -1,10 +1,7 @@
-use borrow.Author.Needs.{needs}
-use mathlib.Core.Path.{refl}
-use Rattle.words.proofs.Written.{then}
-use Rattle.words.proofs.write.put_three.Statement.{statement}
-use Rattle.words.proofs.write.put_three.Tie as tie
+use Rattle.laws.proofs.Prelude.{needs, refl}
+use Rattle.words.proofs.{Written.then, write.put_three.{Statement.statement, Tie.{Need-returns, close, spec}}}
 
-returns : tie.Need-returns
+returns : Need-returns
 returns c =
     then (then (c .before .before .before .before .before .before .before .before .before .before .put-float .ensures)
     (c .before .before .before .before .before .before .put-float2 .ensures) refl)
@@ -12,7 +9,6 @@ returns c =
 
 pub put-three-spec : {M : Type 1} → statement M
 put-three-spec =
-    tie.close
-    (tie.spec
+    close (spec
     (λ c κs. search needs) (λ c. search needs) (λ c κs. search needs) (λ c. search needs) (λ c κs. search needs) (λ c. search needs)
     returns)

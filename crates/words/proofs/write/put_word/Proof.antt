@@ -1,13 +1,6 @@
-use borrow.Author.Needs.{needs}
-use Prim.Native.Nat.{ℕ, suc, _+_, _*_, _/_, _%_}
-use native.Mathlib.Omega.{arith}
-use mathlib.Core.Path.{_≡_}
-use mathlib.Core.List.{List, [], _∷_}
-use lib.ListN.{set, length-set}
-use lib.Seq.{sets}
+use Rattle.laws.proofs.Prelude.{needs, ℕ, suc, _+_, _*_, _/_, _%_, arith, _≡_, List, [], _∷_, set, length-set, sets}
 use Rattle.words.specs.Words.{bytesOf}
-use Rattle.words.proofs.write.put_word.Statement.{statement}
-use Rattle.words.proofs.write.put_word.Tie as tie
+use Rattle.words.proofs.write.put_word.{Statement.statement, Tie.{close, spec}}
 
 stores : (b : List ℕ) (i w : ℕ)
     → set (set (set (set b i (w % 256)) (i + 1) (w / 256 % 256)) (i + 2) (w / 65536 % 256)) (i + 3) (w / 16777216 % 256) ≡ sets b i (bytesOf (w ∷ []))
@@ -19,8 +12,7 @@ stores b i w =
 
 pub put-word-spec : {M : Type 1} → statement M
 put-word-spec =
-    tie.close
-    (tie.spec
+    close (spec
     (λ c. search needs) (λ c. search needs) (λ c. search needs) (λ c. search needs) (λ c. search needs)
     (λ c. simp length-set (search needs))
     (λ c. search needs) (λ c. search needs)

@@ -1,14 +1,13 @@
 -- The calls' answers put together, the last first. Assumes nothing.
-use borrow.Author.Needs.{needs}
+use Rattle.laws.proofs.Prelude.{needs}
 use Rattle.relay_adrc.specs.Inner.{axisObserve}
-use Rattle.relay_adrc.proofs.axis.AdrcAxis.observe.Statement.{statement}
-use Rattle.relay_adrc.proofs.axis.AdrcAxis.observe.Tie as tie
+use Rattle.relay_adrc.proofs.axis.AdrcAxis.observe.{Statement.statement, Tie.{After-sanitise4, After-mend-b0, Need-returns, close, spec}}
 
 -- where the inputs and the gains are mended
-abbrev mended : tie.After-sanitise4 → tie.After-mend-b0
+abbrev mended : After-sanitise4 → After-mend-b0
 mended c = c .before .before .before .before .before .before .before .before .before
 
-returns : tie.Need-returns
+returns : Need-returns
 unfolding axisObserve
 returns c =
     simp (
@@ -24,6 +23,5 @@ returns c =
 
 pub observe-spec : {M : Type 1} → statement M
 observe-spec =
-    tie.close
-    (tie.spec (λ c κs. search needs) (λ c κs. search needs) (λ c κs. search needs) (λ c κs. search needs) (λ c κs. search needs)
+    close (spec (λ c κs. search needs) (λ c κs. search needs) (λ c κs. search needs) (λ c κs. search needs) (λ c κs. search needs)
     (λ c κs. search needs) (λ c κs. search needs) (λ c κs. search needs) returns)

@@ -1,10 +1,9 @@
-use borrow.Author.Needs.{needs}
+use Rattle.laws.proofs.Prelude.{needs}
 use Rattle.relay_adrc.specs.Biquad.{biquadFilter}
-use Rattle.relay_adrc.proofs.biquad.Biquad.filter.Statement.{statement}
-use Rattle.relay_adrc.proofs.biquad.Biquad.filter.Tie as tie
+use Rattle.relay_adrc.proofs.biquad.Biquad.filter.{Statement.statement, Tie.{close, spec}}
 
 pub filter-spec : {M : Type 1} → statement M
 unfolding biquadFilter
 filter-spec =
-    tie.close (tie.spec (λ c κs. search needs) (λ c κs. search needs)
+    close (spec (λ c κs. search needs) (λ c κs. search needs)
     (λ c. simp (c .finite-or2 .ensures, c .before .before .before .before .before .before .finite-or .ensures)))

@@ -1,10 +1,7 @@
-use borrow.Author.Needs.{needs}
+use Rattle.laws.proofs.Prelude.{needs}
 use Rattle.relay_adrc.specs.Biquad.{gyroNew}
-use Rattle.relay_adrc.proofs.biquad.GyroLpf.new.Statement.{statement}
-use Rattle.relay_adrc.proofs.biquad.GyroLpf.new.Tie as tie
+use Rattle.relay_adrc.proofs.biquad.GyroLpf.new.{Statement.statement, Tie.{close, spec}}
 
 pub new-spec : {M : Type 1} → statement M
 unfolding gyroNew
-new-spec =
-    tie.close (tie.spec (λ c κs. search needs)
-    (λ c. simp (c .lowpass .ensures)))
+new-spec = close (spec (λ c κs. search needs) (λ c. simp (c .lowpass .ensures)))

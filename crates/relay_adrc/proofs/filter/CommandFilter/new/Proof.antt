@@ -1,8 +1,5 @@
-use borrow.Author.Needs.{needs}
-use Rattle.relay_adrc.proofs.filter.CommandFilter.new.Statement.{statement}
-use Rattle.relay_adrc.proofs.filter.CommandFilter.new.Tie as tie
+use Rattle.laws.proofs.Prelude.{needs}
+use Rattle.relay_adrc.proofs.filter.CommandFilter.new.{Statement.statement, Tie.{close, spec}}
 
 pub new-spec : {M : Type 1} → statement M
-new-spec =
-    tie.close (tie.spec (λ c κs. search needs)
-    (λ c. simp (c .positive-or .ensures)))
+new-spec = close (spec (λ c κs. search needs) (λ c. simp (c .positive-or .ensures)))

@@ -1,8 +1,7 @@
-use borrow.Author.Needs.{needs}
-use Rattle.relay_adrc.proofs.rate.AdrcRate.reset.Statement.{statement}
-use Rattle.relay_adrc.proofs.rate.AdrcRate.reset.Tie as tie
+use Rattle.laws.proofs.Prelude.{needs}
+use Rattle.relay_adrc.proofs.rate.AdrcRate.reset.{Statement.statement, Tie.{close, spec}}
 
 pub reset-spec : {M : Type 1} → statement M
 reset-spec =
-    tie.close (tie.spec (λ c κs. search needs) (λ c κs. search needs) (λ c κs. search needs)
+    close (spec (λ c κs. search needs) (λ c κs. search needs) (λ c κs. search needs)
     (λ c. simp (c .reset3 .ensures, c .before .reset2 .ensures, c .before .before .reset .ensures)))

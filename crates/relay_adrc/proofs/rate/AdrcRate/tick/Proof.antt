@@ -1,10 +1,9 @@
-use borrow.Author.Needs.{needs}
+use Rattle.laws.proofs.Prelude.{needs}
 use Rattle.relay_adrc.specs.Rate.{rateTick}
-use Rattle.relay_adrc.proofs.rate.AdrcRate.tick.Statement.{statement}
-use Rattle.relay_adrc.proofs.rate.AdrcRate.tick.Tie as tie
+use Rattle.relay_adrc.proofs.rate.AdrcRate.tick.{Statement.statement, Tie.{close, spec}}
 
 pub tick-spec : {M : Type 1} → statement M
 unfolding rateTick
 tick-spec =
-    tie.close (tie.spec (λ c κs. search needs) (λ c κs. search needs) (λ c κs. search needs)
+    close (spec (λ c κs. search needs) (λ c κs. search needs) (λ c κs. search needs)
     (λ c. simp (c .before .before .before .tick3 .ensures, c .before .before .before .before .tick2 .ensures, c .before .before .before .before .before .tick .ensures)))

@@ -1,11 +1,10 @@
-use borrow.Author.Needs.{needs}
+use Rattle.laws.proofs.Prelude.{needs}
 use Rattle.relay_geo.specs.Controller.{moment}
-use Rattle.relay_geo.proofs.controller.GeoAtt.moment.Statement.{statement}
-use Rattle.relay_geo.proofs.controller.GeoAtt.moment.Tie as tie
+use Rattle.relay_geo.proofs.controller.GeoAtt.moment.{Statement.statement, Tie.{Need-returns, close, spec}}
 
-returns : tie.Need-returns
+returns : Need-returns
 unfolding moment
 returns c = simp (c .opposed .ensures, c .before .gyroscopic .ensures, c .before .before .before .before .attitude-error .ensures)
 
 pub moment-spec : {M : Type 1} → statement M
-moment-spec = tie.close (tie.spec (λ c κs. search needs) (λ c κs. search needs) (λ c κs. search needs) returns)
+moment-spec = close (spec (λ c κs. search needs) (λ c κs. search needs) (λ c κs. search needs) returns)

@@ -1,13 +1,11 @@
-use borrow.Author.Needs.{needs}
-use Rattle.relay_geo.proofs.controller.GeoAtt.rate_toward.Statement.{statement}
-use Rattle.relay_geo.proofs.controller.GeoAtt.rate_toward.Tie as tie
+use Rattle.laws.proofs.Prelude.{needs}
+use Rattle.relay_geo.proofs.controller.GeoAtt.rate_toward.{Statement.statement, Tie.{Need-returns, close, spec}}
 
-returns : tie.Need-returns
+returns : Need-returns
 returns c =
     let e = c .before .before .before in
     simp (c .sanitise3 .ensures, c .before .against .ensures, e .attitude-error .ensures, e .before .before .r-d .given .1)
 
 pub rate-toward-spec : {M : Type 1} → statement M
 rate-toward-spec =
-    tie.close
-    (tie.spec (λ c. search needs) (λ c κs. search needs) (λ c κs. search needs) (λ c κs. search needs) (λ c. search needs) returns (λ c. simp (c .enum-told .given .1)))
+    close (spec (λ c. search needs) (λ c κs. search needs) (λ c κs. search needs) (λ c κs. search needs) (λ c. search needs) returns (λ c. simp (c .enum-told .given .1)))

@@ -1,11 +1,10 @@
-use borrow.Author.Needs.{needs}
+use Rattle.laws.proofs.Prelude.{needs}
 use Rattle.relay_geo.specs.Set.{margin}
-use Rattle.relay_geo.proofs.set.RecoverableSet.margin.Statement.{statement}
-use Rattle.relay_geo.proofs.set.RecoverableSet.margin.Tie as tie
+use Rattle.relay_geo.proofs.set.RecoverableSet.margin.{Statement.statement, Tie.{close, spec}}
 
 pub margin-spec : {M : Type 1} → statement M
 unfolding margin
-margin-spec = tie.close (tie.spec (λ c κs. search needs) (λ c κs. search needs)
+margin-spec = close (spec (λ c κs. search needs) (λ c κs. search needs)
     (λ c. simp (← c .before .before .unknown .ensures, c .before .if1 .taken, c .minus-infinity .ensures))
     (λ c κs. search needs) (λ c κs. search needs) (λ c κs. search needs)
     (λ c. simp (c .finite-or .ensures, c .before .minus-infinity2 .ensures, c .before .before .smaller .ensures, ← c .before .before .before .before .before .before .before .unknown .ensures, c .before .before .before .before .before .before .if1 .left)))

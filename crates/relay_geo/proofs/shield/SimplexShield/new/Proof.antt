@@ -1,8 +1,7 @@
-use borrow.Author.Needs.{needs}
+use Rattle.laws.proofs.Prelude.{needs}
 use Rattle.relay_geo.specs.Shield.{newShield}
-use Rattle.relay_geo.proofs.shield.SimplexShield.new.Statement.{statement}
-use Rattle.relay_geo.proofs.shield.SimplexShield.new.Tie as tie
+use Rattle.relay_geo.proofs.shield.SimplexShield.new.{Statement.statement, Tie.{close, spec}}
 
 pub new-spec : {M : Type 1} → statement M
 unfolding newShield
-new-spec = tie.close (tie.spec (λ c κs. search needs) (λ c. simp (c .mend .ensures)))
+new-spec = close (spec (λ c κs. search needs) (λ c. simp (c .mend .ensures)))

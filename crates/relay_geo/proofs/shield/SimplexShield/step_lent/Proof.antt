@@ -1,22 +1,20 @@
 -- `step_lent` meets its contract: a walk of its MIR, by hand. The borrow is opened, the shield behind it is passed to `step`, the shield that this answers is written back, and the borrow is closed.
 -- Assumes nothing.
-use mathlib.Core.Path.{_≡_, refl}
-use Prim.Native.Nat.{ℕ}
-use mathlib.Core.List.{[], _∷_, List}
-use lib.Ieee.{binary32}
-use denote.Struct.Laws as LL
-use Rattle.laws.proofs.Walk.{URA, named, Val, vptr, SProp, ent, sep, emp, via, fst∗, snd∗, exE, id⊢, GName, Lft, Share, ftrue, flft, fobs, fbor, Memory, Routine, Heap, Calls, Loops, WpFn, Tables, Atoms, sem, Fun, fact, givenOf, tables, tablesOf, FmC, fmOf, WpFn-mono}
-use Rattle.laws.proofs.Walk.{Given, ‵, raw, _⊛_, some, later, _$_, _∵_, !, qed, by, move, keep, drop, use0, use1, split, join, fsplit, fsplit3, fjoin, fjoin3, feqI, suffices, frame, done, look, look-raw, init, store-raw, forget, stop, hop, fld, from, load, of-opd, and-then, no-more, assigns, land, returns, enter, alloc1, alloc0, params1, pass1, pass0, free1, free0, agg, whole, sub, look-in, Body, owned, nothing, calls-at}
-use Rattle.laws.proofs.Walk.{RattleType, Denots, Valss, flat, owns, Is, Ises, Are, valss, owns-make, mem, float-vals, float-tells, float-makes, float-lawful, f32, RefT, MutRef, ptr-vals, mut-tells, plain, onEntry, Meets, tripleOf, Contract, Triple, ensured, lasts, entered, cited, says, Stays, stay-ref, stay-none, walkOf, AllGo, goes-none, goes-ref, Walks, ends-at, walked, walk-meets, yes}
+use Rattle.laws.proofs.Prelude.{_≡_, refl, ℕ, [], _∷_, List, binary32}
+use Rattle.laws.proofs.Walk.{URA, named, Val, vptr, SProp, ent, sep, emp, via, fst∗, snd∗, exE, id⊢, GName, Lft, Share, ftrue, flft, fobs, fbor, Memory, Routine, Heap, Calls, Loops, WpFn, Tables}
+use Rattle.laws.proofs.Walk.{Atoms, sem, Fun, fact, givenOf, tables, tablesOf, FmC, fmOf, WpFn-mono, Given, ‵, raw, _⊛_, some, later, _$_, _∵_, !, qed, by, move, keep, drop, use0, use1, split, join}
+use Rattle.laws.proofs.Walk.{fsplit, fsplit3, fjoin, fjoin3, feqI, suffices, frame, done, look, look-raw, init, store-raw, forget, stop, hop, fld, from, load, of-opd, and-then, no-more, assigns, land}
+use Rattle.laws.proofs.Walk.{returns, enter, alloc1, alloc0, params1, pass1, pass0, free1, free0, agg, whole, sub, look-in, Body, owned, nothing, calls-at, RattleType, Denots, Valss, flat, owns, Is}
+use Rattle.laws.proofs.Walk.{Ises, Are, valss, owns-make, mem, float-vals, float-tells, float-makes, float-lawful, f32, RefT, MutRef, ptr-vals, mut-tells, plain, onEntry, Meets, tripleOf, Contract}
+use Rattle.laws.proofs.Walk.{Triple, ensured, lasts, entered, cited, says, Stays, stay-ref, stay-none, walkOf, AllGo, goes-none, goes-ref, Walks, ends-at, walked, walk-meets, yes}
 use Rattle.laws.proofs.Lent.{opened, answered, closed}
 use Rattle.relay_math.specs.declared.BodyRate.{BodyRate}
+use Rattle.relay_geo.specs.{declared.{shield.{SimplexShield.SimplexShield, Shielded.Shielded}, lent.Picked.Picked}, Lent.pickedOf}
+use Rattle.relay_geo.proofs.shield.SimplexShield.{step.Symbol.name as #step, step_lent.Key.name as #step-lent}
+use denote.Struct.Laws as LL
 use Rattle.relay_math.proofs.BodyRate as B
 use Rattle.relay_math.proofs.BodyRate.Laws as B′
-use Rattle.relay_geo.specs.declared.shield.SimplexShield.{SimplexShield}
-use Rattle.relay_geo.specs.declared.shield.Shielded.{Shielded}
-use Rattle.relay_geo.specs.declared.lent.Picked.{Picked}
 use Rattle.relay_geo.specs.Shield as spec
-use Rattle.relay_geo.specs.Lent.{pickedOf}
 use Rattle.relay_geo.proofs.shield.SimplexShield as T
 use Rattle.relay_geo.proofs.shield.SimplexShield.Laws as T′
 use Rattle.relay_geo.proofs.shield.Shielded as N
@@ -25,9 +23,7 @@ use Rattle.relay_geo.proofs.lent.Picked as R
 use Rattle.relay_geo.proofs.lent.Picked.Laws as R′
 use Rattle.relay_geo.proofs.shield.SimplexShield.step as step
 use Rattle.relay_geo.proofs.shield.SimplexShield.step.Symbol as step-def
-use Rattle.relay_geo.proofs.shield.SimplexShield.step.Symbol.{name as #step}
 use Rattle.relay_geo.proofs.shield.SimplexShield.step.Met as step-thm
-use Rattle.relay_geo.proofs.shield.SimplexShield.step_lent.Key.{name as #step-lent}
 use Rattle.relay_geo.proofs.shield.SimplexShield.step_lent as lent
 use Rattle.relay_geo.proofs.shield.SimplexShield.step_lent.Statement as stated
 use Rattle.relay_geo.proofs.shield.SimplexShield.step_lent.Code as code

@@ -1,16 +1,16 @@
 -- `advance_lent` meets its contract: a walk of its MIR, by hand. The borrow is opened, the governor behind it is passed to `advance`, what that answers is written back, and the borrow is closed.
 -- Assumes nothing.
-use mathlib.Core.Path.{_≡_, refl}
-use Prim.Native.Nat.{ℕ}
-use mathlib.Core.List.{[], _∷_, List}
-use lib.Ieee.{Float, binary32}
-use denote.Struct.Laws as LL
-use Rattle.laws.proofs.Walk.{URA, named, Val, vfloat, vptr, SProp, ent, sep, emp, via, fst∗, snd∗, exE, id⊢, GName, Lft, Share, ftrue, flft, fobs, fbor, Memory, Routine, Heap, Calls, Loops, WpFn, Tables, Atoms, sem, Fun, fact, givenOf, tables, tablesOf, FmC, fmOf, WpFn-mono}
-use Rattle.laws.proofs.Walk.{Given, ‵, raw, _⊛_, some, later, _$_, _∵_, !, qed, by, move, keep, drop, use0, use1, split, join, fsplit, fsplit3, fjoin, fjoin3, feqI, suffices, frame, done, look, look-raw, init, store-raw, forget, stop, hop, fld, from, load, of-opd, and-then, no-more, assigns, land, returns, enter, alloc1, alloc0, params1, pass1, pass0, free1, free0, whole, sub, look-in, Body, owned, nothing, calls-at}
-use Rattle.laws.proofs.Walk.{RattleType, Denots, Valss, flat, owns, Is, Ises, Are, valss, owns-make, mem, float-vals, float-tells, float-makes, float-lawful, f32, RefT, MutRef, ptr-vals, mut-tells, plain, onEntry, Meets, tripleOf, Contract, Triple, ensured, lasts, entered, cited, says, Stays, stay-ref, stay-none, walkOf, AllGo, goes-none, goes-ref, Walks, ends-at, walked, walk-meets, yes}
+use Rattle.laws.proofs.Prelude.{_≡_, refl, ℕ, [], _∷_, List, Float, binary32}
+use Rattle.laws.proofs.Walk.{URA, named, Val, vfloat, vptr, SProp, ent, sep, emp, via, fst∗, snd∗, exE, id⊢, GName, Lft, Share, ftrue, flft, fobs, fbor, Memory, Routine, Heap, Calls, Loops, WpFn}
+use Rattle.laws.proofs.Walk.{Tables, Atoms, sem, Fun, fact, givenOf, tables, tablesOf, FmC, fmOf, WpFn-mono, Given, ‵, raw, _⊛_, some, later, _$_, _∵_, !, qed, by, move, keep, drop, use0, use1, split}
+use Rattle.laws.proofs.Walk.{join, fsplit, fsplit3, fjoin, fjoin3, feqI, suffices, frame, done, look, look-raw, init, store-raw, forget, stop, hop, fld, from, load, of-opd, and-then, no-more, assigns}
+use Rattle.laws.proofs.Walk.{land, returns, enter, alloc1, alloc0, params1, pass1, pass0, free1, free0, whole, sub, look-in, Body, owned, nothing, calls-at, RattleType, Denots, Valss, flat, owns, Is}
+use Rattle.laws.proofs.Walk.{Ises, Are, valss, owns-make, mem, float-vals, float-tells, float-makes, float-lawful, f32, RefT, MutRef, ptr-vals, mut-tells, plain, onEntry, Meets, tripleOf, Contract}
+use Rattle.laws.proofs.Walk.{Triple, ensured, lasts, entered, cited, says, Stays, stay-ref, stay-none, walkOf, AllGo, goes-none, goes-ref, Walks, ends-at, walked, walk-meets, yes}
 use Rattle.laws.proofs.Lent.{opened, answered, closed}
-use Rattle.relay_traj.specs.declared.governor.RefGovernor.{RefGovernor}
-use Rattle.relay_traj.specs.declared.governor.Advanced.{Advanced}
+use Rattle.relay_traj.specs.declared.governor.{RefGovernor.RefGovernor, Advanced.Advanced}
+use Rattle.relay_traj.proofs.governor.RefGovernor.{advance.Symbol.name as #advance, advance_lent.Key.name as #advance-lent}
+use denote.Struct.Laws as LL
 use Rattle.relay_traj.specs.Governor as spec
 use Rattle.relay_traj.proofs.governor.RefGovernor as T
 use Rattle.relay_traj.proofs.governor.RefGovernor.Laws as T′
@@ -18,9 +18,7 @@ use Rattle.relay_traj.proofs.governor.Advanced as N
 use Rattle.relay_traj.proofs.governor.Advanced.Laws as N′
 use Rattle.relay_traj.proofs.governor.RefGovernor.advance as advance
 use Rattle.relay_traj.proofs.governor.RefGovernor.advance.Symbol as advance-def
-use Rattle.relay_traj.proofs.governor.RefGovernor.advance.Symbol.{name as #advance}
 use Rattle.relay_traj.proofs.governor.RefGovernor.advance.Met as advance-thm
-use Rattle.relay_traj.proofs.governor.RefGovernor.advance_lent.Key.{name as #advance-lent}
 use Rattle.relay_traj.proofs.governor.RefGovernor.advance_lent as lent
 use Rattle.relay_traj.proofs.governor.RefGovernor.advance_lent.Statement as stated
 use Rattle.relay_traj.proofs.governor.RefGovernor.advance_lent.Code as code

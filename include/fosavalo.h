@@ -308,7 +308,7 @@ uint32_t fosavalo_tick(uint8_t *image, uint64_t image_len, const uint8_t *input,
  * Nothing is changed. For a caller that has a state of its own to keep in step. */
 uint32_t fosavalo_tick_refusal(const uint8_t *image, uint64_t image_len, uint64_t input_len, uint64_t answer_len);
 
-/* One tick toward a route in place of the image's segment, which is not looked at and kept; image, input and answer are those of a tick.
+/* One tick toward a route in place of the image's segment, which is kept, and looked at for number 4 alone; image, input and answer are those of a tick.
  * Plain ticks and route ticks may follow each other in any order; the governor's time runs on over both.
  *
  * route: 1 to 32 legs, the words FOSAVALO_LEG_.. each; then two words, the count and how many bytes back from there

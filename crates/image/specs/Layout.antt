@@ -1,4 +1,4 @@
--- Where each number stands: document 01's word numbers, under the names of src/layout.rt. Definitions only.
+-- Where each number stands: document 01's word numbers, and 95 to 98 of requests Six and Seven, under the names of src/layout.rt. Definitions only.
 use Prim.Native.Nat.{ℕ, _*_}
 
 -- widths

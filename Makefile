@@ -36,7 +36,7 @@
 # make dist        what links without the toolchain, for every target, in dist/ and there as a tar: archives, headers, .pc files, the modules of
 #                  WebAssembly with their JavaScript, licence, checksums
 # make docs        the safe crates' pages, host/target/doc/fosavalo/index.html and fosavalo_desk beside it
-# make map         docs/MAP.md and docs/PROMISES.md anew, from the sources
+# make map         docs/MAP.md, docs/PROMISES.md and docs/STATEMENTS.md anew, from the sources
 # make clean       removes all that was built, and no flight
 # make help        these lines
 .PHONY: fly log explain check expand choices test quick edits table archives targets core exhaustive routines ticks answers bench stack dist docs map clean help

@@ -6,6 +6,8 @@ use std::rc::Rc;
 
 pub struct Function {
     pub krate: String,
+    /// from the checkout's top
+    pub file: String,
     /// `name`, or `Type::name` of a method
     pub routine: String,
     /// the same with its module
@@ -44,13 +46,14 @@ pub fn all() -> Result<Vec<Function>, String> {
         for file in entries(&folder)? {
             let module = file.trim_end_matches(".rt");
             let module = if module == "lib" || module == "main" { String::new() } else { format!("{module}::") };
-            in_file(&krate, &module, &text(format!("{folder}/{file}"))?, &mut found)?;
+            let file = format!("{folder}/{file}");
+            in_file(&krate, &file, &module, &text(&file)?, &mut found)?;
         }
     }
     Ok(found)
 }
 
-fn in_file(krate: &str, module: &str, text: &str, found: &mut Vec<Function>) -> Result<(), String> {
+fn in_file(krate: &str, file: &str, module: &str, text: &str, found: &mut Vec<Function>) -> Result<(), String> {
     let scope = Rc::new(scope(text));
     let (mut owner, mut comment) = (String::new(), Vec::new());
     let mut lines = text.lines();
@@ -94,6 +97,7 @@ fn in_file(krate: &str, module: &str, text: &str, found: &mut Vec<Function>) -> 
         let mut clauses = contract.trim_end_matches('{').split(" ensures ");
         found.push(Function {
             krate: krate.to_string(),
+            file: file.to_string(),
             routine: format!("{owner}{name}"),
             path: format!("{module}{owner}{name}"),
             public,

@@ -1,7 +1,10 @@
 //! docs/MAP.md: a line for each routine of the Rust, with our file, its promise and its tests, as the sources have them.
 
+pub mod definitions;
 mod functions;
+pub mod logic;
 pub mod promises;
+pub mod statements;
 
 use functions::Function;
 use std::fmt::Write;
@@ -351,8 +354,8 @@ fn page() -> Result<String, String> {
 }
 
 /// The pages that are written from the sources.
-pub fn pages() -> [(&'static str, Result<String, String>); 2] {
-    [("docs/MAP.md", page()), ("docs/PROMISES.md", promises::page())]
+pub fn pages() -> [(&'static str, Result<String, String>); 3] {
+    [("docs/MAP.md", page()), ("docs/PROMISES.md", promises::page()), ("docs/STATEMENTS.md", statements::page())]
 }
 
 /// The routines on the page.

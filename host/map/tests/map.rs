@@ -1,4 +1,5 @@
-//! docs/MAP.md and docs/PROMISES.md are what the sources say; the map has every routine that is compared, and the public face is as promised.
+//! docs/MAP.md, docs/PROMISES.md and docs/STATEMENTS.md are what the sources say; the map has every routine that is compared, the public face is as promised,
+//! and what the documents name is there.
 
 #[test]
 fn the_pages_are_current() {
@@ -20,4 +21,12 @@ fn the_map_has_every_routine() {
 fn the_public_face_has_no_fault() {
     let faults = map::promises::faults().unwrap_or_else(|text| panic!("{text}"));
     assert!(faults.is_empty(), "{}", faults.join("\n"));
+}
+
+/// Every theorem stands in the file that the documents name, and every must-fail edit is named.
+#[test]
+fn the_documents_name_what_there_is() {
+    let named = map::logic::Logic::read().and_then(|logic| map::statements::named(&logic)).unwrap_or_else(|text| panic!("{text}"));
+    assert!(named.faults.is_empty(), "{}", named.faults.join("\n"));
+    assert!(!named.items.is_empty() && !named.edits.is_empty());
 }

@@ -11,14 +11,23 @@ use std::fmt::Write;
 const THEOREMS: &str = "docs/THEOREMS.md";
 
 /// Pages that name theorems in passing.
-const PAGES: [&str; 7] =
-    ["README.md", "docs/ANSWERS.md", "docs/ANGLES.md", "docs/READING.md", "docs/TRUST.md", "include/fosavalo.h", "include/fosavalo_desk.h"];
+const PAGES: [&str; 9] = [
+    "README.md",
+    "docs/ANSWERS.md",
+    "docs/ANGLES.md",
+    "docs/READING.md",
+    "docs/TRUST.md",
+    "docs/DIFFERENCES.md",
+    "docs/SPEED.md",
+    "include/fosavalo.h",
+    "include/fosavalo_desk.h",
+];
 
 /// The notes on the requests. They tell of names that are gone too.
 const NOTES: &str = "docs/requests";
 
 /// Words with a hyphen that are no theorem, by their beginning or their end.
-const OTHERS: [&str; 7] = ["relay-", "fosavalo-", "qemu-", "rust-version", "-linux", "-eabihf", "-twin"];
+const OTHERS: [&str; 7] = ["relay-", "fosavalo-", "qemu-", "llvm-", "rust-version", "-linux", "-eabihf"];
 
 /// A part of a page that is read at once: a row of a table by its cells, or else a paragraph. `above` are the cells of the table's head.
 struct Part {
@@ -129,7 +138,7 @@ impl Reader<'_> {
                 _ => self.fault(page, format!("names {name}, and it is in each of {}", files.join(", "))),
             }
         }
-        for file in files.iter().filter(|file| !used.contains(*file)) {
+        for file in files.iter().filter(|file| files.len() > 1 && !used.contains(*file)) {
             self.fault(page, format!("names {file} beside {}, none of which is there", names.join(", ")));
         }
     }
@@ -377,12 +386,12 @@ fn written(logic: &Logic, named: &BTreeSet<usize>, routines: &BTreeSet<usize>) -
     let (mirrors, definitions): (BTreeSet<usize>, BTreeSet<usize>) = made_of.iter().partition(|at| routines.contains(at));
     let mut page = String::from(
         "# Statements\n\n\
-         What is claimed, as it stands in the files: every theorem that [THEOREMS](THEOREMS.md), [README](../README.md), [ANSWERS](ANSWERS.md), [ANGLES](ANGLES.md),\n\
-         [READING](READING.md), [TRUST](TRUST.md), a header or a [request's note](requests/) names, without its proof, and then every definition that these statements are made of.\n\
-         THEOREMS says in words what they say, READING how to read them. `make map` writes this page from the sources. The gate holds it to them (`host/map/tests`), so that no\n\
+         What is claimed, as it stands in the files: every theorem that [THEOREMS](THEOREMS.md) names, or another page ([README](../README.md), [ANSWERS](ANSWERS.md),\n\
+         [ANGLES](ANGLES.md), [READING](READING.md), [TRUST](TRUST.md), [DIFFERENCES](DIFFERENCES.md), [SPEED](SPEED.md), the headers, the [requests' notes](requests/)), without its proof; and\n\
+         then every definition that these statements are made of. THEOREMS says in words what they say, READING how to read them. `make map` writes this page from the sources. The gate holds it to them (`host/map/tests`), so that no\n\
          statement, and no definition beneath one, is changed, weakened or dropped without a difference on this page for a person to read.\n\n\
-         A theorem under `module _ (x : A) where` holds for every such x. Words to the prover (`unfolding`) are left out. A name that stands neither under Theorems nor below\n\
-         is the toolchain's. What each function promises is in [PROMISES](PROMISES.md).\n\n## Theorems\n",
+         A theorem under `module _ (x : A) where` holds for every such x. Words to the prover (`unfolding`) are left out. A name means what the `use` lines\n\
+         of its file say, so one may stand here under another name (`as`); one that stands neither under Theorems nor below is the toolchain's. What each function promises is in [PROMISES](PROMISES.md).\n\n## Theorems\n",
     );
     for (file, items) in by_file(logic, &theorems) {
         let _ = write!(page, "\n{}\n", link(&file, &file));

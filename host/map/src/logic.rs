@@ -66,6 +66,8 @@ pub struct Logic {
     scopes: HashMap<String, HashMap<String, Path>>,
     /// by file, the functions of `src/`
     functions: HashMap<String, BTreeSet<String>>,
+    /// lines that may bring in a name in a way that is not read here
+    pub unread: Vec<String>,
 }
 
 impl Logic {
@@ -86,7 +88,8 @@ impl Logic {
 
     /// Of these: crate, file and text of each.
     pub fn of(files: Vec<(String, String, String)>) -> Logic {
-        let mut logic = Logic { items: Vec::new(), at: HashMap::new(), scopes: HashMap::new(), functions: HashMap::new() };
+        let mut logic =
+            Logic { items: Vec::new(), at: HashMap::new(), scopes: HashMap::new(), functions: HashMap::new(), unread: Vec::new() };
         for (krate, file, text) in files {
             let (found, scope) = if file.ends_with(".rt") { declared(&krate, &file, &text) } else { items(&krate, &file, &text) };
             for item in found {
@@ -95,6 +98,7 @@ impl Logic {
                 }
                 logic.items.push(item);
             }
+            logic.unread.extend(text.lines().filter(|line| is_unread(line)).map(|line| format!("{file}: {}", line.trim())));
             logic.functions.insert(file.clone(), text.lines().filter_map(function).collect());
             logic.scopes.insert(file, scope);
         }
@@ -124,6 +128,9 @@ impl Logic {
     fn meant(&self, file: &str, word: &str) -> Option<usize> {
         if let Some(at) = self.get(file, word) {
             return Some(at);
+        }
+        if let Some(path) = path_of(word) {
+            return self.found(&path);
         }
         let scope = self.scopes.get(file)?;
         if let Some(path) = scope.get(word) {
@@ -188,6 +195,12 @@ impl Logic {
     pub fn in_contract(&self, file: &str, clause: &[String]) -> BTreeSet<usize> {
         clause.iter().filter_map(|word| self.meant(file, word)).collect()
     }
+}
+
+/// Whether a line brings in names that it does not list: `open`, a glob; or stands in another way than at its section's level: `mutual`.
+fn is_unread(line: &str) -> bool {
+    let (rest, _) = bare(line);
+    rest.starts_with("open ") || rest.trim_end() == "mutual" || rest.starts_with("use ") && rest.contains(".*")
 }
 
 /// The files of a folder and of those below it, in order.

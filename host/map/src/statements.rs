@@ -294,6 +294,7 @@ fn in_pages(logic: &Logic, theorems: &str, pages: &[Page], notes: &[Page], edits
         reader.edits(text);
     }
     let mut named = reader.named;
+    named.faults.extend(logic.unread.iter().map(|line| format!("what stands beneath a statement may be more than is read here: {line}")));
     named
         .faults
         .extend(edits.difference(&named.edits).map(|edit| format!("crates/{edit} is named neither in {THEOREMS} nor in a request's note")));
@@ -505,6 +506,18 @@ mod tests {
             told(&[("proofs/P", PROOFS), ("proofs/Q", "pub stays-so : ℕ\n")], &PAGE.replace("`stays-so`", "`stays-so` (`P.antt`)")),
             [""; 0]
         );
+    }
+
+    #[test]
+    fn a_name_may_be_written_out() {
+        let proofs = PROOFS.replace("→ n ≡ n", "→ Rattle.a.specs.S.unused ≡ n");
+        assert!(page(SPECS, &proofs).contains("unused = 2"));
+    }
+
+    #[test]
+    fn what_is_not_read_is_told() {
+        let told = |line: &str| named(&logic(SPECS, &[("proofs/P", &format!("{line}\n{PROOFS}"))]), PAGE).faults.len();
+        assert_eq!(["use A.*", "open R t using (x)", "mutual", "opens = refl"].map(told), [1, 1, 1, 0]);
     }
 
     #[test]

@@ -64,10 +64,11 @@ fn parts(page: &str) -> Vec<Part> {
             continue;
         };
         close(&mut paragraph, &mut parts);
-        let cells: Vec<String> = row.replace("\\|", "\u{1}").split('|').map(|cell| cell.trim().replace('\u{1}', "|")).collect();
+        let mut cells: Vec<String> = row.replace("\\|", "\u{1}").split('|').map(|cell| cell.trim().replace('\u{1}', "|")).collect();
         if above.is_empty() {
             above = cells;
         } else {
+            cells.resize(above.len(), String::new());
             parts.push(Part { above: above.clone(), cells });
         }
     }
@@ -179,7 +180,7 @@ impl Reader<'_> {
     }
 
     /// Text: names right before a file are of that file. Other names with a hyphen are theorems of some file, which has to be one, or to be named
-    /// elsewhere with its file.
+    /// elsewhere with its file. Where it is not `strict`, what is not there is passed over.
     fn passage(&mut self, page: &str, passage: &str, prefix: &str, strict: bool) {
         let words = quoted(passage);
         let mut run: Vec<&str> = Vec::new();
@@ -190,10 +191,11 @@ impl Reader<'_> {
                 let beside = ([" (", ", ", " of ", " in "].contains(before)) && !run.is_empty();
                 let is_ours = !word.contains('*') && beside;
                 match self.file(prefix, word).filter(|_| is_ours) {
-                    Some(file) => {
+                    Some(file) if strict => {
                         let names = std::mem::take(&mut run);
                         self.bound(page, &names, &[file]);
                     }
+                    Some(file) => self.named.items.extend(run.drain(..).filter_map(|name| self.logic.get(&file, name))),
                     None if is_ours && strict => self.fault(page, format!("names the file {word}, and there is none")),
                     None => {}
                 }

@@ -342,6 +342,19 @@ fn block(page: &mut String, items: &[&Item], shown: fn(&Item) -> Vec<String>) {
     page.push_str("```\n");
 }
 
+/// All of these by crate and file.
+fn blocks(page: &mut String, logic: &Logic, items: &BTreeSet<usize>, shown: fn(&Item) -> Vec<String>) {
+    let mut krate = "";
+    for (file, items) in by_file(logic, items) {
+        if items[0].krate != krate {
+            krate = &items[0].krate;
+            let _ = write!(page, "\n### {krate}\n");
+        }
+        let _ = write!(page, "\n{}\n", link(&file, &file));
+        block(page, &items, shown);
+    }
+}
+
 /// Each file's items, in the order of crates.txt and of the files.
 fn by_file<'a>(logic: &'a Logic, items: &BTreeSet<usize>) -> Vec<(String, Vec<&'a Item>)> {
     let mut files: Vec<(String, Vec<&Item>)> = Vec::new();
@@ -396,15 +409,9 @@ fn written(logic: &Logic, named: &BTreeSet<usize>, routines: &BTreeSet<usize>) -
          A theorem under `module _ (x : A) where` holds for every such x. Words to the prover (`unfolding`) are left out. A name means what the `use` lines\n\
          of its file say, so one may stand here under another name (`as`); one that stands neither under Theorems nor below is the toolchain's. What each function promises is in [PROMISES](PROMISES.md).\n\n## Theorems\n",
     );
-    for (file, items) in by_file(logic, &theorems) {
-        let _ = write!(page, "\n{}\n", link(&file, &file));
-        block(&mut page, &items, statement);
-    }
+    blocks(&mut page, logic, &theorems, statement);
     page.push_str("\n## Definitions\n\nOf structs and enums of `src/`, what the source has.\n");
-    for (file, items) in by_file(logic, &definitions) {
-        let _ = write!(page, "\n{}\n", link(&file, &file));
-        block(&mut page, &items, definition);
-    }
+    blocks(&mut page, logic, &definitions, definition);
     let crates: Vec<String> = MODULES.iter().map(|module| format!("`{}`", module.krate)).collect();
     let _ = write!(
         page,

@@ -50,6 +50,7 @@ faults! {
     LengthLate,
     // of the joins
     AcrossRounds,
+    IntoARound,
     EmptyBetween,
     JoinPositions,
     JoinBits,
@@ -135,7 +136,12 @@ fn flown<'a>(fault: Fault, items: &'a [Item], inside: bool, legs: &mut Vec<Optio
                     _ => *times,
                 };
                 for round in 0..times {
-                    let apart = fault == Fault::WithinARound || fault == Fault::AcrossRounds && round > 0;
+                    let apart = match fault {
+                        Fault::WithinARound => true,
+                        Fault::AcrossRounds => round > 0,
+                        Fault::IntoARound => round == 0,
+                        _ => false,
+                    };
                     legs.extend(apart.then_some(None));
                     flown(fault, inner, true, legs);
                 }

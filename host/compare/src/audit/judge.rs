@@ -40,6 +40,8 @@ faults! {
     MendsNot = "thresholds as they are given";
     ExitAlone = "an exit that is no use mended to 0.2";
     StartsReleased = "a shield that starts released";
+    NotCarried = "the latch not carried: each record by a fresh shield";
+    ReleasedInBand = "released in the band, as the earlier translation did";
     ReleasedAtExit = "released at exit";
     EngagedAtEnter = "engaged at enter";
     InfinityReleases = "released by +infinity";
@@ -91,6 +93,7 @@ fn mended(fault: Fault, enter: f32, exit: f32) -> (f32, f32) {
 fn step(fault: Fault, engaged: bool, (enter, exit): (f32, f32), margin: f32) -> bool {
     let released = match fault {
         Fault::ReleasedAtExit => margin.is_finite() && margin >= exit,
+        Fault::ReleasedInBand => margin.is_finite() && margin > enter,
         Fault::InfinityReleases => margin > exit,
         _ => margin.is_finite() && margin > exit,
     };
@@ -167,8 +170,10 @@ pub fn check(fault: Fault, log: &[u8], Given { profile, enter, exit }: Given, ve
             (Fault::LowByte, flag) => flag & 0xff,
             (_, flag) => flag,
         };
-        if fault == Fault::OwnFlag {
-            engaged = flag != 0;
+        match fault {
+            Fault::OwnFlag => engaged = flag != 0,
+            Fault::NotCarried => engaged = true,
+            _ => {}
         }
         let before = engaged;
         engaged = step(fault, engaged, thresholds, float(record, MARGIN));

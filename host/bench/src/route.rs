@@ -2,10 +2,10 @@
 //! Their side makes segments of the legs up to the one flown; it looks at no length and at nothing of row 4, which is its gain.
 
 use super::joint::Run;
-use compare::joint::bytes::{float, put, ANSWER, IMAGE, LEG, TICK};
-use compare::joint::fault::Fault;
-use compare::joint::model::Flight;
-use compare::joint::route::Source;
+use compare::joint::bytes::{float, put, Take, ANSWER, IMAGE, LEG, TICK};
+use compare::joint::model::{self, Flight, Steps};
+use compare::joint::route::{segment, Legs, Source};
+use oracle::traj::Sample3;
 use std::hint::black_box;
 use std::time::Instant;
 
@@ -40,16 +40,37 @@ fn ours(image: &mut Image, input: &Input, route: &[u8], answer: &mut Answer) -> 
     faces::route_tick(image, input, route, answer)
 }
 
+/// The model on a route of which nothing is kept: at each tick the Rust makes segments of the legs up to the one flown.
+struct Unkept<'a>(&'a [u8]);
+
+impl Legs for Unkept<'_> {}
+
+impl Steps for Unkept<'_> {
+    #[inline]
+    fn sample(&self, flight: &Flight, source: &Source, time: f32) -> Sample3 {
+        let (mut end, mut last) = (0.0, None);
+        for words in self.0.chunks_exact(LEG) {
+            let leg = segment(&mut Take::from(words, 0));
+            let next = end + leg.duration();
+            if time < next {
+                return leg.eval(time - end);
+            }
+            end = next;
+            last = Some(leg);
+        }
+        let (leg, at) = last.as_ref().map_or_else(|| self.flown(flight, source, time), |leg| (leg, leg.duration()));
+        leg.eval(at)
+    }
+}
+
 /// The Rust's objects, made from the bytes and written back. It compares the joins where it is asked to: relay's own calls know of none.
 #[inline(never)]
-fn theirs(joins: bool, image: &mut Image, input: &Input, route: &Source, answer: &mut Answer) -> u32 {
-    if let (true, Source::Bytes(route)) = (joins, route) {
-        if !meet(route) {
-            return 7;
-        }
+fn theirs(joins: bool, image: &mut Image, input: &Input, route: &[u8], answer: &mut Answer) -> u32 {
+    if joins && !meet(route) {
+        return 7;
     }
     let mut flight = Flight::from_image(image);
-    flight.tick_on(|| Fault::None, route, input, answer);
+    Unkept(route).tick(&mut flight, &Source::Segment, &model::Input::read(input)).write(answer);
     flight.write_but_peaks(image);
     0
 }
@@ -70,9 +91,8 @@ fn started(run: &Run) -> Image {
 /// short tries, all taking turns. None where the two answer differently.
 pub fn times(run: &Run) -> Option<[[f64; 4]; CASES.len()]> {
     let routes = CASES.map(|(legs, flown)| route(legs, flown));
-    let sources = routes.clone().map(Source::Bytes);
     let start = started(run);
-    if !routes.iter().zip(&sources).all(|(route, source)| alike(run, start, route, source)) {
+    if !routes.iter().all(|route| alike(run, start, route)) {
         return None;
     }
     let timed = |each: &mut dyn FnMut(&mut Image, &Input, &mut Answer) -> u32| {
@@ -85,11 +105,11 @@ pub fn times(run: &Run) -> Option<[[f64; 4]; CASES.len()]> {
     };
     let mut least = [[f64::INFINITY; 4]; CASES.len()];
     for _ in 0..TRIES {
-        for (least, (route, source)) in least.iter_mut().zip(routes.iter().zip(&sources)) {
+        for (least, route) in least.iter_mut().zip(&routes) {
             let now = [
                 timed(&mut |image, input, answer| ours(image, input, black_box(route), answer)),
-                timed(&mut |image, input, answer| theirs(true, image, input, black_box(source), answer)),
-                timed(&mut |image, input, answer| theirs(false, image, input, black_box(source), answer)),
+                timed(&mut |image, input, answer| theirs(true, image, input, black_box(route), answer)),
+                timed(&mut |image, input, answer| theirs(false, image, input, black_box(route), answer)),
                 timed(&mut |image, input, answer| faces::tick(image, input, answer)),
             ];
             least.iter_mut().zip(now).for_each(|(least, now)| *least = least.min(now));
@@ -99,12 +119,12 @@ pub fn times(run: &Run) -> Option<[[f64; 4]; CASES.len()]> {
 }
 
 /// What is timed does the same: every answer and the image after it.
-fn alike(run: &Run, start: Image, route: &[u8], source: &Source) -> bool {
+fn alike(run: &Run, start: Image, route: &[u8]) -> bool {
     let [mut ours_at, mut theirs_at] = [start; 2];
     run.inputs.iter().all(|input| {
         let mut answers = [[0; ANSWER]; 2];
         let number = ours(&mut ours_at, input, route, &mut answers[0]);
-        let theirs = theirs(true, &mut theirs_at, input, source, &mut answers[1]);
+        let theirs = theirs(true, &mut theirs_at, input, route, &mut answers[1]);
         (number, theirs) == (0, 0) && answers[0] == answers[1] && ours_at == theirs_at
     })
 }
@@ -113,7 +133,7 @@ fn alike(run: &Run, start: Image, route: &[u8], source: &Source) -> bool {
 mod tests {
     use super::*;
     use crate::joint;
-    use compare::joint::route::Route;
+    use compare::joint::model::Right;
 
     /// From the first tick to the last it is the leg that the case names.
     #[test]
@@ -121,10 +141,10 @@ mod tests {
         let run = joint::pass();
         for (legs, flown) in CASES {
             let (bytes, mut image, mut answer) = (route(legs, flown), started(&run), [0; ANSWER]);
-            let route = Route::of(Fault::None, &bytes[..LEG * legs]);
+            let route = Right.route(&bytes[..LEG * legs]);
             for input in &run.inputs {
                 assert_eq!(ours(&mut image, input, &bytes, &mut answer), 0);
-                let place = route.place(Fault::None, float(&answer, 7));
+                let place = Right.place(&route, float(&answer, 7));
                 assert_eq!((place.leg, place.past), (flown, false));
             }
         }
@@ -135,7 +155,7 @@ mod tests {
         let run = joint::headings();
         for (legs, flown) in CASES {
             let bytes = route(legs, flown);
-            assert!(alike(&run, started(&run), &bytes, &Source::Bytes(bytes.clone())), "{legs} legs, leg {flown}");
+            assert!(alike(&run, started(&run), &bytes), "{legs} legs, leg {flown}");
         }
     }
 }

@@ -7,7 +7,6 @@
 use crate::generate::{self, Kind, Part, Rng};
 use crate::joint;
 use crate::joint::bytes::{canonical, float, put, word, ANSWER, IMAGE, LEG, MOST_LEGS, PEAKS, PROFILE, SETUP, SETUP_PROFILE, TICK};
-use crate::joint::fault::Fault;
 use crate::joint::lent::Lending;
 use crate::joint::model::{self, Flight};
 use crate::log::{self, RECORD};
@@ -277,7 +276,7 @@ fn fresh(image: &mut [u8], input: &[u8]) {
 }
 
 fn set_up(image: &mut [u8], input: &[u8]) -> u32 {
-    model::call(Fault::None, joint::Call::SetUp, &mut Lending { image, input, route: &[], answer: &mut [] })
+    model::call(joint::Call::SetUp, &mut Lending { image, input, route: &[], answer: &mut [] })
 }
 
 fn ticks() -> Section {
@@ -308,9 +307,8 @@ fn exchanges() -> Section {
         let a = Lent { bytes: image, len: length(&mut rng, IMAGE) };
         let leg = bits(filled::<{ LEG / 4 }>(kind(n), &LEG_PARTS, &mut rng));
         let b = lent(&mut rng, LEG, &leg);
-        Call { a, b, c: Lent::NONE, d: Lent::NONE, at: 0 }.row(|image, input, _, _, _| {
-            model::call(Fault::None, joint::Call::Exchange, &mut Lending { image, input, route: &[], answer: &mut [] })
-        })
+        Call { a, b, c: Lent::NONE, d: Lent::NONE, at: 0 }
+            .row(|image, input, _, _, _| model::call(joint::Call::Exchange, &mut Lending { image, input, route: &[], answer: &mut [] }))
     });
     Section::calls("exchange", 506, rows.collect())
 }
@@ -411,7 +409,7 @@ fn damage(rng: &mut Rng, image: &mut [u8]) {
 
 fn tick(image: &mut [u8], input: &[u8], route: Option<&[u8]>, answer: &mut [u8]) -> u32 {
     let call = if route.is_some() { joint::Call::RouteTick } else { joint::Call::Tick };
-    model::call(Fault::None, call, &mut Lending { image, input, route: route.unwrap_or_default(), answer })
+    model::call(call, &mut Lending { image, input, route: route.unwrap_or_default(), answer })
 }
 
 /// Legs that meet, of one kind, as far as it has numbers that do; one of them, or none, ends at this time or next to it, and those

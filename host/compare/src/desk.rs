@@ -5,9 +5,9 @@ use crate::faults::faults;
 use crate::generate::Rng;
 use crate::joint::bytes::{canonical, float, put, Put, Take, TICK};
 pub use crate::joint::bytes::{ANSWER, IMAGE};
-use crate::joint::model::Flight;
+use crate::joint::model::{Flight, Right};
 use crate::joint::pilot::{self, Pilot};
-use crate::joint::refusal;
+use crate::joint::refusal::Refusals;
 use crate::joint::route::Source;
 use oracle::adrc::CommandFilter;
 use std::fmt;
@@ -133,7 +133,7 @@ fn set_up(fault: Fault, lent: &mut Lent) -> u32 {
 }
 
 fn tick(fault: Fault, lent: &mut Lent) -> u32 {
-    let core = refusal::of_tick(&lent.image, lent.input.len(), lent.answer.len());
+    let core = Right.of_tick(&lent.image, lent.input.len(), lent.answer.len());
     let own = own_refusal(fault, lent, STICKS);
     let refused = match own {
         15 => 15,

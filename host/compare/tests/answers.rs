@@ -2,8 +2,8 @@
 
 use compare::answers::{self, Section};
 use compare::joint::bytes::{IMAGE, PROFILE};
-use compare::joint::fault::Fault;
-use compare::joint::route::Route;
+use compare::joint::model::Right;
+use compare::joint::route::Legs;
 use std::fs::{self, File};
 use std::process::Command;
 
@@ -95,8 +95,8 @@ fn the_route_ticks_are_on_every_part_of_a_route() {
         // image, input and answer, each after two words of sizes
         let route = &row.given[2 + STORED + 2 + 18 + 2 + 11..];
         let bytes: Vec<u8> = route[2..].iter().flat_map(|word| word.to_le_bytes()).take(route[1] as usize).collect();
-        let (route, time) = (Route::of(Fault::None, &bytes), f32::from_bits(row.answer[ANSWER + 7]));
-        let place = route.place(Fault::None, time);
+        let (route, time) = (Right.route(&bytes), f32::from_bits(row.answer[ANSWER + 7]));
+        let place = Right.place(&route, time);
         let (within, long) = (!place.past, route.ends.len() > 8);
         let is = [within && place.leg == 0, within && place.leg > 0, route.ends.contains(&time), place.past, long];
         seen.iter_mut().zip(is).for_each(|(n, is)| *n += usize::from(is));

@@ -3,13 +3,14 @@
 
 use compare::generate::Rng;
 use compare::joint::bytes::{float, put, raw, word, ANSWER, IMAGE, LEG, PEAKS, PROFILE, SETUP, SETUP_PROFILE, TICK, WORDS};
-use compare::joint::fault::{Fault, WRONG, WRONG_CUT_OFF, WRONG_ERROR, WRONG_PROFILE};
 use compare::joint::guide::PLAIN;
 use compare::joint::lent::Lending;
-use compare::joint::model::{self, Flight, Profile};
+use compare::joint::model::{self, Flight, Profile, Right};
 use compare::joint::pilot::Pilot;
+use compare::joint::refusal::Refusals;
 use compare::joint::runs::{self, caught, Seen, Watch};
-use compare::joint::{archive, lengths, refusal, Call};
+use compare::joint::wrong::{self, WRONG, WRONG_CUT_OFF, WRONG_ERROR, WRONG_PROFILE};
+use compare::joint::{archive, lengths, Call};
 use compare::share;
 use std::time::Instant;
 
@@ -53,31 +54,31 @@ fn covered(seen: &Seen) {
 fn what_looks_right_but_is_wrong_is_caught() {
     let all = [WRONG, WRONG_ERROR, WRONG_PROFILE, WRONG_CUT_OFF].concat();
     let ticks = share::of(runs::GATE);
-    let missed: Vec<_> = all.into_iter().filter(|fault| !caught(*fault, ticks, Watch::All, PLAIN)).collect();
+    let missed: Vec<_> = all.into_iter().filter(|version| !caught(*version, ticks, Watch::All, PLAIN)).collect();
     assert!(missed.is_empty(), "not caught within {ticks} ticks: {missed:?}");
 }
 
 /// The look-back knows nothing of the model, and catches what the third demand is about.
 #[test]
 fn looking_back_alone_catches_what_is_about_the_flag_and_the_command() {
-    for fault in [
-        Fault::ReleasedInTheBand,
-        Fault::ReleasedAtExit,
-        Fault::EngagedAtEnter,
-        Fault::NoCleaning,
-        Fault::PlannerThird,
-        Fault::Constant,
-        Fault::Untouched,
-        Fault::Echo,
+    for version in [
+        wrong::ReleasedInTheBand::VERSION,
+        wrong::ReleasedAtExit::VERSION,
+        wrong::EngagedAtEnter::VERSION,
+        wrong::NoCleaning::VERSION,
+        wrong::PlannerThird::VERSION,
+        wrong::Constant::VERSION,
+        wrong::Untouched::VERSION,
+        wrong::Echo::VERSION,
     ] {
-        assert!(caught(fault, share::of(runs::GATE), Watch::LookBack, PLAIN), "{}", fault.name());
+        assert!(caught(version, share::of(runs::GATE), Watch::LookBack, PLAIN), "{version:?}");
     }
 }
 
 /// What the wrong ones are made from is right.
 #[test]
 fn with_no_fault_nothing_differs() {
-    assert!(!caught(Fault::None, share::of(runs::GATE / 10), Watch::All, PLAIN));
+    assert!(!caught(Right::VERSION, share::of(runs::GATE / 10), Watch::All, PLAIN));
 }
 
 #[test]
@@ -96,7 +97,7 @@ fn every_length_of_every_buffer() {
 fn a_wrong_length_taken_or_a_byte_changed_is_caught() {
     let longer = |call, lent: &mut Lending<'_>| {
         lent.input = &lent.input[..lent.input.len().min(TICK)];
-        model::call(Fault::None, call, lent)
+        model::call(call, lent)
     };
     let writes = |call, lent: &mut Lending<'_>| {
         let byte = match call {
@@ -104,13 +105,12 @@ fn a_wrong_length_taken_or_a_byte_changed_is_caught() {
             _ => lent.answer.last_mut().filter(|_| lent.input.len() % 64 == 4),
         };
         byte.into_iter().for_each(|byte| *byte ^= 1);
-        model::call(Fault::None, call, lent)
+        model::call(call, lent)
     };
-    let profile = |call, lent: &mut Lending<'_>| model::call(Fault::ProfileFirst, call, lent);
-    let broken = |call, lent: &mut Lending<'_>| model::call(Fault::BrokenFirst, call, lent);
+    let [profile, broken, through] =
+        [wrong::ProfileFirst::VERSION, wrong::BrokenFirst::VERSION, wrong::ThroughFirst::VERSION].map(|version| version.call);
     assert!(lengths::exchanges(&writes).is_err() && lengths::exchanges(&broken).is_err());
     assert!(lengths::ticks(&longer).is_err() && lengths::ticks(&writes).is_err());
-    let through = |call, lent: &mut Lending<'_>| model::call(Fault::ThroughFirst, call, lent);
     assert!(lengths::setups(&writes).is_err() && lengths::setups(&profile).is_err() && lengths::setups(&through).is_err());
 }
 
@@ -134,7 +134,7 @@ fn a_tick_tells_beforehand_what_it_would_be_refused_for() {
             }
         };
         let (i, n, a) = (near(IMAGE), near(TICK), near(ANSWER));
-        let expected = refusal::of_tick(&image[..i], n, a);
+        let expected = Right.of_tick(&image[..i], n, a);
         assert_eq!(faces::tick_refusal(&image[..i], n, a), expected, "lengths {i}, {n}, {a}, image {image:02x?}");
         seen[expected as usize] += 1;
     }

@@ -2,10 +2,11 @@
 //! third demand by looking back.
 
 use compare::joint::bytes::{float, put, raw, word, ANSWER, IMAGE, LEG, SETUP, SETUP_PROFILE, TICK};
-use compare::joint::fault::{Fault, WRONG_ERROR, WRONG_EXCHANGE, WRONG_ON_ROUTES, WRONG_PROFILE};
 use compare::joint::guide::MIXED;
+use compare::joint::model::Right;
 use compare::joint::runs::{self, caught, Watch, GATE_ON_ROUTES};
-use compare::joint::{archive, lengths, model};
+use compare::joint::wrong::{self, WRONG_ERROR, WRONG_EXCHANGE, WRONG_ON_ROUTES, WRONG_PROFILE};
+use compare::joint::{archive, lengths};
 use compare::share;
 use std::time::Instant;
 
@@ -46,22 +47,28 @@ fn every_tick_on_a_route_is_the_rust_s_and_the_look_back_s() {
 fn what_looks_right_but_is_wrong_is_caught() {
     let all = [WRONG_ON_ROUTES, WRONG_ERROR, WRONG_PROFILE, WRONG_EXCHANGE].concat();
     let ticks = share::of(GATE_ON_ROUTES);
-    let missed: Vec<_> = all.into_iter().filter(|fault| !caught(*fault, ticks, Watch::All, MIXED)).collect();
+    let missed: Vec<_> = all.into_iter().filter(|version| !caught(*version, ticks, Watch::All, MIXED)).collect();
     assert!(missed.is_empty(), "not caught within {ticks} ticks: {missed:?}");
 }
 
 /// The look-back knows nothing of the model nor of routes, and catches what the third demand is about.
 #[test]
 fn looking_back_alone_catches_what_is_about_the_flag() {
-    for fault in [Fault::ReleasedInTheBand, Fault::Constant, Fault::Untouched, Fault::ExchangeResetsShield, Fault::ExchangeReleases] {
-        assert!(caught(fault, share::of(GATE_ON_ROUTES), Watch::LookBack, MIXED), "{}", fault.name());
+    for version in [
+        wrong::ReleasedInTheBand::VERSION,
+        wrong::Constant::VERSION,
+        wrong::Untouched::VERSION,
+        wrong::ExchangeResetsShield::VERSION,
+        wrong::ExchangeReleases::VERSION,
+    ] {
+        assert!(caught(version, share::of(GATE_ON_ROUTES), Watch::LookBack, MIXED), "{version:?}");
     }
 }
 
 /// What the wrong ones are made from is right.
 #[test]
 fn with_no_fault_nothing_differs() {
-    assert!(!caught(Fault::None, share::of(GATE_ON_ROUTES / 10), Watch::All, MIXED));
+    assert!(!caught(Right::VERSION, share::of(GATE_ON_ROUTES / 10), Watch::All, MIXED));
 }
 
 #[test]
@@ -70,7 +77,7 @@ fn every_length_of_a_route() {
     println!("{calls} calls");
     assert!(calls >= share::of(lengths::route_calls()));
     // and the sweep can fail
-    assert!(lengths::routes(&|call, lent| model::call(Fault::AnyLength, call, lent)).is_err());
+    assert!(lengths::routes(&wrong::AnyLength::VERSION.call).is_err());
 }
 
 // Some lines of document 02 by hand, through the archive; the model has no part in them.

@@ -4,7 +4,6 @@
 use compare::generate::Rng;
 use compare::joint::bytes::{float, put, raw, word, ANSWER, IMAGE, LEG, PROFILE, SETUP, TICK};
 use compare::joint::demand;
-use compare::joint::fault::Fault;
 use compare::joint::lent::Lending;
 use compare::joint::model::{self, Flight};
 use compare::joint::{archive, Call};
@@ -123,7 +122,7 @@ fn they_fly_routes_and_exchange() {
             };
             let route = if call == Call::RouteTick { &route[..] } else { &[] };
             let returned = archive(call, &mut Lending { image: &mut ours.0, input: &input, route, answer: &mut ours.1 });
-            let number = model::call(Fault::None, call, &mut Lending { image: &mut theirs.0, input: &input, route, answer: &mut theirs.1 });
+            let number = model::call(call, &mut Lending { image: &mut theirs.0, input: &input, route, answer: &mut theirs.1 });
             assert_eq!((returned, ours), (0, theirs), "{name}: {call:?}");
             assert_eq!(number, 0, "{name}: {call:?}");
         }

@@ -2,9 +2,9 @@
 //! and spoilt trailers. All of it depends on the run's number alone.
 
 use super::bytes::{put, EARLIER_LEGS, LEG, MOST_LEGS, TICK, TRAILER};
-use super::fault::Fault;
+use super::model::Right;
 use super::pilot::{self, Kind};
-use super::route::Source;
+use super::route::{Legs, Source};
 use super::Call;
 use crate::generate::Rng;
 
@@ -39,7 +39,7 @@ impl Guide {
         let total = 0.0025 * pilot::length(number) as f32 * rng.range(0.2, 1.2);
         let durations: Vec<f32> = (0..count).map(|_| total * rng.range(0.3, 1.7) / count as f32).collect();
         let legs = legs(&mut rng, &durations);
-        let steady = Source::of(Fault::None, Call::RouteTick, &bytes(&legs));
+        let steady = Right.source(Call::RouteTick, &bytes(&legs));
         let far = calls.contains(&Call::RouteTick) && rng.below(4) == 0;
         let steady_legs = pilot::kind(number) == Kind::Pass;
         Guide { rng, far, jumped: false, calls, steady_legs, now: calls.len() - 1, legs, steady }

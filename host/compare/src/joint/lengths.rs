@@ -2,7 +2,6 @@
 //! leg and more beyond the longest.
 
 use super::bytes::{put, raw, ANSWER, IMAGE, LEG, MOST_LEGS, SETUP_FC, SETUP_PROFILE, TICK, TRAILER};
-use super::fault::Fault;
 use super::lent::{Hands, Lent, Short, LONGEST};
 use super::model::{self, Flight, Profile};
 use super::pilot::Pilot;
@@ -32,7 +31,7 @@ fn of_a_tick() -> Hands {
 
 /// A call beside the model's, on the same bytes: the same number, the same bytes, and none beside them. Whether it was accepted.
 fn alike(face: Face, call: Call, lent: &mut Hands, expected: &mut Hands) -> Result<bool, String> {
-    let (number, returned) = (model::call(Fault::None, call, &mut expected.lend()), face(call, &mut lent.lend()));
+    let (number, returned) = (model::call(call, &mut expected.lend()), face(call, &mut lent.lend()));
     if returned != number || lent != expected {
         let lengths = lent.each().map(|(name, bytes, _)| format!("{name} {}", bytes.len()));
         return Err(format!("{call:?} with lengths {lengths:?} returns {returned}, expected {number}, or changes what it should not"));

@@ -1,13 +1,15 @@
 //! The joint tick, which is new, in both profiles, on its segment and on routes, and the exchange of the segment: the archive's calls beside the Rust's own calls made in the documents' order.
 //!
-//! `model` is what is expected, of Rust objects, `route` of a route; `refusal` the table of numbers; `fault` what each of them can be made
-//! wrong by; `pilot` what comes in, `guide` which calls and which routes; `runs` the comparison, every byte after every call; `demand` looks
-//! back over a run's margins and asks who has to fly; `lengths` has every length of every buffer.
+//! `model` is what is expected, of Rust objects, `route` of a route; `refusal` the table of numbers; `image` the words; `wrong` has versions of these with one step
+//! wrong; `pilot` what comes in, `guide` which calls and which routes; `runs` the comparison, every byte after every call; `demand` looks back over a run's
+//! margins and asks who has to fly; `lengths` has every length of every buffer.
 
 pub mod bytes;
 pub mod demand;
-pub mod fault;
+mod flight;
+pub mod frames;
 pub mod guide;
+pub mod image;
 pub mod lengths;
 pub mod lent;
 pub mod model;
@@ -16,6 +18,7 @@ pub mod pilot;
 pub mod refusal;
 pub mod route;
 pub mod runs;
+pub mod wrong;
 
 use lent::Lending;
 

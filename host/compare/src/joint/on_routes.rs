@@ -1,9 +1,9 @@
 //! What the ticks on routes of some runs came to.
 
 use super::bytes::{float, word, EARLIER_LEGS, LEG, MOST_LEGS, TRAILER};
-use super::fault::Fault;
-use super::refusal;
-use super::route::Route;
+use super::model::Right;
+use super::refusal::Refusals;
+use super::route::{Legs, Route};
 use crate::counts::counts;
 use std::fmt;
 
@@ -39,7 +39,7 @@ impl OnRoutes {
 
     /// An accepted tick.
     pub fn take(&mut self, bytes: &[u8], route: &Route, time: f32) {
-        let place = route.place(Fault::None, time);
+        let place = Right.place(route, time);
         let any = |is: &dyn Fn(&f32) -> bool| u64::from(route.ends.iter().any(is));
         let near = |is: &dyn Fn(&f32) -> bool| any(&|end| time.is_finite() && is(end));
         self.counts[route.ends.len() - 1] += 1;
@@ -64,7 +64,7 @@ impl OnRoutes {
     pub fn refuse(&mut self, number: u32, route: &[u8]) {
         self.refused[number as usize] += 1;
         if number == 7 {
-            refusal::apart(Fault::None, &route[..route.len() - TRAILER]).into_iter().for_each(|place| self.apart[place] += 1);
+            Right.apart(&route[..route.len() - TRAILER]).into_iter().for_each(|place| self.apart[place] += 1);
         }
     }
 }

@@ -1,7 +1,8 @@
 //! What comes in: set-ups, ticks and damage. All of it depends on the run's number alone.
 
 use super::bytes::{canonical, put, raw, word, Take, PEAKS, PROFILE, SETUP, SETUP_FC, SETUP_PROFILE, TICK, WORDS};
-use super::model::{product, times, Flight, Profile};
+use super::frames::{product, times};
+use super::model::{Flight, Profile};
 use super::route::Source;
 use crate::generate::{self, Rng};
 use oracle::geo::{self, Mat3};

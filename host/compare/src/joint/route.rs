@@ -1,14 +1,12 @@
-//! What is expected of a route: document 02's sentence, with the Rust's own segments and durations; with a fault, something else.
+//! What is expected of a route: document 02's sentences, with the Rust's own segments and durations. Each step is a method, as in `model`.
 
-use super::bytes::{float, Take, LEG};
-use super::fault::Fault;
+use super::bytes::{Take, LEG};
 use super::Call;
-use oracle::traj::{Sample3, Segment3};
+use oracle::traj::Segment3;
 
 /// A route that is not refused.
 pub struct Route {
-    legs: Vec<Segment3>,
-    /// "Leg ends are the running f32 sum of mended durations".
+    pub(super) legs: Vec<Segment3>,
     pub ends: Vec<f32>,
 }
 
@@ -16,17 +14,6 @@ pub struct Route {
 pub enum Source {
     Segment,
     Route(Route),
-    /// A route's bytes, with nothing kept: at each tick the Rust makes segments of the legs up to the one flown.
-    Bytes(Vec<u8>),
-}
-
-impl Source {
-    pub fn of(fault: Fault, call: Call, route: &[u8]) -> Self {
-        match call {
-            Call::RouteTick => Source::Route(Route::of(fault, route)),
-            Call::SetUp | Call::Tick | Call::Exchange => Source::Segment,
-        }
-    }
 }
 
 /// Where on the route a time is.
@@ -36,83 +23,79 @@ pub struct Place {
     pub past: bool,
 }
 
-impl Route {
-    pub fn of(fault: Fault, bytes: &[u8]) -> Self {
-        let (mut sum, mut wide) = (0.0, 0.0);
-        let (legs, ends) = bytes
-            .chunks_exact(LEG)
-            .map(|words| {
-                let leg = segment(words);
-                let duration = if fault == Fault::RawDurations { float(words, 18) } else { leg.duration() };
-                sum += duration;
-                wide += f64::from(duration);
-                (leg, if fault == Fault::WideSum { wide as f32 } else { sum })
-            })
-            .unzip();
-        Route { legs, ends }
+pub trait Legs {
+    /// What a call follows.
+    fn source(&self, call: Call, route: &[u8]) -> Source {
+        match call {
+            Call::RouteTick => Source::Route(self.route(route)),
+            Call::SetUp | Call::Tick | Call::Exchange => Source::Segment,
+        }
+    }
+
+    fn route(&self, bytes: &[u8]) -> Route {
+        Route::of(bytes)
     }
 
     /// "The leg flown is the first whose end is above the governor time, at the time less the end before it; past all ends it is the last leg
     /// at its duration."
-    pub fn place(&self, fault: Fault, time: f32) -> Place {
-        let start = |leg: usize| if leg == 0 { 0.0 } else { self.ends[leg - 1] };
-        match self.ends.iter().position(|end| *end > time || (fault == Fault::EarlierAtEnd && *end == time)) {
-            Some(leg) if fault == Fault::WholeTime => Place { leg, at: time, past: false },
-            Some(leg) => Place { leg, at: time - start(leg), past: false },
-            None => {
-                let leg = self.legs.len() - 1;
-                let at = match fault {
-                    Fault::LastAtZero => 0.0,
-                    Fault::LastAtTime => time - start(leg),
-                    _ => self.legs[leg].duration(),
-                };
-                Place { leg, at, past: true }
+    fn place(&self, route: &Route, time: f32) -> Place {
+        for (leg, end) in route.ends.iter().enumerate() {
+            if self.is_above(*end, time) {
+                return Place { leg, at: time - route.start(leg), past: false };
             }
         }
+        let leg = route.legs.len() - 1;
+        Place { leg, at: route.legs[leg].duration(), past: true }
     }
 
-    /// The sample there, and the time on the leg.
-    pub fn sample(&self, fault: Fault, time: f32) -> (Sample3, f32) {
-        let place = self.place(fault, time);
-        (self.legs[place.leg].eval(place.at), place.at)
+    fn is_above(&self, end: f32, time: f32) -> bool {
+        end > time
     }
 }
 
-#[inline]
-fn segment(words: &[u8]) -> Segment3 {
-    let mut i = Take::from(words, 0);
-    Segment3::new(i.floats(), i.floats(), i.floats(), i.floats(), i.floats(), i.floats(), i.float())
-}
+impl Route {
+    /// "Leg ends are the running f32 sum of mended durations."
+    fn of(bytes: &[u8]) -> Self {
+        let mut sum = 0.0;
+        let leg = |words| {
+            let leg = segment(&mut Take::from(words, 0));
+            sum += leg.duration();
+            (leg, sum)
+        };
+        let (legs, ends) = bytes.chunks_exact(LEG).map(leg).unzip();
+        Route { legs, ends }
+    }
 
-/// The sample of the leg flown and the time on it, from the bytes. None where there is no leg.
-#[inline]
-pub fn sample_of(bytes: &[u8], time: f32) -> Option<(Sample3, f32)> {
-    let (mut end, mut last) = (0.0, None);
-    for words in bytes.chunks_exact(LEG) {
-        let leg = segment(words);
-        let next = end + leg.duration();
-        if time < next {
-            return Some((leg.eval(time - end), time - end));
+    /// The end before this leg.
+    pub(super) fn start(&self, leg: usize) -> f32 {
+        if leg == 0 {
+            0.0
+        } else {
+            self.ends[leg - 1]
         }
-        end = next;
-        last = Some(leg);
     }
-    last.map(|leg| (leg.eval(leg.duration()), leg.duration()))
+}
+
+/// 19 words: p0, v0, a0, pf, vf, af, t.
+#[inline]
+pub fn segment(i: &mut Take<'_>) -> Segment3 {
+    Segment3::new(i.floats(), i.floats(), i.floats(), i.floats(), i.floats(), i.floats(), i.float())
 }
 
 #[cfg(test)]
 mod tests {
     use super::*;
     use crate::joint::bytes::put;
+    use crate::joint::model::Right;
 
     fn of(durations: &[f32]) -> Route {
         let mut bytes = vec![0; LEG * durations.len() + 8];
         durations.iter().enumerate().for_each(|(leg, t)| put(&mut bytes, 19 * leg + 18, t.to_bits()));
-        Route::of(Fault::None, &bytes)
+        Right.route(&bytes)
     }
 
     fn flown(durations: &[f32], time: f32) -> (usize, f32, bool) {
-        let place = of(durations).place(Fault::None, time);
+        let place = Right.place(&of(durations), time);
         (place.leg, place.at, place.past)
     }
 

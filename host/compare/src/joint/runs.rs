@@ -2,14 +2,16 @@
 //! flag and the command are what looking back over the run's margins says.
 
 use super::bytes::{float, word, ANSWER, IMAGE, PEAKS, SETUP, TICK, WORDS};
-use super::fault::Fault;
+use super::frames::product;
 use super::guide::Guide;
 use super::lent::{Hands, Lent, Short};
-use super::model::{self, Flight, Profile};
+use super::model::{Answer, Flight, Input, Profile, Right, Steps, Toward};
 use super::on_routes::OnRoutes;
 use super::pilot::{self, Kind, Pilot, KINDS};
-use super::route::Source;
-use super::{demand, refusal, Call, Face};
+use super::refusal::Refusals;
+use super::route::{Legs, Source};
+use super::wrong::Version;
+use super::{demand, Call, Face};
 use crate::counts::{counts, Counts};
 use crate::{share, threads};
 use std::fmt;
@@ -92,6 +94,23 @@ impl Seen {
     fn refuse_set_up(&mut self, number: u32) {
         if let Some(at) = [1, 2, 10, 11].iter().position(|known| *known == number) {
             self.refused_set_ups[at] += 1;
+        }
+    }
+
+    /// An accepted tick of a run of this kind: which way it went.
+    fn tick(&mut self, flight: &Flight, Answer { time, guidance, .. }: &Answer, kind: usize) {
+        self.ticks[flight.profile as usize][kind] += 1;
+        self.at_the_end += u64::from(*time == f32::INFINITY);
+        match (&guidance.toward, flight.profile) {
+            (Toward::Nowhere, Profile::Whole) => self.no_attitude += 1,
+            (Toward::Nowhere, Profile::LostRotor) => self.no_axis += 1,
+            (Toward::Attitude(r, r_d, ahead), _) => {
+                self.no_feedforward += u64::from(ahead.is_none());
+                let ahead = ahead.map_or(0, |ff| if ff == [0.0; 3] { 1 } else { 2 });
+                let finite = product(r, r_d).as_flattened().iter().all(|entry| entry.is_finite());
+                self.turning[ahead][usize::from(!finite)] += u64::from(guidance.psi.is_finite());
+            }
+            (Toward::ThrustAxis, _) => {}
         }
     }
 
@@ -202,7 +221,7 @@ pub fn run(face: Face, number: u64, watch: Watch, calls: &'static [Call], seen: 
     hands.input = Short::holding(&pilot.wrong_set_up());
     (hands.input.len, hands.image.len) = (pilot.length_near(SETUP), pilot.length_near(IMAGE));
     let before = hands.clone();
-    let refused = refusal::of(Fault::None, Call::SetUp, &hands.lend());
+    let refused = Right.refused(Call::SetUp, &hands.lend());
     let returned = face(Call::SetUp, &mut hands.lend());
     seen.refuse_set_up(refused);
     if watch == Watch::All && (returned != refused || hands != before) {
@@ -215,7 +234,7 @@ pub fn run(face: Face, number: u64, watch: Watch, calls: &'static [Call], seen: 
 
     let mut flight = Flight::set_up(&set_up);
     let (before, mut expected) = (hands.clone(), hands.clone());
-    let refused = refusal::of(Fault::None, Call::SetUp, &hands.lend());
+    let refused = Right.refused(Call::SetUp, &hands.lend());
     seen.refuse_set_up(refused);
     if refused == 0 {
         flight.write(expected.image.bytes_mut());
@@ -228,7 +247,7 @@ pub fn run(face: Face, number: u64, watch: Watch, calls: &'static [Call], seen: 
     }
     let wrong = if differs {
         Some("set-up differs")
-    } else if refusal::of_tick(expected.image.bytes(), TICK, ANSWER) != 0 {
+    } else if Right.of_tick(expected.image.bytes(), TICK, ANSWER) != 0 {
         Some("set-up made an image that is refused")
     } else {
         None
@@ -260,37 +279,27 @@ pub fn run(face: Face, number: u64, watch: Watch, calls: &'static [Call], seen: 
         let whole = hands.image.clone();
         let damaged = pilot.damage(hands.image.bytes_mut());
         let (before, mut expected) = (hands.clone(), hands.clone());
-        let refused = refusal::of(Fault::None, call, &hands.lend());
+        let refused = Right.refused(call, &hands.lend());
         if refused == 0 {
             if damaged.is_some() {
                 flight = Flight::from_image(hands.image.bytes());
             }
             if call == Call::Exchange {
-                flight.exchange(Fault::None, hands.input.bytes());
+                Right.exchange(&mut flight, hands.input.bytes());
                 flight.write(expected.image.bytes_mut());
                 seen.exchanged += 1;
                 seen.infinite_peaks += u64::from((PEAKS..WORDS).any(|at| float(expected.image.bytes(), at) == f32::INFINITY));
             }
         }
         if refused == 0 && call != Call::Exchange {
-            let source = Source::of(Fault::None, call, hands.route.bytes());
-            let way = flight.tick_on(|| Fault::None, &source, hands.input.bytes(), expected.answer.bytes_mut());
+            let source = Right.source(call, hands.route.bytes());
+            let answer = Right.tick(&mut flight, &source, &Input::read(hands.input.bytes()));
+            answer.write(expected.answer.bytes_mut());
             flight.write(expected.image.bytes_mut());
             tick += 1;
-            seen.ticks[way.profile as usize][kind] += 1;
-            match way.profile {
-                Profile::Whole => {
-                    seen.no_attitude += u64::from(!way.there);
-                    seen.no_feedforward += u64::from(way.there && !way.feedforward);
-                }
-                Profile::LostRotor => seen.no_axis += u64::from(!way.there),
-            }
-            if let Some((ahead, whole)) = way.turning {
-                seen.turning[ahead as usize][usize::from(!whole)] += 1;
-            }
-            seen.at_the_end += u64::from(way.at_the_end);
+            seen.tick(&flight, &answer, kind);
             if let Source::Route(route) = &source {
-                seen.routes.take(hands.route.bytes(), route, way.time);
+                seen.routes.take(hands.route.bytes(), route, answer.time);
             }
         } else if refused != 0 {
             match call {
@@ -366,14 +375,14 @@ pub fn compare(face: Face, ticks: u64, watch: Watch, calls: &'static [Call], don
     total.into_inner().unwrap_or_else(PoisonError::into_inner)
 }
 
-/// Whether the model with a fault is told from the one without, and where.
-pub fn caught(fault: Fault, ticks: u64, watch: Watch, calls: &'static [Call]) -> bool {
-    let (seen, parted) = compare(&|call, lent| model::call(fault, call, lent), ticks, watch, calls, |_| {});
+/// Whether a version is told from what is expected, and where.
+pub fn caught(version: Version, ticks: u64, watch: Watch, calls: &'static [Call]) -> bool {
+    let (seen, parted) = compare(&version.call, ticks, watch, calls, |_| {});
     match &parted {
         Some(Parted { run, tick, what, expected: (expected, _), found: (returned, _), .. }) => {
-            println!("{}: caught in run {run}, tick {tick} ({what}, returns {returned}, expected {expected})", fault.name());
+            println!("{}: caught in run {run}, tick {tick} ({what}, returns {returned}, expected {expected})", version.name);
         }
-        None => println!("{}: NOT caught in {} ticks", fault.name(), seen.accepted()),
+        None => println!("{}: NOT caught in {} ticks", version.name, seen.accepted()),
     }
     parted.is_some()
 }

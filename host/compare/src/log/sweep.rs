@@ -5,9 +5,9 @@ use crate::counts::{counts, Counts};
 use crate::generate::Rng;
 use crate::joint::bytes::{put, ANSWER, IMAGE, TICK};
 use crate::joint::lent::{Lent, LONGEST};
-use crate::joint::model::Flight;
+use crate::joint::model::{Flight, Right};
 use crate::joint::pilot::{self, Pilot};
-use crate::joint::refusal;
+use crate::joint::refusal::Refusals;
 use crate::joint::route::Source;
 use crate::share;
 use std::fmt;
@@ -325,7 +325,7 @@ pub fn flights(face: &Face) -> Result<Seen, String> {
             let input = pilot.next(&flight, &Source::Segment);
             let mut answer = [0; ANSWER];
             if faces::tick(&mut image, &input, &mut answer) != 0 {
-                return Err(format!("flight {number}: a tick from set-up is refused with {}", refusal::of_tick(&image, TICK, ANSWER)));
+                return Err(format!("flight {number}: a tick from set-up is refused with {}", Right.of_tick(&image, TICK, ANSWER)));
             }
             flight.tick(&input, &mut [0; ANSWER]);
             if rng.below(4) == 0 {

@@ -1,7 +1,8 @@
 -- A tick is refused for what `tickRefusal` says, and so by the lengths and the image alone: for callers above the core. Assumes nothing.
 use Rattle.laws.proofs.Prelude.{_≡_, refl, sym, _∙_, true, false, not, List, [], _∷_, ℕ, not-true, length, no, both}
 use Rattle.outcome.{specs.{declared.Outcome.the-variants.Done, Outcomes.{isDone, Table, firstOf, left, lent, Called}}, proofs.Tables.{refuses, refused-keeps, either}}
-use Rattle.calls.specs.Entry.{tickTable, tickRefusal, tickFrom, tickCall}
+use Rattle.lent_tick.specs.Tick.{tickTable, tickRefusal, tickFrom}
+use Rattle.calls.specs.Entry.{tickCall}
 
 -- of a table whose every row refuses, nothing but `Done` is done
 done-is : (rows : Table) → refuses rows ≡ true → isDone (firstOf rows) ≡ true → firstOf rows ≡ Done

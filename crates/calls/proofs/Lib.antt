@@ -1,6 +1,4 @@
-pub mod Flown
 pub mod Asked
-pub mod Going
 pub mod Steps
 pub mod Level
 pub mod Shams

@@ -17,15 +17,6 @@ exchange-once κs a x y v w p q =
     let e = no-second p q in
     (ap (λ (l : Filled). l .outcome) e, both (ap (λ (l : Filled). l .later) e) refl)
 
-pub intact-once : OneAnswer entry.intact.ended entry.intact.Reads.Post
-intact-once κs a x y v w p q = (no-second p q, refl)
-
-pub begin-once : OneAnswer entry.begin.ended entry.begin.Reads.Post
-begin-once κs a x y v w p q = (no-second p q, refl)
-
-pub leave-once : OneAnswer entry.leave.ended entry.leave.Reads.Post
-leave-once κs a x y v w p q = (refl, both (no-second (p .image) (q .image)) (both (no-second (p .answer) (q .answer)) refl))
-
 pub tick-once : OneAnswer entry.tick.ended entry.tick.Reads.Post
 tick-once κs a x y v w p q =
     let e = no-second p q in

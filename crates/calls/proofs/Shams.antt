@@ -8,9 +8,10 @@ use Rattle.joint_tick.{specs.{declared.{state.State.State, stages.Ticked.Ticked
 use Rattle.outcome.specs.{declared.Outcome.the-variants.Done, Outcomes.{left, Filled, lent, Called}}
 use Rattle.image.specs.{Layout.{COUNT, ENGAGED, SETUP-PROFILE, INPUT-BYTES}, Image.{stateAt, imageOf}, Inputs.{setupAt, inputAt, answerOf}}
 use Rattle.image.proofs.Decoded.{count-written, engaged-written, decode-encode}
-use Rattle.calls.specs.{Entry.{setUpRefusal, onSegment, tickFrom, setUpCall, tickCall}, Ticks.{SetsUp, Accepted}}
+use Rattle.lent_tick.{specs.{Unbroken.Unbroken, Tick.tickFrom}, proofs.{Going.{set-up-fits, set-up-never-refused}, Flown.unbroken-taken}}
+use Rattle.calls.specs.Entry.{setUpRefusal, SetsUp, onSegment, setUpCall, tickCall}
 use Rattle.calls.specs.Shams.{Program, Keeps, RefusesSetUps, RefusesTicks, LeavesSetUp, LeavesTicked, blankAnswer, blankImage, levelSetUp, levelInput}
-use Rattle.calls.proofs.{Going.{set-up-fits, set-up-never-refused}, Level.planner-first}
+use Rattle.calls.proofs.Level.{planner-first}
 
 -- ---- what an accepted call leaves
 
@@ -33,10 +34,10 @@ pub level-sets-up : SetsUp levelSetUp
 unfolding setUpRefusal isProfile word float lt le mul ofBits
 level-sets-up = refl
 
-tick-accepted : (image input : List ℕ) → Accepted image → length input ≡ INPUT-BYTES
+tick-accepted : (image input : List ℕ) → Unbroken image → length input ≡ INPUT-BYTES
     → tickCall image input blankAnswer ≡ left Done (lent (leaves image input) (answerOf (tick image input .answer)))
 unfolding tickCall tickFrom leaves
-tick-accepted image input a e = rw (e, a)
+tick-accepted image input u e = rw (← unbroken-taken image (length input) (length blankAnswer) u e refl)
 
 -- ---- the run
 
@@ -46,8 +47,8 @@ s = setUp (setupAt levelSetUp)
 abbrev fresh : List ℕ
 fresh = imageOf s
 
-fresh-taken : Accepted fresh
-fresh-taken = set-up-never-refused levelSetUp
+fresh-unbroken : Unbroken fresh
+fresh-unbroken = set-up-never-refused levelSetUp
 
 fresh-state : stateAt fresh ≡ s
 fresh-state = decode-encode s (set-up-fits levelSetUp)
@@ -85,7 +86,7 @@ module _ (p : Program) (k : Keeps p) where
   sets-up : p .setUp blankImage levelSetUp ≡ left Done fresh
   sets-up = k .setUp blankImage levelSetUp ∙ set-up-accepted levelSetUp level-sets-up
 
-  ticks : (image input : List ℕ) → Accepted image → length input ≡ INPUT-BYTES
+  ticks : (image input : List ℕ) → Unbroken image → length input ≡ INPUT-BYTES
       → p .tick image input blankAnswer ≡ left Done (lent (leaves image input) (answerOf (tick image input .answer)))
   ticks image input a e = k .tick image input blankAnswer ∙ tick-accepted image input a e
 
@@ -94,7 +95,7 @@ module _ (p : Program) (k : Keeps p) where
   not-refusing-set-ups r = r .never blankImage levelSetUp (ap (λ (l : Filled). l .outcome) sets-up)
 
   pub not-refusing-ticks : ¬ (RefusesTicks p)
-  not-refusing-ticks r = r .never fresh levelInput blankAnswer (ap (λ (c : Called). c .outcome) (ticks fresh levelInput fresh-taken refl))
+  not-refusing-ticks r = r .never fresh levelInput blankAnswer (ap (λ (c : Called). c .outcome) (ticks fresh levelInput fresh-unbroken refl))
 
   -- "the image untouched": demand 2, set-up writes its count, and a tick that releases the shield writes that
   pub not-leaving-set-up : ¬ (LeavesSetUp p)
@@ -102,5 +103,5 @@ module _ (p : Program) (k : Keeps p) where
 
   pub not-leaving-ticked : ¬ (LeavesTicked p)
   not-leaving-ticked r =
-      let same : leaves fresh levelInput ≡ fresh = sym (ap (λ (c : Called). c .later .image) (ticks fresh levelInput fresh-taken refl)) ∙ r .always fresh levelInput blankAnswer in
+      let same : leaves fresh levelInput ≡ fresh = sym (ap (λ (c : Called). c .later .image) (ticks fresh levelInput fresh-unbroken refl)) ∙ r .always fresh levelInput blankAnswer in
       suc-ne-zero 0 (sym engaged-before ∙ ap (λ (b : List ℕ). word b ENGAGED) (sym same) ∙ released-after)

@@ -1,63 +1,19 @@
--- What a tick on bytes does in a run, from any source of references and refused for anything: it steps the shield by its margin, or keeps it, and its
--- clock does not go back. A call that is such a tick needs no other lemma about runs. Assumes nothing.
-use Rattle.laws.proofs.Prelude.{_≡_, refl, ap, _∙_, List, [], _∷_, ℕ, T, length, Float, le}
-use Rattle.words.specs.Words.{float}
+-- What an exchange does in a run. Assumes nothing.
+use Rattle.laws.proofs.Prelude.{_≡_, refl, ap, List, [], ℕ, length}
 use Rattle.latch.specs.Latch.{after}
-use Rattle.relay_math.proofs.Order.{le-refl-of}
-use Rattle.relay_traj.{specs.Governor.Running, proofs.Clock.never-nan}
-use Rattle.joint_tick.specs.{declared.{state.{State.State, TickInput.TickInput}, stages.Reference.Reference}, SetUp.exchange, Tick.{guidance, stateAfter, shieldOf as shieldOfState}}
-use Rattle.joint_tick.proofs.{Shielding.{tick-latch, tick-keeps-flag}, Kept.good-runs, Clock.time-never-back}
-use Rattle.outcome.{specs.{declared.Outcome.Outcome, Outcomes.{Filled, Called}}, proofs.Tables.either}
-use Rattle.image.{specs.{Layout.GOVERNOR, Parts.{governorAt, legAt}, Image.{movingAt, stateAt, imageOf}, Inputs.inputAt}, proofs.Decoded.{decode-encode, time-written, state-fits}}
-use Rattle.calls.specs.{Entry.{exchangeRefusal, exchangeCall, tickFrom}, Ticks.{Accepted, marginsIf, shieldOf, stepped, Steps}}
-use Rattle.calls.proofs.Going.{tick-fits, exchange-fits, good-image, tick-never-refused, exchange-never-refused}
-
--- the time that an image holds is one that a governor can have
-pub image-runs : (image : List ℕ) → Accepted image → Running (float image GOVERNOR)
-unfolding movingAt governorAt
-image-runs image a = good-runs (good-image image a)
-
-module _ (source : Float → Reference) (o : Outcome) (image input answer : List ℕ) (a : Accepted image) where
-  abbrev s : State
-  s = stateAt image
-
-  abbrev i : TickInput
-  i = inputAt input
-
-  abbrev next : State
-  next = stateAfter source s i
-
-  abbrev m : Float
-  m = guidance source s i .margin
-
-  shield-left : shieldOf (imageOf next) ≡ stepped (shieldOf image) (m ∷ [])
-  unfolding after
-  shield-left =
-      ap shieldOfState (decode-encode next (tick-fits source s input (state-fits image)))
-      ∙ rw (tick-keeps-flag source s i, tick-latch source s i)
-
-  pub tick-steps : Steps (marginsIf (tickFrom source o image input answer) m) image (tickFrom source o image input answer .later .image)
-  unfolding after tickFrom
-  tick-steps =
-      either (λ (c : Called). Steps (marginsIf c m) image (c .later .image)) o
-      (λ e. record { accepted = tick-never-refused source image input a; shield = shield-left })
-      (λ e. rw e record { accepted = a; shield = refl })
-
-  pub tick-clock : T (le (float image GOVERNOR) (float (tickFrom source o image input answer .later .image) GOVERNOR))
-  unfolding movingAt governorAt tickFrom
-  tick-clock =
-      let written = time-written next (tick-fits source s input (state-fits image) .governor .0) in
-      either (λ (c : Called). T (le (float image GOVERNOR) (float (c .later .image) GOVERNOR))) o
-      (λ e. rw written (time-never-back source s i (good-runs (good-image image a)) .0))
-      (λ e. le-refl-of _ (never-nan (image-runs image a)))
+use Rattle.joint_tick.specs.{SetUp.exchange, Tick.shieldOf as shieldOfState}
+use Rattle.outcome.{specs.Outcomes.Filled, proofs.Tables.either}
+use Rattle.image.{specs.{Parts.legAt, Image.{stateAt, imageOf}}, proofs.Decoded.{decode-encode, state-fits}}
+use Rattle.lent_tick.{specs.{Unbroken.Unbroken, Steps.{shieldOf, Steps}}, proofs.Going.{exchange-fits, exchange-never-refused}}
+use Rattle.calls.specs.Entry.{exchangeRefusal, exchangeCall}
 
 -- An exchange steps the shield by no margin: "the exchange leaves shield, ADRC and filters as they were".
-pub exchange-steps : (image segment : List ℕ) → Accepted image → Steps [] image (exchangeCall image segment .later)
+pub exchange-steps : (image segment : List ℕ) → Unbroken image → Steps [] image (exchangeCall image segment .later)
 unfolding after exchangeCall exchange
-exchange-steps image segment a =
+exchange-steps image segment u =
     either (λ (l : Filled). Steps [] image (l .later)) (exchangeRefusal image (length segment))
-    (λ e. record { accepted = exchange-never-refused image segment a; shield = kept })
-    (λ e. record { accepted = a; shield = refl })
+    (λ e. record { unbroken = exchange-never-refused image segment u; shield = kept })
+    (λ e. record { unbroken = u; shield = refl })
   where
     kept : shieldOf (imageOf (exchange (stateAt image) (legAt segment 0))) ≡ shieldOf image
     kept = ap shieldOfState (decode-encode (exchange (stateAt image) (legAt segment 0)) (exchange-fits (stateAt image) segment (state-fits image)))

@@ -1,4 +1,2 @@
 pub mod Entry
-pub mod Inner
-pub mod Ticks
 pub mod Shams

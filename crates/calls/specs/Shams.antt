@@ -7,8 +7,7 @@ use Rattle.words.specs.Words.{bytesOf}
 use Rattle.image.specs.Layout.{IMAGE-BYTES, ANSWER-BYTES, INPUT-BYTES}
 use Rattle.outcome.specs.declared.Outcome.the-variants.{Done}
 use Rattle.outcome.specs.Outcomes.{Filled, Called}
-use Rattle.calls.specs.Entry.{setUpCall, tickCall}
-use Rattle.calls.specs.Ticks.{SetsUp}
+use Rattle.calls.specs.Entry.{SetsUp, setUpCall, tickCall}
 
 -- Any program, by what its two calls leave: set-up of an image and an input, a tick of an image, an input and an answer.
 pub record Program : Type 0 where

@@ -1,10 +1,7 @@
 // The joint tick on lent bytes (added by document 01).
 mod entry; // entry.rt: set-up, tick and exchange on lent bytes, and what they refuse
 
-pub use entry::begin;
 pub use entry::exchange;
-pub use entry::intact;
-pub use entry::leave;
 pub use entry::setup;
 pub use entry::tick;
 pub use entry::tick_refusal;

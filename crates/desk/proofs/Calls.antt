@@ -2,7 +2,8 @@
 use Rattle.laws.proofs.Prelude.{_≡_, refl, sym, ap, _∙_, Bool, true, false, cond, List, ℕ, length, no}
 use Rattle.outcome.specs.{declared.Outcome.{Outcome, the-variants.Done}, Outcomes.{isDone, differs, Left, left, lent, Called}}
 use Rattle.image.specs.Layout.{INPUT-BYTES, ANSWER-BYTES}
-use Rattle.calls.specs.{Entry.{tickRefusal, tickCall}, Ticks.Accepted}
+use Rattle.lent_tick.{specs.{Unbroken.Unbroken, Tick.tickRefusal}, proofs.Flown.unbroken-taken}
+use Rattle.calls.specs.Entry.{tickCall}
 use Rattle.desk.specs.{declared.entry.DeskOutcome.{DeskOutcome, the-variants.{DeskLength, SticksLength, Core}}, Filters.{DESK-BYTES, STICKS-BYTES, deskAt, deskOf, deskCentre}}
 use Rattle.desk.specs.Entry.{deskDone, deskLeft, centreCall, flownInput, LentToDesk, lentToDesk, tickRefusalAt, deskTickCall}
 use Rattle.desk.proofs.Flown.{flown-length, core-done}
@@ -71,7 +72,7 @@ module _ (desk sticks image input answer : List ℕ) where
   unfolding deskTickCall
   input-length = either (λ (l : Left DeskOutcome LentToDesk). length (l .later .input) ≡ length input) refusal (λ e. flown-length desk sticks input) (λ e. refl)
 
-  -- with right lengths, and an image that the core's tick takes, a desk tick is accepted
-  pub tick-accepted : length desk ≡ DESK-BYTES → length sticks ≡ STICKS-BYTES → length input ≡ INPUT-BYTES → length answer ≡ ANSWER-BYTES → Accepted image → call .outcome ≡ Core Done
+  -- with right lengths, and an unbroken image, a desk tick is accepted
+  pub tick-accepted : length desk ≡ DESK-BYTES → length sticks ≡ STICKS-BYTES → length input ≡ INPUT-BYTES → length answer ≡ ANSWER-BYTES → Unbroken image → call .outcome ≡ Core Done
   unfolding deskTickCall tickRefusalAt
-  tick-accepted p q i a r = rw (p, q, i, a, r)
+  tick-accepted p q i a u = rw (p, q, ← unbroken-taken image (length input) (length answer) u i a)

@@ -4,7 +4,8 @@ use Rattle.words.{specs.Words.{word, float, vec, bits, bytesOf, Put}, proofs.{W
 use Rattle.relay_math.specs.declared.Vec3.{Vec3}
 use Rattle.image.specs.Layout.{YAW, DT, INPUT-BYTES}
 use Rattle.outcome.{specs.{declared.Outcome.{Outcome, the-variants.Done}, Outcomes.{isDone, Left, left, lent, Called}}, proofs.Tables.accepted}
-use Rattle.calls.{specs.Entry.{tickRefusal, tickCall}, proofs.{Asked.{refusal-done, tick-asked, refused-changes-nothing}, Flown.sized}}
+use Rattle.lent_tick.{specs.Tick.tickRefusal, proofs.Flown.taken-unbroken}
+use Rattle.calls.{specs.Entry.tickCall, proofs.Asked.{refusal-done, tick-asked, refused-changes-nothing}}
 use Rattle.desk.specs.{declared.{filters.Desk.Desk, entry.DeskOutcome.{DeskOutcome, the-variants.Core}}, Filters.{DESK-BYTES, STICKS-BYTES, deskAt, deskOf, deskStep}}
 use Rattle.desk.specs.Entry.{withHeading, moved, flownInput, LentToDesk, lentToDesk, tickRefusalAt, deskTickCall}
 
@@ -43,7 +44,7 @@ module _ (desk sticks image input answer : List ℕ) (p : length desk ≡ DESK-B
   no-input {o} e n = go (isDone o) refl
     where
       go : (t : Bool) → t ≡ isDone o → left (Core o) (lentToDesk desk image input answer) ≡ called
-      go true d = absurd (n (sized image (length input) (length answer) (ap isDone (sym e) ∙ sym d) .1))
+      go true d = absurd (n (taken-unbroken image (length input) (length answer) (ap isDone (sym e) ∙ sym d) .1))
       go false d = refused e d refl
 
   -- the core's tick of the input with the stepped desk's heading, that ended with o

@@ -10,7 +10,8 @@ use Rattle.words.specs.Words.{float, vec, bits, bytesOf}
 use Rattle.image.specs.Layout.{YAW, DT}
 use Rattle.outcome.specs.declared.Outcome.the-variants.{Done}
 use Rattle.outcome.specs.Outcomes.{number, differs, Left, left}
-use Rattle.calls.specs.Entry.{tickRefusal, tickCall}
+use Rattle.lent_tick.specs.Tick.{tickRefusal}
+use Rattle.calls.specs.Entry.{tickCall}
 use Rattle.desk.specs.declared.filters.Desk.{Desk}
 use Rattle.desk.specs.declared.entry.DeskOutcome.{DeskOutcome}
 use Rattle.desk.specs.declared.entry.DeskOutcome.the-variants.{DeskLength, SticksLength, Core}

@@ -5,7 +5,7 @@ use lib.ListN.{length}
 use Rattle.latch.specs.Latch.{Flies}
 use Rattle.image.specs.Layout.{INPUT-BYTES, ANSWER-BYTES}
 use Rattle.outcome.specs.Outcomes.{isDone, Called}
-use Rattle.calls.specs.Ticks.{Accepted}
+use Rattle.lent_tick.specs.Unbroken.{Unbroken}
 use Rattle.runs.{specs.{Runs.{flying, tickOf, guided, start, imageAfter, marginsAlong, Right}, DemandThree.{enterOf, exitOf, Shows}}, proofs.{Going.ran, DemandThree.demand-three}}
 use Rattle.desk.{specs.{Filters.{DESK-BYTES, STICKS-BYTES}, Entry.{deskNumber, deskDone}}, proofs.Calls.{tick-accepted, input-length, is-core-tick}}
 use Rattle.desk_runs.specs.Runs.{Held, held, Given, AnyCall, deskTick, heldAfter, flownTick, coreAlong}
@@ -27,8 +27,8 @@ demand-three-by-desk desk setup calls g p q i a =
     let t = flownTick h g in
     let before = coreAlong first calls in
     let e = core-sees first calls in
-    let accepted : Accepted (h .image) = subst Accepted (sym e) (ran setup before .accepted) in
-    let done = tick-accepted (h .desk) (g .sticks) (h .image) (g .input) (g .answer) (desk-size first calls p) q i a accepted in
+    let unbroken : Unbroken (h .image) = subst Unbroken (sym e) (ran setup before .unbroken) in
+    let done = tick-accepted (h .desk) (g .sticks) (h .image) (g .input) (g .answer) (desk-size first calls p) q i a unbroken in
     let right : Right t = (input-length (h .desk) (g .sticks) (h .image) (g .input) (g .answer) ∙ i, a, tt) in (
       ap deskNumber done,
       sym (ap (λ (c : Called). c .later .answer) (is-core-tick (h .desk) (g .sticks) (h .image) (g .input) (g .answer) (ap deskDone done))),

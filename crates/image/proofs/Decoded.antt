@@ -1,5 +1,5 @@
 -- The state image holds the state: what is written is read again, and what is read is written again in canonical words. Assumes nothing.
-use Rattle.laws.proofs.Prelude.{_≡_, refl, sym, ap, _∙_, true, _&&_, List, [], _∷_, _++_, ℕ, _+_, _-_, _<_, add-assoc, eqb, lit<, eq-eqb, eqb-true, length, getD, take, drop, Float, both}
+use Rattle.laws.proofs.Prelude.{_≡_, refl, sym, ap, _∙_, List, [], _∷_, _++_, ℕ, _+_, _-_, _<_, add-assoc, eqb, lit<, length, getD, take, drop, Float}
 use Rattle.words.specs.Words.{word, float, vec, floatsOfVec, bits, flag, wordsOf, bytesOf, Holds, canons}
 use Rattle.words.proofs.{Back.{word-back, bits-back, float-back, floats-back, first-back, float-fits, flag-back, flag-lt}, Written.length-bytesOf}
 use Rattle.relay_math.specs.declared.Vec3.{Vec3}
@@ -9,7 +9,7 @@ use Rattle.relay_adrc.specs.declared.{axis.AdrcAxis.AdrcAxis, biquad.Biquad.Biq
 use Rattle.joint_tick.specs.{declared.{profile.Profile.{Profile, the-variants.{Whole, LostRotor}}, state.State.State}, Profile.{profileWord, profileOf}}
 use Rattle.image.specs.Layout.{QUINTIC-WORDS, AXIS-WORDS, BIQUAD-WORDS, COUNT, GAINS, SET, ENTER, EXIT, ENGAGED, GOVERNOR, SEGMENT, RATE, LPF, PROFILE, PEAKS, IMAGE-WORDS, IMAGE-BYTES}
 use Rattle.image.specs.Parts.{gainsAt, setAt, governorAt, quinticAt, segmentAt, adrcGainsAt, axisAt, rateAt, biquadAt, lpfAt, profileAt, floatsOfGains, floatsOfSet, floatsOfGovernor}
-use Rattle.image.specs.{Parts.{floatsOfQuintic, floatsOfAxis, floatsOfBiquad}, Image.{fixedAt, movingAt, stateAt, wordsOfState, imageOf, peaksOf, peaksStand, canonicalImage}}
+use Rattle.image.specs.{Parts.{floatsOfQuintic, floatsOfAxis, floatsOfBiquad}, Image.{fixedAt, movingAt, stateAt, wordsOfState, imageOf, peaksOf, canonicalImage}}
 use Rattle.image.specs.Fits.{F32, FitsGains, FitsSet, FitsGovernor, FitsQuintic, FitsSegment, FitsAxis, FitsRate, FitsBiquad, FitsLpf, Fits}
 use Rattle.image.proofs.Fitting.{peaks-fit}
 
@@ -112,7 +112,7 @@ lpf-written s f =
     let at = biquad-back (image-is s) in
     simp (at LPF (s .moving .lpf .roll) refl (f .0), at (LPF + BIQUAD-WORDS) (s .moving .lpf .pitch) refl (f .1), at (LPF + BIQUAD-WORDS + BIQUAD-WORDS) (s .moving .lpf .yaw) refl (f .2))
 
--- the peaks are written as they are worked out from the segment ..
+-- the peaks are written as they are worked out from the segment
 abbrev peaks : State → Vec3
 peaks s = peakAbsJerk3 (s .fixed .segment)
 
@@ -121,24 +121,6 @@ peaks-written s =
     let at = bits-back (image-is s) in
     let f = peaks-fit (s .fixed .segment) in
     (at PEAKS (peaks s .0) refl (f .0), at (PEAKS + 1) (peaks s .1) refl (f .1 .0), at (PEAKS + 2) (peaks s .2) refl (f .1 .1 .0))
-
--- .. and so stand for the segment that is read again
-pub peaks-stand : (s : State) → FitsSegment (s .fixed .segment) → peaksStand (imageOf s) ≡ true
-unfolding peaksStand
-peaks-stand s f =
-    let w = peaks-written s in
-    rw (segment-written s f, w .0, w .1, w .2, eq-eqb (bits (peaks s .0)) _ refl, eq-eqb (bits (peaks s .1)) _ refl, eq-eqb (bits (peaks s .2)) _ refl)
-
--- peaks that stand have the bits of those worked out
-pub standing : (b : List ℕ) → peaksStand b ≡ true → let p = peaksOf b in (word b PEAKS ≡ bits (p .0)) × (word b (PEAKS + 1) ≡ bits (p .1)) × (word b (PEAKS + 2) ≡ bits (p .2))
-unfolding peaksStand
-standing b e =
-    let p = peaksOf b in
-    let x = eqb (word b PEAKS) (bits (p .0)) in
-    let y = eqb (word b (PEAKS + 1)) (bits (p .1)) in
-    let c = both (x && y) (eqb (word b (PEAKS + 2)) (bits (p .2))) e in
-    let a = both x y (c .0) in
-    (eqb-true (word b PEAKS) (bits (p .0)) (a .0), eqb-true (word b (PEAKS + 1)) (bits (p .1)) (a .1), eqb-true (word b (PEAKS + 2)) (bits (p .2)) (c .1))
 
 -- what is written is read again
 pub decode-encode : (s : State) → Fits s → stateAt (imageOf s) ≡ s
@@ -161,7 +143,7 @@ decode-encode s f =
 
 -- ---- written again
 
-same-words : (b : List ℕ) → wordsOfState (stateAt b) ≡ IMAGE-WORDS ∷ canons b GAINS (ENGAGED - GAINS) ++ flag (eqb (word b ENGAGED) 1) ∷ canons b GOVERNOR (PROFILE - GOVERNOR) ++ profileWord (profileOf (word b PROFILE)) ∷ wordsOf (floatsOfVec (peaksOf b))
+pub same-words : (b : List ℕ) → wordsOfState (stateAt b) ≡ IMAGE-WORDS ∷ canons b GAINS (ENGAGED - GAINS) ++ flag (eqb (word b ENGAGED) 1) ∷ canons b GOVERNOR (PROFILE - GOVERNOR) ++ profileWord (profileOf (word b PROFILE)) ∷ wordsOf (floatsOfVec (peaksOf b))
 unfolding fixedAt movingAt gainsAt vec setAt governorAt segmentAt quinticAt rateAt axisAt adrcGainsAt lpfAt biquadAt profileAt float
 same-words b = refl
 

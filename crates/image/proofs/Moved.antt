@@ -1,45 +1,17 @@
 -- An image over which only what a tick moved is written. Assumes nothing.
-use Rattle.laws.proofs.Prelude.{_≡_, refl, sym, ap, subst, _∙_, Bool, true, false, List, [], _∷_, ℕ, _+_, _≤_, lit≤, eqb, length, binary32, toBits, ofBits}
-use lib.Ieee.Bits.{ofBits-toBits}
-use Rattle.words.{specs.Words.{word, bits, canon, flag, wordsOf, bytesOf, Put, Holds, canons}, proofs.Standing.put-holds}
-use Rattle.joint_tick.specs.{declared.{profile.Profile.{Profile, the-variants.{Whole, LostRotor}}, state.{Moving.Moving, State.State}}, Profile.{profileWord, profileOf}}
-use Rattle.image.specs.{Layout.{AXIS-WORDS, BIQUAD-WORDS, COUNT, ENGAGED, GOVERNOR, SEGMENT, RATE, LPF, PROFILE, IMAGE-WORDS, IMAGE-BYTES}, Parts.segmentAt}
-use Rattle.image.specs.{Image.{fixedAt, movingAt, stateAt, wordsOfState, imageOf, canonicalImage, peaksOf}, Inner.{Judged, movedOfAxis, movedOfBiquad, over, Unmoved}}
-use Rattle.image.proofs.{Decoded.{image-is, image-length, standing, decode-encode, encode-decode, state-fits}, Fitting.peaks-fit}
+use Rattle.laws.proofs.Prelude.{_≡_, refl, sym, ap, subst, _∙_, List, [], _∷_, ℕ, _+_, _≤_, lit≤, length}
+use Rattle.words.{specs.Words.{bits, flag, wordsOf, bytesOf, Put, Holds, canons}, proofs.Standing.put-holds}
+use Rattle.joint_tick.specs.declared.state.{Moving.Moving, State.State}
+use Rattle.image.specs.{Layout.{AXIS-WORDS, BIQUAD-WORDS, ENGAGED, GOVERNOR, RATE, LPF, IMAGE-WORDS, IMAGE-BYTES}, Image.{fixedAt, movingAt, stateAt, wordsOfState, imageOf}}
+use Rattle.image.specs.Inner.{OwnWords, movedOfAxis, movedOfBiquad, over, Unmoved}
+use Rattle.image.proofs.Decoded.{image-is, image-length, decode-encode, state-fits}
 
--- ---- an image that row 4 took, each of its words made canonical, is the image of its own state
+-- ---- an image made canonical is the image of its own state
 
-count-canonical : canon IMAGE-WORDS ≡ IMAGE-WORDS
-unfolding toBits ofBits
-count-canonical = refl
-
-flag-canonical : (b : Bool) → canon (flag b) ≡ flag b
-unfolding toBits ofBits
-flag-canonical true = refl
-flag-canonical false = refl
-
-profile-canonical : (p : Profile) → canon (profileWord p) ≡ profileWord p
-unfolding toBits ofBits
-profile-canonical Whole = refl
-profile-canonical LostRotor = refl
-
-pub judged-canonical : (b : List ℕ) → Judged b → bytesOf (canons b 0 IMAGE-WORDS) ≡ imageOf (stateAt b)
-unfolding canonicalImage
-judged-canonical b j =
-    let w = standing b (j .peaks) in
-    let f = peaks-fit (segmentAt b SEGMENT) in
-    let count : canon (word b COUNT) ≡ IMAGE-WORDS = ap canon (j .count) ∙ count-canonical in
-    let engaged : canon (word b ENGAGED) ≡ flag (eqb (word b ENGAGED) 1) = ap canon (j .engaged) ∙ flag-canonical (eqb (word b ENGAGED) 1) in
-    let profile = ap canon (j .profile) ∙ profile-canonical (profileOf (word b PROFILE)) in
-    let x = ap canon (w .0) ∙ ap bits (ofBits-toBits binary32 (peaksOf b .0) (f .0)) in
-    let y = ap canon (w .1) ∙ ap bits (ofBits-toBits binary32 (peaksOf b .1) (f .1 .0)) in
-    let z = ap canon (w .2) ∙ ap bits (ofBits-toBits binary32 (peaksOf b .2) (f .1 .1 .0)) in
-    rw (count, engaged, profile, x, y, z) (sym (encode-decode b))
-
-pub made-canonical : {b t : List ℕ} → t ≡ bytesOf (canons b 0 IMAGE-WORDS) → Judged b → {m : Moving} → Unmoved m (movingAt b)
+pub made-canonical : {b t : List ℕ} → t ≡ bytesOf (canons b 0 IMAGE-WORDS) → OwnWords b → {m : Moving} → Unmoved m (movingAt b)
     → (length t ≡ IMAGE-BYTES) × (t ≡ imageOf (stateAt t)) × Unmoved m (movingAt t) × (fixedAt t ≡ fixedAt b)
-made-canonical {b} {t} p j {m} u =
-    let e : t ≡ imageOf (stateAt b) = p ∙ judged-canonical b j in
+made-canonical {b} {t} p o {m} u =
+    let e : t ≡ imageOf (stateAt b) = p ∙ ap bytesOf (o .is) ∙ sym (image-is (stateAt b) .is) in
     let r : stateAt t ≡ stateAt b = ap stateAt e ∙ decode-encode (stateAt b) (state-fits b) in
     (ap length e ∙ image-length (stateAt b), e ∙ ap imageOf (sym r), subst (λ (n : Moving). Unmoved m n) (sym (ap (λ (s : State). s .moving) r)) u, ap (λ (s : State). s .fixed) r)
 

@@ -1,7 +1,7 @@
 -- The state image: what is read out of it, and what is written. Definitions only.
 use mathlib.Core.List.{List, [], _∷_, _++_}
-use Prim.Native.Nat.{ℕ, _+_, _-_}
-use mathlib.Core.Bool.{Bool, _&&_}
+use Prim.Native.Nat.{ℕ, _-_}
+use mathlib.Core.Bool.{Bool}
 use lib.Dec.{eqb}
 use lib.Ieee.{Float}
 use Rattle.words.specs.Words.{word, float, floatsOfVec, bits, flag, wordsOf, bytesOf, canons}
@@ -12,7 +12,7 @@ use Rattle.joint_tick.specs.declared.state.Fixed.{Fixed}
 use Rattle.joint_tick.specs.declared.state.Moving.{Moving}
 use Rattle.joint_tick.specs.declared.state.State.{State}
 use Rattle.joint_tick.specs.Profile.{profileWord, profileOf}
-use Rattle.image.specs.Layout.{GAINS, SET, ENTER, EXIT, ENGAGED, GOVERNOR, SEGMENT, RATE, LPF, PROFILE, PEAKS, IMAGE-WORDS}
+use Rattle.image.specs.Layout.{GAINS, SET, ENTER, EXIT, ENGAGED, GOVERNOR, SEGMENT, RATE, LPF, PROFILE, IMAGE-WORDS}
 use Rattle.image.specs.Parts.{gainsAt, setAt, governorAt, segmentAt, rateAt, lpfAt, profileAt, floatsOfGains, floatsOfSet, floatsOfGovernor, floatsOfSegment, floatsOfRate, floatsOfLpf}
 
 unfoldable pub fixedAt : List ℕ → Fixed
@@ -49,14 +49,9 @@ wordsOfState s =
 unfoldable pub imageOf : State → List ℕ
 imageOf s = bytesOf (wordsOfState s)
 
--- the peaks worked out from the segment that an image holds, and that those it stores have their bits
+-- the peaks worked out from the segment that an image holds
 abbrev pub peaksOf : List ℕ → Vec3
 peaksOf b = peakAbsJerk3 (segmentAt b SEGMENT)
-
-unfoldable pub peaksStand : List ℕ → Bool
-peaksStand b =
-    let p = peaksOf b in
-    eqb (word b PEAKS) (bits (p .0)) && eqb (word b (PEAKS + 1)) (bits (p .1)) && eqb (word b (PEAKS + 2)) (bits (p .2))
 
 -- ---- what the theorems in proofs/ speak of
 

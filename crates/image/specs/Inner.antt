@@ -1,25 +1,19 @@
 -- Only inner functions promise or ask these, for speed: whoever reads what is claimed need not read them. Definitions only.
 use mathlib.Core.Path.{_≡_}
-use mathlib.Core.Bool.{true}
 use mathlib.Core.List.{List, [], _∷_}
 use Prim.Native.Nat.{ℕ}
-use lib.Dec.{eqb}
 use lib.Ieee.{Float}
-use Rattle.words.specs.Words.{word, flag}
+use Rattle.words.specs.Words.{canons}
 use Rattle.relay_adrc.specs.declared.axis.AdrcAxis.{AdrcAxis}
 use Rattle.relay_adrc.specs.declared.biquad.Biquad.{Biquad}
 use Rattle.joint_tick.specs.declared.state.Moving.{Moving}
-use Rattle.joint_tick.specs.Profile.{profileWord, profileOf}
-use Rattle.image.specs.Layout.{COUNT, ENGAGED, PROFILE, IMAGE-WORDS}
-use Rattle.image.specs.Image.{peaksStand}
+use Rattle.image.specs.Layout.{IMAGE-WORDS}
+use Rattle.image.specs.Image.{stateAt, wordsOfState}
 
--- ---- what of row 4 is no float: the image's own count, a flag, a profile, and its segment's peaks
+-- ---- an image whose words, each made canonical, are those of its own state
 
-pub record Judged (b : List ℕ) : Type 0 where
-  pub count : word b COUNT ≡ IMAGE-WORDS
-  pub engaged : word b ENGAGED ≡ flag (eqb (word b ENGAGED) 1)
-  pub profile : word b PROFILE ≡ profileWord (profileOf (word b PROFILE))
-  pub peaks : peaksStand b ≡ true
+pub record OwnWords (b : List ℕ) : Type 0 where
+  pub is : canons b 0 IMAGE-WORDS ≡ wordsOfState (stateAt b)
 
 -- ---- what a tick moves of an axis and of a biquad, as it is written
 

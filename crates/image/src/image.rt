@@ -53,7 +53,7 @@ ghost use Rattle.words.specs.Words.{Put};
 ghost use Rattle.words.specs.Inner.{Plain};
 ghost use Rattle.image.specs.Layout.{SET, PEAKS, IMAGE-BYTES};
 ghost use Rattle.image.specs.Image.{fixedAt, movingAt, stateAt, wordsOfShield, wordsOfState, imageOf};
-ghost use Rattle.image.specs.Inner.{Unmoved, Judged};
+ghost use Rattle.image.specs.Inner.{OwnWords, Unmoved};
 
 // The two parts of the state, each read by itself: whoever needs one reads no other.
 pub fn fixed_at(image: &[u8], plain: bool) -> Fixed
@@ -173,7 +173,7 @@ fn put_moved(image: &mut [u8], engaged: bool, governor: RefGovernor, rate: AdrcR
     put_biquad_moved(image, LPF + BIQUAD_WORDS + BIQUAD_WORDS, lpf.yaw);
 }
 
-// The state that a tick leaves, over the image that it began from, whose row 4 was judged. Where `plain` says that no word is a NaN's pattern, what a
+// The state that a tick leaves, over the image that it began from, which is unbroken. Where `plain` says that no word is a NaN's pattern, what a
 // tick leaves as it stood is not written again.
 pub fn put_next_state(
     image: &mut [u8],
@@ -183,7 +183,7 @@ pub fn put_next_state(
     rate: AdrcRate,
     lpf: GyroLpf,
 )
-    requires { ⌜ length (now image) ≡ IMAGE-BYTES ⌝ ∗ ⌜ Plain plain (now image) ⌝ ∗ ⌜ Judged (now image) × Unmoved record { engaged = engaged; governor = governor; rate = rate; lpf = lpf } (movingAt (now image)) ⌝ }
+    requires { ⌜ length (now image) ≡ IMAGE-BYTES ⌝ ∗ ⌜ Plain plain (now image) ⌝ ∗ ⌜ OwnWords (now image) × Unmoved record { engaged = engaged; governor = governor; rate = rate; lpf = lpf } (movingAt (now image)) ⌝ }
     ensures { λ _. ⌜ now (image .exit) ≡ imageOf record { fixed = fixedAt (now (image .entry)); moving = record { engaged = engaged; governor = governor; rate = rate; lpf = lpf } } ⌝ }
 {
     make_canonical(image, IMAGE_WORDS, plain);

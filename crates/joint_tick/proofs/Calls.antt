@@ -5,7 +5,7 @@ use Rattle.relay_adrc.specs.{declared.{gains.AdrcGains.AdrcGains, axis.AdrcAxis
 use Rattle.relay_adrc.proofs.Tick.{fraction-scales-the-command-before}
 use Rattle.relay_traj.specs.{declared.segment.Segment3.Segment3, Segment.duration}
 use Rattle.joint_tick.specs.declared.{profile.Profile.the-variants.Whole, state.{State.State, TickInput.TickInput}, stages.Reference.Reference}
-use Rattle.joint_tick.specs.Tick.{prepare, sampleTime, follow, pick, finish, ticked, stateAfter}
+use Rattle.joint_tick.specs.Tick.{prepare, sampleTime, follow, pick, guidePickFollow, ticked, stateAfter}
 
 -- ---- "The delivered fraction set after one tick is used in the next": a tick's fraction scales the torque that the tick before it answered.
 
@@ -20,7 +20,7 @@ pub record ScalesTheLast (source next : Float → Reference) (s : State) (i k : 
   pub yaw : s .fixed .profile ≡ Whole → Delivered (ticked source s i .rate .yaw) (ticked next (stateAfter source s i) k .rate .yaw) (s .moving .rate .yaw .g) (ticked source s i .answer .torque .0 .2) (k .fraction .2) (k .dt)
 
 pub fraction-scales-the-last-torque : (source next : Float → Reference) (s : State) (i k : TickInput) → ScalesTheLast source next s i k
-unfolding ticked prepare finish pick follow
+unfolding ticked prepare guidePickFollow pick follow
 fraction-scales-the-last-torque source next s i k =
     record {
       roll = fraction-scales-the-command-before (axisSetDeliveredFraction (s .moving .rate .roll) (i .fraction .0)) _ _ _ _ _ _ _;

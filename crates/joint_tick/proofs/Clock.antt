@@ -4,7 +4,7 @@ use Rattle.relay_math.specs.{F32.{0·0, 1e-3, isFinite, finiteAbove}, declared.
 use Rattle.relay_adrc.specs.{declared.{axis.AdrcAxis.AdrcAxis, rate.AdrcRate.AdrcRate}, Axis.axisTick}
 use Rattle.relay_traj.{specs.Governor.{advance, Running}, proofs.Clock.{clock-never-back, no-dt-keeps-number}}
 use Rattle.joint_tick.specs.declared.{profile.Profile.{Profile, the-variants.{Whole, LostRotor}}, state.{State.State, TickInput.TickInput}, stages.Reference.Reference}
-use Rattle.joint_tick.specs.Tick.{fractions, prepare, tickThird, follow, pick, finish, ticked, stateAfter}
+use Rattle.joint_tick.specs.Tick.{fractions, prepare, tickThird, follow, pick, guidePickFollow, ticked, stateAfter}
 
 axis-by-1ms : (a : AdrcAxis) (measured wanted dt : Float) → isFinite dt ≡ false → axisTick a measured wanted dt ≡ axisTick a measured wanted 1e-3
 unfolding axisTick isFinite lt ofBits
@@ -25,18 +25,18 @@ no-time dt e = rw e
 module _ (source : Float → Reference) (s : State) (i : TickInput) where
   -- the time word is the time after the advance, which the state keeps
   pub tick-time : ticked source s i .answer .time ≡ stateAfter source s i .moving .governor .s
-  unfolding ticked prepare finish pick advance
+  unfolding ticked prepare guidePickFollow pick advance
   tick-time = refl
 
   -- "Its time never decreases between resets and is never NaN; it may reach +infinity."
   pub time-never-back : Running (s .moving .governor .s)
       → T (le (s .moving .governor .s) (stateAfter source s i .moving .governor .s)) × Running (stateAfter source s i .moving .governor .s)
-  unfolding ticked prepare finish pick advance
+  unfolding ticked prepare guidePickFollow pick advance
   time-never-back r = clock-never-back (s .moving .governor) (i .«track_err») (i .dt) r
 
   -- "a NaN dt moves ADRC by 1 ms and the governor by nothing"; so does an infinite one.
   pub one-dt-two-rules : isFinite (i .dt) ≡ false → Running (s .moving .governor .s)
       → T (eq (s .moving .governor .s) (stateAfter source s i .moving .governor .s))
       × (ticked source s i .rate ≡ follow (s .fixed .profile) (fractions (s .fixed .profile) (s .moving .rate) (i .fraction)) (prepare (s .fixed .profile) (s .moving) i .rate) (ticked source s i .answer .command) 1e-3 .rate)
-  unfolding ticked prepare finish pick advance
+  unfolding ticked prepare guidePickFollow pick advance
   one-dt-two-rules e r = (no-dt-keeps-number (s .moving .governor) (i .«track_err») (i .dt) (no-time (i .dt) e) r, rw (rate-by-1ms _ _ _ _ (i .dt) e))

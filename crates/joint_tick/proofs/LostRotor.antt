@@ -4,7 +4,7 @@ use Rattle.relay_math.specs.{F32.{0·0, isFinite}, declared.{BodyRate.BodyRate,
 use Rattle.relay_adrc.specs.{declared.rate.AdrcRate.AdrcRate, Rate.{rateTick, rateSetDeliveredFraction}}
 use Rattle.relay_geo.specs.{declared.{vectors.{Mat3.Mat3, Direction.Direction}, controller.GeoGains.GeoGains}, Vectors.sanitise3, Attitude.{quatToRotmat, thrustAxisNed}}
 use Rattle.joint_tick.specs.declared.{profile.Profile.{Profile, the-variants.{Whole, LostRotor}}, state.{State.State, TickInput.TickInput}, stages.{Reference.Reference, Guided.Guided}}
-use Rattle.joint_tick.specs.Tick.{cleaned, plannerOf, fractions, prepare, rateTowardAxis, guideLostRotor, guide, follow, pick, finish, ticked, stateAfter}
+use Rattle.joint_tick.specs.Tick.{cleaned, plannerOf, fractions, prepare, rateTowardAxis, guideLostRotor, guide, follow, pick, guidePickFollow, ticked, stateAfter}
 use Rattle.joint_tick.proofs.Shielding.{wantedAt, by-profile, tick-command}
 use Rattle.relay_geo.specs.declared.vectors.Direction.the-variants as direction
 
@@ -43,12 +43,12 @@ module _ (source : Float → Reference) (s : State) (i : TickInput) (lost : s .f
   -- "yaw isn't read": two inputs that differ in yaw and yaw rate alone leave the same state and the same answer
   pub heading-unread : (yaw yawRate : Float)
       → (ticked source s (headed i yaw yawRate) ≡ ticked source s i) × (stateAfter source s (headed i yaw yawRate) ≡ stateAfter source s i)
-  unfolding ticked prepare finish pick guide guideLostRotor
+  unfolding ticked prepare guidePickFollow pick guide guideLostRotor
   heading-unread yaw yawRate = (rw lost, rw lost)
 
   -- "The third ADRC axis is left as it was, its fraction included, and its torque is zero."
   pub third-stands : (ticked source s i .rate .yaw ≡ s .moving .rate .yaw) × (ticked source s i .answer .torque .0 .2 ≡ 0·0)
-  unfolding ticked prepare finish pick follow
+  unfolding ticked prepare guidePickFollow pick follow
   third-stands = (rw lost, rw lost)
 
   -- "the third is zero" of the fallback, and of the planner's command: so of whichever is passed on

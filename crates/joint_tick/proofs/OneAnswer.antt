@@ -4,7 +4,6 @@ use Rattle.laws.proofs.Determined.{OneAnswer, no-second}
 use Rattle.joint_tick.proofs.profile
 use Rattle.joint_tick.proofs.setup
 use Rattle.joint_tick.proofs.stages
-use Rattle.joint_tick.proofs.taken
 
 pub profile-word-once : OneAnswer profile.profile_word.ended profile.profile_word.Reads.Post
 profile-word-once κs a x y v w p q = (no-second p q, refl)
@@ -30,14 +29,5 @@ prepare-once κs a x y v w p q = (no-second p q, refl)
 pub reference-at-once : OneAnswer stages.reference_at.ended stages.reference_at.Reads.Post
 reference-at-once κs a x y v w p q = (no-second p q, refl)
 
-pub finish-once : OneAnswer stages.finish.ended stages.finish.Reads.Post
-finish-once κs a x y v w p q = (no-second p q, refl)
-
-pub time-ok-once : OneAnswer taken.time_ok.ended taken.time_ok.Reads.Post
-time-ok-once κs a x y v w p q = (no-second p q, refl)
-
-pub lasts-once : OneAnswer taken.lasts.ended taken.lasts.Reads.Post
-lasts-once κs a x y v w p q = (no-second p q, refl)
-
-pub thresholds-ok-once : OneAnswer taken.thresholds_ok.ended taken.thresholds_ok.Reads.Post
-thresholds-ok-once κs a x y v w p q = (no-second p q, refl)
+pub guide-pick-follow-once : OneAnswer stages.guide_pick_follow.ended stages.guide_pick_follow.Reads.Post
+guide-pick-follow-once κs a x y v w p q = (no-second p q, refl)

@@ -4,7 +4,7 @@ use Rattle.relay_math.specs.{F32.isFinite, declared.{Vec3.Vec3, BodyRate.BodyRa
 use Rattle.relay_geo.{specs.{Vectors.{sanitise3, Finite3}, Shield.step}, proofs.{Finite.{sanitise3-finite, sanitise3-keeps}, Steps.{step-latches, planner-passed-on, fallback-passed-on}}}
 use Rattle.latch.specs.Latch.{latch}
 use Rattle.joint_tick.specs.declared.{profile.Profile.{Profile, the-variants.{Whole, LostRotor}}, state.{State.State, TickInput.TickInput}, stages.Reference.Reference}
-use Rattle.joint_tick.specs.Tick.{shieldOf, plannerOf, fractions, prepare, guideWhole, guideLostRotor, guide, follow, pick, finish, guidance, ticked}
+use Rattle.joint_tick.specs.Tick.{shieldOf, plannerOf, fractions, prepare, guideWhole, guideLostRotor, guide, follow, pick, guidePickFollow, guidance, ticked}
 
 -- the planner's command is clean already, in either profile
 pub planner-finite : (p : Profile) (agile : BodyRate) → Finite3 (plannerOf p agile .0)
@@ -29,17 +29,17 @@ module _ (source : Float → Reference) (s : State) (i : TickInput) where
 
   -- The flag is the latch of the margin that the documents work out, and of nothing else of the tick.
   pub tick-latch : ticked source s i .answer .fallback ≡ latch (s .fixed .enter) (s .fixed .exit) (s .moving .engaged) (guidance source s i .margin)
-  unfolding ticked prepare finish pick guidance
+  unfolding ticked prepare guidePickFollow pick guidance
   tick-latch = let g = guidance source s i in step-latches (shieldOf s) (g .margin) (g .planner) (g .fallback)
 
   -- It is kept for the next tick.
   pub tick-keeps-flag : ticked source s i .engaged ≡ ticked source s i .answer .fallback
-  unfolding ticked prepare finish pick step
+  unfolding ticked prepare guidePickFollow pick step
   tick-keeps-flag = refl
 
   -- The answer tells that very margin.
   pub tick-margin : ticked source s i .answer .margin ≡ guidance source s i .margin
-  unfolding ticked finish pick guidance
+  unfolding ticked guidePickFollow pick guidance
   tick-margin = refl
 
   pub planner-is : guidance source s i .planner ≡ plannerOf (s .fixed .profile) (i .agile)
@@ -51,19 +51,19 @@ module _ (source : Float → Reference) (s : State) (i : TickInput) where
       go LostRotor w wanted = refl
 
   pub tick-psi : ticked source s i .answer .psi ≡ guidance source s i .psi
-  unfolding ticked finish pick guidance
+  unfolding ticked guidePickFollow pick guidance
   tick-psi = refl
 
   -- The planner's command goes on as it is cleaned, the fallback with its non-finite numbers made +0.0 (its sum can overflow).
   pub tick-planner : ticked source s i .answer .fallback ≡ false → ticked source s i .answer .command ≡ guidance source s i .planner
-  unfolding ticked prepare guidance finish pick
+  unfolding ticked prepare guidance guidePickFollow pick
   tick-planner e =
       let g = guidance source s i in
       planner-passed-on (shieldOf s) (g .margin) (g .planner) (g .fallback) e
       ∙ subst (λ (w : BodyRate). record { 0 = sanitise3 (w .0) } ≡ w) (sym planner-is) (planner-clean (s .fixed .profile) (i .agile))
 
   pub tick-fallback : ticked source s i .answer .fallback ≡ true → ticked source s i .answer .command ≡ record { 0 = sanitise3 (guidance source s i .fallback .0) }
-  unfolding ticked prepare finish pick guidance
+  unfolding ticked prepare guidePickFollow pick guidance
   tick-fallback e = let g = guidance source s i in fallback-passed-on (shieldOf s) (g .margin) (g .planner) (g .fallback) e
 
   -- "What is passed on is that command with non-finite numbers made zero, else the fallback treated alike, and the flag names which."
@@ -81,5 +81,5 @@ module _ (source : Float → Reference) (s : State) (i : TickInput) where
   pub tick-torque :
       ticked source s i .answer .torque ≡
       follow (s .fixed .profile) (fractions (s .fixed .profile) (s .moving .rate) (i .fraction)) filtered (ticked source s i .answer .command) (i .dt) .torque
-  unfolding ticked prepare finish pick
+  unfolding ticked prepare guidePickFollow pick
   tick-torque = refl

@@ -220,13 +220,13 @@ pick f p g dt =
 -- ---- the tick, from any source of references, by the time
 
 -- all that comes after the reference
-unfoldable pub finish : Fixed → Prepared → Reference → TickInput → Ticked
-finish f p wanted i = pick f p (guide (f .profile) (f .gains) (f .set) (p .rate) wanted i) (i .dt)
+unfoldable pub guidePickFollow : Fixed → Prepared → Reference → TickInput → Ticked
+guidePickFollow f p wanted i = pick f p (guide (f .profile) (f .gains) (f .set) (p .rate) wanted i) (i .dt)
 
 unfoldable pub ticked : (Float → Reference) → State → TickInput → Ticked
 ticked source s i =
     let p = prepare (s .fixed .profile) (s .moving) i in
-    finish (s .fixed) p (source (p .time)) i
+    guidePickFollow (s .fixed) p (source (p .time)) i
 
 -- what it is guided to
 unfoldable pub guidance : (Float → Reference) → State → TickInput → Guided

@@ -3,7 +3,6 @@ mod profile; // profile.rt: which rules a tick flies by
 mod setup; // setup.rt: the first state, and the exchange of its segment
 mod stages; // stages.rt: the tick, stage by stage
 mod state; // state.rt: what the image, the inputs and the answer hold
-mod taken; // taken.rt: the states that a tick takes
 
 pub use profile::Profile;
 pub use profile::is_profile;
@@ -15,7 +14,7 @@ pub use setup::set_up;
 pub use stages::Prepared;
 pub use stages::Reference;
 pub use stages::Ticked;
-pub use stages::finish;
+pub use stages::guide_pick_follow;
 pub use stages::prepare;
 pub use stages::reference_at;
 pub use state::Answer;
@@ -25,6 +24,3 @@ pub use state::Moving;
 pub use state::SetUp;
 pub use state::State;
 pub use state::TickInput;
-pub use taken::lasts;
-pub use taken::thresholds_ok;
-pub use taken::time_ok;

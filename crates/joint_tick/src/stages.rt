@@ -1,4 +1,4 @@
-// The joint tick in stages, in document 01's order: prepare, take a reference, finish, which guides, picks and follows. (ADRC's tick is taken in its two
+// The joint tick in stages, in document 01's order: prepare, take a reference, and then guide, pick and follow. (ADRC's tick is taken in its two
 // halves, the observers' before the guidance.) A route's tick has another reference in place of `reference_at` and nothing else; what is guided to
 // depends on R, R_d and the heading in `guide` alone. With a rotor lost (request Six) `guide` is another, and the third axis of ADRC stands still.
 use crate::profile::Profile;
@@ -32,7 +32,7 @@ use relay_math::Vec3;
 use relay_traj::Segment3;
 ghost use mathlib.Core.Path.{_≡_};
 ghost use mathlib.Core.Bool.{cond};
-ghost use Rattle.joint_tick.specs.Tick.{fractionThird, fractions, prepare, sampleTime, referenceAt, cleaned, plus, commanded, rateError, rateSq, psiOf, guideWhole, rateTowardAxis, psiToAxis, tiltRateSq, guideLostRotor, guide, finish};
+ghost use Rattle.joint_tick.specs.Tick.{fractionThird, fractions, prepare, sampleTime, referenceAt, cleaned, plus, commanded, rateError, rateSq, psiOf, guideWhole, rateTowardAxis, psiToAxis, tiltRateSq, guideLostRotor, guide, guidePickFollow};
 ghost use Rattle.joint_tick.specs.Inner.{observeThird, observe, actThird, followOn, pickOn};
 
 // What moves, with its fractions, filters and clock moved on, the filtered rate and the governor's time.
@@ -315,7 +315,7 @@ fn guide(
     }
 }
 
-// ---- finish
+// ---- observe, pick, follow
 
 // With a rotor lost the third observer is not asked: what it has stands.
 fn observe_third(profile: Profile, axis: AdrcAxis, measured: f32, dt: f32) -> Observed
@@ -417,8 +417,13 @@ fn pick(fixed: Fixed, prepared: Prepared, observed: Observed3, guided: Guided) -
 }
 
 // All of a tick that comes after its reference, whatever that was taken of.
-pub fn finish(fixed: Fixed, prepared: Prepared, wanted: Reference, input: TickInput) -> Ticked
-    ensures { λ r. ⌜ r ≡ finish fixed prepared wanted input ⌝ }
+pub fn guide_pick_follow(
+    fixed: Fixed,
+    prepared: Prepared,
+    wanted: Reference,
+    input: TickInput,
+) -> Ticked
+    ensures { λ r. ⌜ r ≡ guidePickFollow fixed prepared wanted input ⌝ }
 {
     let profile = fixed.profile;
     let observed = observe(profile, prepared.moving.rate, prepared.rate, input.dt);

@@ -6,7 +6,7 @@ use Rattle.relay_geo.specs.{declared.shield.SimplexShield.SimplexShield, Shield
 use Rattle.joint_tick.specs.{declared.state.State.State, Profile.{isProfile, profileOf}, SetUp.setUp}
 use Rattle.image.{specs.{Layout.{SETUP-ENTER, SETUP-EXIT, SETUP-PROFILE}, Image.fixedAt, Inputs.setupAt}, proofs.Decoded.decode-encode}
 use Rattle.outcome.specs.{declared.Outcome.the-variants.Done, Outcomes.{isDone, left}}
-use Rattle.calls.{specs.Ticks.shieldOf, proofs.Going.set-up-fits}
+use Rattle.lent_tick.{specs.Steps.shieldOf, proofs.Going.set-up-fits}
 use Rattle.log.{specs.Runs.{Held, Given, afterOne, afterAll, keptBy, keptAlong, recordsOf, atFirst}, proofs.Reading.{kept-all, records-kept, never-refused}}
 use Rattle.runs.specs.{Runs.{Call, Ticks, Exchanges, tickOf, leftBy, marginsOf, start, imageAfter}, DemandThree.{enterOf, exitOf}}
 use Rattle.runs.proofs.Going.{call-steps, start-engaged, thresholds-in-order, thresholds-kept, ran}
@@ -50,7 +50,7 @@ module _ (setup : List ℕ) (p : isProfile (word setup SETUP-PROFILE) ≡ true) 
     engaged-after : (c : Call) → shieldOf (leftBy image c) .engaged ≡ after (enterOf setup) (exitOf setup) (shieldOf image .engaged) (marginsOf image c)
     unfolding fixedAt
     engaged-after c =
-        ap (λ (h : SimplexShield). h .engaged) (call-steps image c (ran setup calls .accepted) .shield)
+        ap (λ (h : SimplexShield). h .engaged) (call-steps image c (ran setup calls .unbroken) .shield)
         ∙ rw (thresholds-kept setup calls .0, thresholds-kept setup calls .1)
 
     -- the record of a call, if it has one, and what follows

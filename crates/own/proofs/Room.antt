@@ -4,7 +4,7 @@ use Rattle.words.specs.Words.{word, float, bytesOf}
 use Rattle.joint_tick.specs.{Profile.isProfile, Tick.ticked}
 use Rattle.image.{specs.{Layout.{INPUT-BYTES, ANSWER-BYTES, SETUP-ENTER, SETUP-EXIT, SETUP-PROFILE}, Image.stateAt, Inputs.inputAt}, proofs.Answered.answer-length}
 use Rattle.outcome.{specs.{declared.Outcome.the-variants.Done, Outcomes.{isDone, left, Filled, Called}}, proofs.Tables.either}
-use Rattle.calls.specs.Entry.{tickFrom}
+use Rattle.lent_tick.specs.Tick.{tickFrom}
 use Rattle.log.specs.{Form.{RECORD-BYTES, MOST-RECORDS, emptyLog, countOf, isLog}, Records.records, Entry.{appendRefusal, appendCall}}
 use Rattle.log.specs.Runs.{Held, logIn, Given, appended, afterOne, afterAll, keptAlong, NoneRefused, recordsOf, atFirst}
 use Rattle.log.proofs.Reading.{after-appends, records-count, kept-all, never-refused, records-kept}

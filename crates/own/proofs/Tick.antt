@@ -10,7 +10,7 @@ use Rattle.joint_tick.{specs.{declared.profile.Profile.the-variants.{Whole, Los
 use Rattle.image.{specs.{Layout.{INPUT-WORDS, INPUT-BYTES, ANSWER-BYTES, AGILE, COMMAND, FLAG, MARGIN, SETUP-PROFILE}, Image.stateAt, Inputs.inputAt, Fits.FitsVec}, proofs.Answered.command-words}
 use Rattle.image.proofs.AnswerFits.{command-fits}
 use Rattle.outcome.{specs.{declared.Outcome.the-variants.Done, Outcomes.{isDone, Table, firstOf, Called}}, proofs.Tables.{refuses, done-none, done-exactly, same, either}}
-use Rattle.calls.specs.{Entry.{tickTable, tickRefusal, tickFrom}, Ticks.{Accepted, shieldOf}}
+use Rattle.lent_tick.{specs.{Unbroken.Unbroken, Tick.{tickTable, tickFrom}, Steps.shieldOf}, proofs.Flown.taken-unbroken}
 use Rattle.route.specs.{Form.{formTable, formRefusal}, Entry.routeRefusal}
 use Rattle.runs.specs.{Runs.{Course, Segment, Route, Tick, Call, tickOf, sourceOn, guided, start, imageAfter, RightCourse, Right}, DemandThree.{enterOf, exitOf, cleanWord, commandWords, Shows}}
 use Rattle.runs.proofs.{Shown.{refusalOn, flying-is, done, tick-done, flag-shown, shows}, Going.{ran, latched}, Kept.profile-over-any-run}
@@ -37,10 +37,8 @@ done-is ((false, o) ∷ rows) r e = done-is rows (both (not (isDone o)) (refuses
 
 given-right : (c : Course) (image : List ℕ) (inputLen answerLen : ℕ) → isDone (refusalOn c image inputLen answerLen) ≡ true
     → (inputLen ≡ INPUT-BYTES) × (answerLen ≡ ANSWER-BYTES) × RightCourse c
-unfolding tickRefusal routeRefusal formRefusal
-given-right Segment image inputLen answerLen e =
-    let n = done-none (tickTable image inputLen answerLen) refl e in
-    (same inputLen INPUT-BYTES (n 1), same answerLen ANSWER-BYTES (n 2), tt)
+unfolding routeRefusal formRefusal
+given-right Segment image inputLen answerLen e = let t = taken-unbroken image inputLen answerLen e in (t .1, t .2, tt)
 given-right (Route route) image inputLen answerLen e =
     let n = done-none (tickTable image inputLen answerLen ++ formTable route) refl e in
     (same inputLen INPUT-BYTES (n 1), same answerLen ANSWER-BYTES (n 2), done-is (formTable route) refl (done-exactly (formTable route) refl .1 (λ k. n (suc (suc (suc (suc k)))))))
@@ -94,8 +92,8 @@ module _ (setup : List ℕ) (calls : List Call) (t : Tick) (p : isProfile (word 
   abbrev kept : List ℕ
   kept = t .input ++ answer
 
-  a : Accepted image
-  a = ran setup calls .accepted
+  a : Unbroken image
+  a = ran setup calls .unbroken
 
   given : Right t
   given = accepted-right image t d

@@ -1,7 +1,7 @@
 -- Request Eight: what the limit of legs decides, and what it does not. Assumes nothing.
 use Rattle.laws.proofs.Prelude.{_≡_, refl, true, List, ℕ, _≤_, _<_, arith, lt-ltb, le-ltb, ne-eqb, length}
 use Rattle.outcome.{specs.{declared.Outcome.the-variants.LegCount, Outcomes.{isDone, firstOf, left, lent}}, proofs.Tables.in-turn}
-use Rattle.calls.specs.Entry.{tickTable, tickRefusal, tickFrom}
+use Rattle.lent_tick.specs.Tick.{tickTable, tickRefusal, tickFrom}
 use Rattle.route.specs.{Form.{TRAILER-BYTES, MOST-LEGS, countOf, formTableTo}, Entry.{routeRefusal, routeCall, routeCallTo}}
 
 -- ---- over any limit

@@ -2,7 +2,7 @@
 use Rattle.laws.proofs.Prelude.{_≡_, refl, sym, ap, _∙_, Bool, true, false, not, cond, List, ℕ, _+_, _*_, _≤_, _<_, arith, ltb-false, eqb-false, eq-eqb, not-true, not-false, length}
 use Rattle.outcome.{specs.{declared.Outcome.{Outcome, the-variants.{Done, BrokenImage}}, Outcomes.{isDone, left, lent}}, proofs.Tables.{done-none, in-turn, same, refused-keeps}}
 use Rattle.image.specs.Layout.{IMAGE-BYTES, INPUT-BYTES, ANSWER-BYTES}
-use Rattle.calls.specs.Entry.{intact, tickTable, tickRefusal, tickFrom}
+use Rattle.lent_tick.specs.{Unbroken.unbroken, Tick.{tickTable, tickRefusal, tickFrom}}
 use Rattle.route.specs.{Form.{LEG-BYTES, TRAILER-BYTES, countOf, formTable, formRefusal}, Entry.{routeRefusal, routeCall}}
 
 -- a tick's rows, then the route's own
@@ -18,8 +18,8 @@ pub refused-changes-nothing : (image input route answer : List ℕ) → let o = 
 unfolding routeCall tickFrom
 refused-changes-nothing image input route answer e = refused-keeps (routeRefusal image (length input) (length answer) route) _ _ e
 
--- a call of the right lengths whose image row 4 does not take
-pub broken : (image input route answer : List ℕ) {b : Bool} → length image ≡ IMAGE-BYTES → length input ≡ INPUT-BYTES → length answer ≡ ANSWER-BYTES → b ≡ intact image → b ≡ false
+-- a call of the right lengths whose image is broken
+pub broken : (image input route answer : List ℕ) {b : Bool} → length image ≡ IMAGE-BYTES → length input ≡ INPUT-BYTES → length answer ≡ ANSWER-BYTES → b ≡ unbroken image → b ≡ false
     → left BrokenImage (lent image answer) ≡ routeCall image input route answer
 unfolding routeCall tickFrom routeRefusal
 broken image input route answer l i a e n = simp (← e, n, eq-eqb (length image) IMAGE-BYTES l, eq-eqb (length input) INPUT-BYTES i, eq-eqb (length answer) ANSWER-BYTES a)

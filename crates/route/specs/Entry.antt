@@ -6,7 +6,7 @@ use lib.ListN.{length}
 use Rattle.joint_tick.specs.declared.stages.Reference.{Reference}
 use Rattle.outcome.specs.declared.Outcome.{Outcome}
 use Rattle.outcome.specs.Outcomes.{firstOf, Called}
-use Rattle.calls.specs.Entry.{tickTable, tickFrom}
+use Rattle.lent_tick.specs.Tick.{tickTable, tickFrom}
 use Rattle.route.specs.Form.{countOf, formTableTo, formTable}
 use Rattle.route.specs.Legs.{referenceOn}
 
@@ -21,7 +21,7 @@ onRoute route time = referenceOn route (countOf route) time
 
 -- the tick of document 01 with the route's sample in place of the segment's
 unfoldable pub routeCall : List ℕ → List ℕ → List ℕ → List ℕ → Called
-unfolding onRoute tickFrom
+unfolding onRoute
 routeCall image input route answer = tickFrom (onRoute route) (routeRefusal image (length input) (length answer) route) image input answer
 
 -- ---- what the theorems in proofs/ speak of

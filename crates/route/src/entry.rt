@@ -9,6 +9,7 @@ use image::INPUT_BYTES;
 use image::INPUT_WORDS;
 use image::fixed_at;
 use image::input_at;
+use lent_tick::unbroken;
 use outcome::Outcome;
 use outcome::is_done;
 use words::all_plain;
@@ -35,20 +36,20 @@ pub fn route_tick(image: &mut [u8], input: &[u8], route: &[u8], answer: &mut [u8
     let fixed = fixed_at(seen, plain);
     let given = input_at(input, all_plain(input, INPUT_WORDS));
     let profile = fixed.profile;
-    let prepared = calls::begin(seen, plain, profile, given);
-    let form = form_refusal(route); // asked before `begin` it took 16 bytes of stack more
+    let prepared = lent_tick::read_and_prepare(seen, plain, profile, given);
+    let form = form_refusal(route); // asked before `read_and_prepare` it took 16 bytes of stack more
     if !is_done(form) {
-        if calls::intact(seen, fixed.segment, fixed.enter, fixed.exit) {
+        if unbroken(seen, fixed.segment, fixed.enter, fixed.exit) {
             return form;
         }
         return Outcome::BrokenImage;
     }
     let wanted = reference_on(route, leg_count(route), prepared.time);
-    let done = joint_tick::finish(fixed, prepared, wanted, given);
-    if !calls::intact(seen, fixed.segment, fixed.enter, fixed.exit) {
+    let done = joint_tick::guide_pick_follow(fixed, prepared, wanted, given);
+    if !unbroken(seen, fixed.segment, fixed.enter, fixed.exit) {
         return Outcome::BrokenImage;
     }
-    calls::leave(
+    lent_tick::put_state_and_answer(
         image,
         answer,
         plain,

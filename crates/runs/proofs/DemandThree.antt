@@ -1,9 +1,9 @@
 -- The user's third demand on bytes, over every run. Assumes nothing.
 use Rattle.laws.proofs.Prelude.{_≡_, subst, _↔_, List, [], _∷_, _++_, map, ℕ, zero, suc, _<_, suc-le-suc, le-of-suc-le-suc, zero-lt-suc, arith, Float, nan, length, getD, take}
 use Rattle.latch.{specs.Latch.{Flies, FliesAt}, proofs.LatchFlies.{latch-flies, flag-flies, flag-flies-at}}
-use Rattle.calls.specs.Ticks.{Accepted}
+use Rattle.lent_tick.specs.Unbroken.{Unbroken}
 use Rattle.runs.specs.{Runs.{Tick, Call, Ticks, leftBy, guided, marginsOf, start, imageAfter, marginsAlong, Right, AllRight, tickAt, imageAt}, DemandThree.{enterOf, exitOf, Shows}}
-use Rattle.runs.proofs.{Shown.{tick-done, shows}, Going.{call-steps, start-accepted, thresholds-in-order, ran, latched-along}}
+use Rattle.runs.proofs.{Shown.{tick-done, shows}, Going.{call-steps, start-unbroken, thresholds-in-order, ran, latched-along}}
 
 -- "Take any run of accepted ticks from set-up, the image handed back each time as the last tick left it, with margins as document 01 works them
 -- out. The planner's command is passed on at a tick exactly if some tick, this one or an earlier one, had a finite margin above the upper
@@ -19,13 +19,13 @@ pub demand-three : (setup : List ℕ) (calls : List Call) (t : Tick) → Right t
 demand-three setup calls t r =
     let image = imageAfter (start setup) calls in
     let margins = marginsAlong (start setup) calls ++ guided image t .margin ∷ [] in
-    shows image t (ran setup calls .accepted) r (Flies (enterOf setup) (exitOf setup) margins)
+    shows image t (ran setup calls .unbroken) r (Flies (enterOf setup) (exitOf setup) margins)
     (rw (latched-along setup calls t) (latch-flies (enterOf setup) (exitOf setup) (thresholds-in-order setup) margins))
 
 -- ---- the same by places, for a list of ticks that are given what they should be
 
 -- such a tick has its one margin
-one-margin : (image : List ℕ) (t : Tick) → Accepted image → Right t → marginsOf image (Ticks t) ≡ guided image t .margin ∷ []
+one-margin : (image : List ℕ) (t : Tick) → Unbroken image → Right t → marginsOf image (Ticks t) ≡ guided image t .margin ∷ []
 unfolding marginsOf
 one-margin image t a r = rw (tick-done image t a r)
 
@@ -38,7 +38,7 @@ record UpTo (image : List ℕ) (ticks : List Tick) (k : ℕ) : Type 0 where
   pub own : getD (marginsAlong image (map Ticks ticks)) k nan ≡ marginAt image ticks k
   pub all : take (suc k) (marginsAlong image (map Ticks ticks)) ≡ marginsAlong image (map Ticks (take k ticks)) ++ marginAt image ticks k ∷ []
 
-up-to : (image : List ℕ) (ticks : List Tick) → Accepted image → AllRight ticks → (k : ℕ) → k < length ticks → UpTo image ticks k
+up-to : (image : List ℕ) (ticks : List Tick) → Unbroken image → AllRight ticks → (k : ℕ) → k < length ticks → UpTo image ticks k
 unfolding imageAfter marginsAlong
 up-to image [] a r k h = absurd (omega arith)
 up-to image (t ∷ ts) a r zero h =
@@ -46,7 +46,7 @@ up-to image (t ∷ ts) a r zero h =
     record { within = rw e (zero-lt-suc _); own = rw e; all = rw e }
 up-to image (t ∷ ts) a r (suc k) h =
     let e = one-margin image t a (r .0) in
-    let u = up-to (leftBy image (Ticks t)) ts (call-steps image (Ticks t) a .accepted) (r .1) k (le-of-suc-le-suc h) in
+    let u = up-to (leftBy image (Ticks t)) ts (call-steps image (Ticks t) a .unbroken) (r .1) k (le-of-suc-le-suc h) in
     record { within = rw e (suc-le-suc (u .within)); own = rw e (u .own); all = rw (e, u .all) }
 
 right-at : (ticks : List Tick) → AllRight ticks → (k : ℕ) → k < length ticks → Right (tickAt ticks k)
@@ -59,7 +59,7 @@ module _ (setup : List ℕ) (ticks : List Tick) (r : AllRight ticks) (k : ℕ) (
   margins = marginsAlong (start setup) (map Ticks ticks)
 
   upTo : UpTo (start setup) ticks k
-  upTo = up-to (start setup) ticks (start-accepted setup) r k h
+  upTo = up-to (start setup) ticks (start-unbroken setup) r k h
 
   -- margin number k is the one that the documents work out at tick number k
   pub margin-at : getD margins k nan ≡ marginAt (start setup) ticks k

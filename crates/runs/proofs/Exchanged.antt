@@ -6,10 +6,11 @@ use Rattle.relay_math.specs.F32.{0·0}
 use Rattle.relay_geo.specs.declared.shield.SimplexShield.{SimplexShield}
 use Rattle.relay_traj.proofs.Clock.{starts-at-zero}
 use Rattle.joint_tick.specs.SetUp.{segmentOf, exchange}
-use Rattle.outcome.{specs.{declared.Outcome.the-variants.Done, Outcomes.{isDone, left, Filled}}, proofs.Tables.done-none}
-use Rattle.image.specs.{Layout.{ENGAGED, GOVERNOR, SEGMENT, PEAKS, LEG-BYTES, INPUT-BYTES, ANSWER-BYTES}, Parts.{segmentAt, legAt}, Image.{stateAt, imageOf, peaksOf}}
+use Rattle.outcome.specs.{declared.Outcome.the-variants.Done, Outcomes.{left, Filled}}
+use Rattle.image.specs.{Layout.{ENGAGED, GOVERNOR, SEGMENT, PEAKS, LEG-BYTES}, Parts.{segmentAt, legAt}, Image.{stateAt, imageOf, peaksOf}}
 use Rattle.image.proofs.Decoded.{image-is, segment-written, state-fits}
-use Rattle.calls.{specs.{Entry.{tickTable, exchangeRefusal, tickRefusal, exchangeCall}, Ticks.Accepted}, proofs.{Going.{exchange-fits, flag-of-image, peaks-of-image}, Steps.exchange-steps}}
+use Rattle.lent_tick.{specs.Unbroken.Unbroken, proofs.{RowFour.unbroken-has, Going.exchange-fits}}
+use Rattle.calls.{specs.Entry.{exchangeRefusal, exchangeCall}, proofs.Steps.exchange-steps}
 use Rattle.runs.specs.{Runs.{Tick, Call, Ticks, Exchanges, tickOf, leftBy, guided, start, imageAfter, Right}, DemandThree.{enterOf, exitOf, flagOf, InBand}, Kept.{Untouched, SameWords}}
 use Rattle.runs.proofs.{Going.{call-steps, ran}, Middle.{in-band-as-before, flag-kept}, Kept.{clock-over-any-run, exchange-same}}
 
@@ -18,26 +19,24 @@ pub peaks-over-any-run : (setup : List ℕ) (calls : List Call)
     → let image = imageAfter (start setup) calls in
     let p = peaksOf image in
     (word image PEAKS ≡ bits (p .0)) × (word image (PEAKS + 1) ≡ bits (p .1)) × (word image (PEAKS + 2) ≡ bits (p .2))
-peaks-over-any-run setup calls = peaks-of-image (imageAfter (start setup) calls) (ran setup calls .accepted)
+peaks-over-any-run setup calls = unbroken-has (imageAfter (start setup) calls) (ran setup calls .unbroken) .peaks
 
 -- "The time never decreases between exchanges", and is never NaN: after any calls, over any number of ticks of both kinds.
 pub clock-between-exchanges : (setup : List ℕ) (calls : List Call) (ticks : List Tick)
     → let image = imageAfter (start setup) calls in
     let later = imageAfter image (map Ticks ticks) in
     T (le (float image GOVERNOR) (float later GOVERNOR)) × T (not (isNan (float later GOVERNOR)))
-clock-between-exchanges setup calls ticks = clock-over-any-run (imageAfter (start setup) calls) ticks (ran setup calls .accepted)
+clock-between-exchanges setup calls ticks = clock-over-any-run (imageAfter (start setup) calls) ticks (ran setup calls .unbroken)
 
 -- ---- one exchange
 
--- of an image that ticks take, by a leg of the right length: it is accepted
-pub exchange-done : (image segment : List ℕ) → Accepted image → length segment ≡ LEG-BYTES
+-- of an unbroken image, by a leg of the right length: it is accepted
+pub exchange-done : (image segment : List ℕ) → Unbroken image → length segment ≡ LEG-BYTES
     → exchangeCall image segment ≡ left Done (imageOf (exchange (stateAt image) (legAt segment 0)))
-unfolding exchangeCall exchangeRefusal tickRefusal
-exchange-done image segment a e =
-    let t = done-none (tickTable image INPUT-BYTES ANSWER-BYTES) refl (ap isDone a) in
-    rw (t 0, e, t 3)
+unfolding exchangeCall exchangeRefusal
+exchange-done image segment u e = rw (u .whole, e, u .row-four)
 
-module _ (image segment : List ℕ) (a : Accepted image) (e : length segment ≡ LEG-BYTES) where
+module _ (image segment : List ℕ) (a : Unbroken image) (e : length segment ≡ LEG-BYTES) where
   abbrev later : List ℕ
   later = exchangeCall image segment .later
 
@@ -67,11 +66,11 @@ unfolding imageAfter leftBy
 then-exchanged image [] t segment = refl
 then-exchanged image (c ∷ calls) t segment = then-exchanged (leftBy image c) calls t segment
 
-flag-across : (image segment : List ℕ) → Accepted image → word (exchangeCall image segment .later) ENGAGED ≡ word image ENGAGED
+flag-across : (image segment : List ℕ) → Unbroken image → word (exchangeCall image segment .later) ENGAGED ≡ word image ENGAGED
 unfolding after
 flag-across image segment a =
     let s = exchange-steps image segment a in
-    flag-of-image (exchangeCall image segment .later) (s .accepted) ∙ ap (λ (h : SimplexShield). flag (h .engaged)) (s .shield) ∙ sym (flag-of-image image a)
+    unbroken-has (exchangeCall image segment .later) (s .unbroken) .engaged ∙ ap (λ (h : SimplexShield). flag (h .engaged)) (s .shield) ∙ sym (unbroken-has image a .engaged)
 
 -- at a tick u after a tick t and an exchange, u's flag is t's
 pub in-band-across-an-exchange : (setup : List ℕ) (calls : List Call) (t u : Tick) (segment : List ℕ) → Right t → Right u
@@ -83,5 +82,5 @@ in-band-across-an-exchange setup calls t u segment r q i =
     let image = imageAfter (start setup) calls in
     subst (λ (x : List ℕ). InBand (enterOf setup) (exitOf setup) (guided x u .margin) → flagOf x u ≡ word x ENGAGED) (then-exchanged (start setup) calls t segment)
     (in-band-as-before setup (calls ++ Ticks t ∷ Exchanges segment ∷ []) u q) i
-    ∙ flag-across (tickOf image t .later .image) segment (call-steps image (Ticks t) (ran setup calls .accepted) .accepted)
+    ∙ flag-across (tickOf image t .later .image) segment (call-steps image (Ticks t) (ran setup calls .unbroken) .unbroken)
     ∙ flag-kept setup calls t r

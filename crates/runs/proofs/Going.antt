@@ -1,4 +1,4 @@
--- Any run from set-up, by one induction: each image is one that a tick takes, and its shield is set-up's, stepped by the margins. Assumes nothing.
+-- Any run from set-up, by one induction: each image is unbroken, and its shield is set-up's, stepped by the margins. Assumes nothing.
 use Rattle.laws.proofs.Prelude.{_≡_, refl, sym, ap, _∙_, subst, Bool, true, List, [], _∷_, _++_, ℕ, Float, lt, length}
 use Rattle.words.specs.Words.{float}
 use Rattle.latch.specs.Latch.{latch, after, engagedAfter}
@@ -6,19 +6,19 @@ use Rattle.relay_geo.{specs.declared.shield.SimplexShield.SimplexShield, proofs
 use Rattle.joint_tick.{specs.{declared.state.State.State, SetUp.setUp}, proofs.Shielding.tick-latch}
 use Rattle.outcome.specs.{declared.Outcome.the-variants.Done, Outcomes.{left, Called}}
 use Rattle.image.{specs.{Layout.{ENTER, EXIT, IMAGE-BYTES}, Image.{fixedAt, stateAt}, Inputs.{setupAt, inputAt}}, proofs.Decoded.decode-encode}
-use Rattle.calls.{specs.{Entry.setUpCall, Ticks.{SetsUp, Accepted, marginsIf, shieldOf, stepped, Steps}}, proofs.Going.{set-up-fits, set-up-never-refused, in-order}}
-use Rattle.calls.proofs.Steps.{tick-steps, exchange-steps}
+use Rattle.lent_tick.{specs.{Unbroken.Unbroken, Steps.{marginsIf, shieldOf, stepped, Steps}}, proofs.{RowFour.unbroken-has, Going.{set-up-fits, set-up-never-refused}, Steps.tick-steps}}
+use Rattle.calls.{specs.Entry.{SetsUp, setUpCall}, proofs.Steps.exchange-steps}
 use Rattle.runs.specs.{Runs.{Tick, Call, Ticks, Exchanges, leftBy, sourceOn, guided, marginsOf, start, imageAfter, marginsAlong}, DemandThree.{enterOf, exitOf}}
 use Rattle.runs.proofs.Shown.{refusalOn, flying-is, done}
 
 -- ---- what each call does: another kind of call is a case more
 
-pub call-steps : (image : List ℕ) (c : Call) → Accepted image → Steps (marginsOf image c) image (leftBy image c)
+pub call-steps : (image : List ℕ) (c : Call) → Unbroken image → Steps (marginsOf image c) image (leftBy image c)
 unfolding marginsOf leftBy guided
-call-steps image (Exchanges segment) a = exchange-steps image segment a
-call-steps image (Ticks t) a =
+call-steps image (Exchanges segment) u = exchange-steps image segment u
+call-steps image (Ticks t) u =
     subst (λ (c : Called). Steps (marginsIf c (guided image t .margin)) image (c .later .image)) (sym (flying-is (t .course) image (t .input) (t .answer)))
-    (tick-steps (sourceOn (t .course) image) (refusalOn (t .course) image (length (t .input)) (length (t .answer))) image (t .input) (t .answer) a)
+    (tick-steps (sourceOn (t .course) image) (refusalOn (t .course) image (length (t .input)) (length (t .answer))) image (t .input) (t .answer) u)
 
 -- ---- one after another
 
@@ -30,14 +30,14 @@ after-append enter exit b (m ∷ ms) ns = after-append enter exit (latch enter e
 stepped-append : (h : SimplexShield) (ms ns : List Float) → stepped (stepped h ms) ns ≡ stepped h (ms ++ ns)
 stepped-append h ms ns = rw (after-append (h .enter) (h .exit) (h .engaged) ms ns)
 
-pub run-steps : (image : List ℕ) (calls : List Call) → Accepted image → Steps (marginsAlong image calls) image (imageAfter image calls)
+pub run-steps : (image : List ℕ) (calls : List Call) → Unbroken image → Steps (marginsAlong image calls) image (imageAfter image calls)
 unfolding marginsAlong imageAfter after
-run-steps image [] a = record { accepted = a; shield = refl }
-run-steps image (c ∷ calls) a =
-    let one = call-steps image c a in
-    let more = run-steps (leftBy image c) calls (one .accepted) in
+run-steps image [] u = record { unbroken = u; shield = refl }
+run-steps image (c ∷ calls) u =
+    let one = call-steps image c u in
+    let more = run-steps (leftBy image c) calls (one .unbroken) in
     record {
-      accepted = more .accepted;
+      unbroken = more .unbroken;
       shield =
           more .shield
           ∙ ap (λ (h : SimplexShield). stepped h (marginsAlong (leftBy image c) calls)) (one .shield)
@@ -52,9 +52,9 @@ unfolding setUpCall start
 set-up-starts image setup p e = rw (p, e)
 
 module _ (setup : List ℕ) where
-  pub start-accepted : Accepted (start setup)
+  pub start-unbroken : Unbroken (start setup)
   unfolding start
-  start-accepted = set-up-never-refused setup
+  start-unbroken = set-up-never-refused setup
 
   pub start-engaged : shieldOf (start setup) .engaged ≡ true
   unfolding start setUp
@@ -64,14 +64,14 @@ module _ (setup : List ℕ) where
 
   pub thresholds-in-order : lt (enterOf setup) (exitOf setup) ≡ true
   unfolding fixedAt
-  thresholds-in-order = in-order (start setup) start-accepted
+  thresholds-in-order = unbroken-has (start setup) start-unbroken .state .exit
 
   module _ (calls : List Call) where
     abbrev image : List ℕ
     image = imageAfter (start setup) calls
 
     pub ran : Steps (marginsAlong (start setup) calls) (start setup) image
-    ran = run-steps (start setup) calls start-accepted
+    ran = run-steps (start setup) calls start-unbroken
 
     -- every later image keeps the thresholds
     pub thresholds-kept : (float image ENTER ≡ enterOf setup) × (float image EXIT ≡ exitOf setup)

@@ -8,11 +8,12 @@ use Rattle.joint_tick.specs.{declared.state.State.State, Profile.isProfile, Set
 use Rattle.outcome.specs.{declared.Outcome.{Outcome, the-variants.{Done, BadProfile, PassThrough}}, Outcomes.{isDone, Table, left, leftUnless, Filled}}
 use Rattle.outcome.proofs.Tables.{done-none, never-given, in-turn, either}
 use Rattle.image.{specs.{Layout.{IMAGE-BYTES, SETUP-PROFILE, SETUP-BYTES}, Parts.{biquadAt, lpfAt}, Image.{movingAt, stateAt}, Inputs.setupAt}, proofs.Decoded.decode-encode}
-use Rattle.calls.{specs.{Entry.{setUpTable, exchangeTable, tickTable, setUpRefusal, exchangeRefusal, tickRefusal, setUpCall}, Ticks.{SetsUp, Accepted}}, proofs.Going.set-up-fits}
+use Rattle.lent_tick.{specs.{Unbroken.Unbroken, Tick.{tickTable, tickRefusal}}, proofs.Going.set-up-fits}
+use Rattle.calls.specs.Entry.{setUpTable, exchangeTable, setUpRefusal, exchangeRefusal, SetsUp, setUpCall}
 use Rattle.route.specs.{Form.formTable, Entry.routeRefusal}
 use Rattle.runs.specs.{Runs.{Tick, Call, guided, start, imageAfter, marginsAlong, Right}, DemandThree.{enterOf, exitOf, Shows}, Kept.{RollFilter, PitchFilter, YawFilter, Lasts}}
 use Rattle.runs.specs.Gyro.{unfiltered, tableBefore, refusalBefore, setUpBefore, Filter, Roll, Pitch, Yaw, Passes}
-use Rattle.runs.proofs.{Going.start-accepted, DemandThree.demand-three, Kept.{words-kept-over-any-run, all-keep-lasting}, LostRotor.ten-exactly}
+use Rattle.runs.proofs.{Going.start-unbroken, DemandThree.demand-three, Kept.{words-kept-over-any-run, all-keep-lasting}, LostRotor.ten-exactly}
 
 -- ---- what is refused
 
@@ -64,8 +65,8 @@ module _ (image setup : List ℕ) (e : setUpBefore image setup .outcome ≡ Done
   abbrev first : List ℕ
   first = setUpBefore image setup .later
 
-  pub keeps-ticking : Accepted first
-  keeps-ticking = rw (started-before image setup e) (start-accepted setup)
+  pub keeps-ticking : Unbroken first
+  keeps-ticking = rw (started-before image setup e) (start-unbroken setup)
 
   -- "demands 2 and 3 hold on their runs as before"
   pub demand-three-as-before : (calls : List Call) (t : Tick) → Right t

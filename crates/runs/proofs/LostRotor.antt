@@ -1,5 +1,5 @@
 -- Request Six on bytes: ticks of either kind on an image whose profile's word is 1, and what is refused. Assumes nothing.
-use Rattle.laws.proofs.Prelude.{_≡_, refl, sym, ap, _∙_, Bool, true, false, not, _&&_, cond, List, ℕ, _+_, eqb, Float, ofBits, toBits, length}
+use Rattle.laws.proofs.Prelude.{_≡_, refl, sym, ap, _∙_, Bool, true, false, not, cond, and-false, List, ℕ, _+_, eqb, Float, ofBits, toBits, length}
 use lib.Ieee.Bits.{ofBits-fits}
 use Rattle.words.specs.Words.{word, float, vec, flag, bits}
 use Rattle.relay_math.specs.F32.{0·0}
@@ -9,9 +9,10 @@ use Rattle.joint_tick.proofs.LostRotor.{headed, heading-unread, third-stands, t
 use Rattle.outcome.specs.{declared.Outcome.{Outcome, the-variants.{Done, ImageLength, BrokenImage, BadProfile, PassThrough}}, Outcomes.{leftUnless, lent, Called}}
 use Rattle.image.specs.{Layout.{COUNT, PROFILE, IMAGE-WORDS, IMAGE-BYTES, SETUP-FC, SETUP-FS, SETUP-PROFILE, SETUP-BYTES, YAW, YAW-RATE, INPUT-BYTES, TORQUE, COMMAND, ANSWER-BYTES}, Parts.quatAt}
 use Rattle.image.{specs.{Image.{stateAt, imageOf}, Inputs.{setupAt, inputAt, answerOf}, Fits.F32}, proofs.{Decoded.decode-encode, Answered.{third-torque-word, command-words}, AnswerFits.command-fits}}
-use Rattle.calls.{specs.{Entry.{intact, setUpRefusal, tickRefusal, tickFrom}, Ticks.Accepted, Shams.{levelSetUpBy, headedInput}}, proofs.{Going.set-up-fits, Level.planner-first-lost}}
+use Rattle.lent_tick.{specs.{Unbroken.{unbroken, Unbroken}, Tick.{tickRefusal, tickFrom}}, proofs.Going.set-up-fits}
+use Rattle.calls.{specs.{Entry.setUpRefusal, Shams.{levelSetUpBy, headedInput}}, proofs.Level.planner-first-lost}
 use Rattle.runs.specs.{Runs.{Course, Tick, flying, tickOf, sourceOn, start, Right}, DemandThree.flagOf, Shams.plain, LostRotor.ButHeading}
-use Rattle.runs.proofs.{Shown.{refusalOn, flying-is, done, tick-done, flag-shown}, Going.start-accepted, Kept.lost}
+use Rattle.runs.proofs.{Shown.{refusalOn, flying-is, done, tick-done, flag-shown}, Going.start-unbroken, Kept.lost}
 
 -- ---- "yaw isn't read"
 
@@ -48,7 +49,7 @@ zero-word e = rw e
 zero-fits : {x : Float} → x ≡ 0·0 → F32 x
 zero-fits e = rw e (ofBits-fits _ _)
 
-pub thirds-zero : (image : List ℕ) (t : Tick) → Accepted image → Right t → word image PROFILE ≡ 1
+pub thirds-zero : (image : List ℕ) (t : Tick) → Unbroken image → Right t → word image PROFILE ≡ 1
     → let answer = tickOf image t .later .answer in (word answer (TORQUE + 2) ≡ 0) × (word answer (COMMAND + 2) ≡ 0)
 thirds-zero image t a r p =
     let source = sourceOn (t .course) image in
@@ -66,7 +67,7 @@ fresh = setUp (setupAt (levelSetUpBy 1))
 pub planner-flies-unheaded : (yaw : ℕ) → flagOf (start (levelSetUpBy 1)) (plain (headedInput yaw)) ≡ 0
 unfolding start
 planner-flies-unheaded yaw =
-    flag-shown (start (levelSetUpBy 1)) (plain (headedInput yaw)) (start-accepted (levelSetUpBy 1)) (refl, refl, tt)
+    flag-shown (start (levelSetUpBy 1)) (plain (headedInput yaw)) (start-unbroken (levelSetUpBy 1)) (refl, refl, tt)
     ∙ ap (λ (t : State). flag (ticked (referenceAt (t .fixed .segment)) t (inputAt (headedInput yaw)) .answer .fallback)) (decode-encode fresh (set-up-fits (levelSetUpBy 1)))
     ∙ ap flag (planner-first-lost yaw)
 
@@ -88,14 +89,10 @@ unfolding tickRefusal
 old-length-refused image inputLen answerLen e = rw e
 
 pub old-count-refused : (image : List ℕ) → length image ≡ IMAGE-BYTES → word image COUNT ≡ 95 → tickRefusal image INPUT-BYTES ANSWER-BYTES ≡ BrokenImage
-unfolding tickRefusal intact
+unfolding tickRefusal unbroken
 old-count-refused image e c = rw (e, c)
 
 -- "a tick finds a bad word 95 under 4"
 pub bad-profile-refused : (image : List ℕ) → length image ≡ IMAGE-BYTES → isProfile (word image PROFILE) ≡ false → tickRefusal image INPUT-BYTES ANSWER-BYTES ≡ BrokenImage
-unfolding tickRefusal intact
-bad-profile-refused image e p = rw (e, p, and-false (eqb (word image COUNT) IMAGE-WORDS))
-  where
-    and-false : (x : Bool) → (x && false) ≡ false
-    and-false true = refl
-    and-false false = refl
+unfolding tickRefusal unbroken
+bad-profile-refused image e p = simp (e, p, and-false)

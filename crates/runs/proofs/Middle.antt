@@ -5,9 +5,9 @@ use Rattle.latch.specs.Latch.{releases, engages, latch}
 use Rattle.relay_geo.proofs.Steps.{released-only-above-exit, above-exit-releases, engaged-by, released-stays-in-band, engaged-stays-in-band}
 use Rattle.joint_tick.{specs.Tick.stateAfter, proofs.Shielding.tick-keeps-flag}
 use Rattle.image.{specs.{Layout.ENGAGED, Image.stateAt, Inputs.inputAt}, proofs.Decoded.engaged-written}
-use Rattle.calls.{specs.Ticks.shieldOf, proofs.Going.flag-of-image}
+use Rattle.lent_tick.{specs.Steps.shieldOf, proofs.RowFour.unbroken-has}
 use Rattle.runs.specs.{Runs.{Tick, Call, Ticks, tickOf, leftBy, sourceOn, guided, start, imageAfter, Right}, DemandThree.{enterOf, exitOf, flagOf, InBand}}
-use Rattle.runs.proofs.{Shown.{flag-zero, flag-one, tick-done, flag-shown}, Going.{start-accepted, start-engaged, thresholds-in-order, ran, latched}}
+use Rattle.runs.proofs.{Shown.{flag-zero, flag-one, tick-done, flag-shown}, Going.{start-unbroken, start-engaged, thresholds-in-order, ran, latched}}
 
 in-band : (enter exit m : Float) → InBand enter exit m → (b : Bool) → latch enter exit b m ≡ b
 in-band enter exit m i true = engaged-stays-in-band enter exit m (i .not-above)
@@ -28,10 +28,10 @@ module _ (setup : List ℕ) where
 
     -- the flag's word is the latch of the margin, by whoever had control before, who stands in the image
     now : flagOf image t ≡ flag (latch (enterOf setup) (exitOf setup) (shieldOf image .engaged) m)
-    now = flag-shown image t (ran setup calls .accepted) r ∙ ap flag (latched setup calls t)
+    now = flag-shown image t (ran setup calls .unbroken) r ∙ ap flag (latched setup calls t)
 
     before : word image ENGAGED ≡ flag (shieldOf image .engaged)
-    before = flag-of-image image (ran setup calls .accepted)
+    before = unbroken-has image (ran setup calls .unbroken) .engaged
 
     -- "A margin above exit is answered with the planner's command in that same tick."
     pub above-exit-flies-at-once : releases (exitOf setup) m ≡ true → flagOf image t ≡ 0
@@ -55,14 +55,14 @@ module _ (setup : List ℕ) where
     -- The image keeps the flag for the next tick.
     pub flag-kept : word (tickOf image t .later .image) ENGAGED ≡ flagOf image t
     flag-kept =
-        rw (tick-done image t (ran setup calls .accepted) r) (engaged-written (stateAfter (sourceOn (t .course) image) (stateAt image) (inputAt (t .input))))
+        rw (tick-done image t (ran setup calls .unbroken) r) (engaged-written (stateAfter (sourceOn (t .course) image) (stateAt image) (inputAt (t .input))))
         ∙ ap flag (tick-keeps-flag (sourceOn (t .course) image) (stateAt image) (inputAt (t .input)))
-        ∙ sym (flag-shown image t (ran setup calls .accepted) r)
+        ∙ sym (flag-shown image t (ran setup calls .unbroken) r)
 
   -- at the first tick the fallback's command goes on
   pub first-in-band : (t : Tick) → Right t → InBand (enterOf setup) (exitOf setup) (guided (start setup) t .margin) → flagOf (start setup) t ≡ 1
   unfolding imageAfter
-  first-in-band t r i = in-band-as-before [] t r i ∙ flag-of-image (start setup) (start-accepted setup) ∙ ap flag (start-engaged setup)
+  first-in-band t r i = in-band-as-before [] t r i ∙ unbroken-has (start setup) (start-unbroken setup) .engaged ∙ ap flag (start-engaged setup)
 
   -- at a tick u right after a tick t, u's flag is t's
   pub next-in-band : (calls : List Call) (t u : Tick) → Right t → Right u

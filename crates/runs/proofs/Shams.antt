@@ -10,13 +10,13 @@ use Rattle.image.specs.{Layout.{SETUP-PROFILE, FLAG, INPUT-BYTES}, Parts.profil
 use Rattle.calls.specs.{Entry.onSegment, Shams.{Program, Keeps, AnswersOnly, EchoesAfter, blankAnswer, blankImage, ran, answered, levelSetUp, levelInput, lostInput}}
 use Rattle.calls.proofs.Shams.{level-profile, level-sets-up, planner-flies}
 use Rattle.runs.specs.{Runs.{Call, Ticks, flying, leftBy, guided, start, imageAfter, marginsAlong}, DemandThree.{enterOf, exitOf, flagOf}, Shams.{plain, KeepsDemandThree}}
-use Rattle.runs.proofs.{Shown.{tick-done, flag-shown}, Going.{set-up-starts, start-accepted, ran as taken}, DemandThree.demand-three, Kept.profile-over-any-run}
+use Rattle.runs.proofs.{Shown.{tick-done, flag-shown}, Going.{set-up-starts, start-unbroken, ran as taken}, DemandThree.demand-three, Kept.profile-over-any-run}
 
 -- ---- the promised flags: the planner flies at the first tick, and after any calls the fallback does at a heading that is no number
 
 planner-at-first : flagOf (start levelSetUp) (plain levelInput) ≡ 0
 unfolding start
-planner-at-first = flag-shown (start levelSetUp) (plain levelInput) (start-accepted levelSetUp) (refl, refl, tt) ∙ ap flag planner-flies
+planner-at-first = flag-shown (start levelSetUp) (plain levelInput) (start-unbroken levelSetUp) (refl, refl, tt) ∙ ap flag planner-flies
 
 no-heading : inputAt lostInput .yaw ≡ nan
 unfolding inputAt float word ofBits
@@ -34,7 +34,7 @@ old-rules calls = rw (profile-over-any-run levelSetUp calls level-profile ∙ le
 fallback-then : (calls : List Call) → flagOf (imageAfter (start levelSetUp) calls) (plain lostInput) ≡ 1
 fallback-then calls =
     let image = imageAfter (start levelSetUp) calls in
-    flag-shown image (plain lostInput) (taken levelSetUp calls .accepted) (refl, refl, tt)
+    flag-shown image (plain lostInput) (taken levelSetUp calls .unbroken) (refl, refl, tt)
     ∙ ap flag (nan-heading-tick (onSegment image) (stateAt image) (inputAt lostInput) (old-rules calls) no-heading .flag)
 
 -- ---- what the promises say is more
@@ -83,7 +83,7 @@ module _ (p : Program) (k : KeepsDemandThree p) where
       alike : (input : List ℕ) → length input ≡ INPUT-BYTES → answered p image input ≡ c
       alike input e =
           r .always image input blankAnswer
-          (k .outcome image input ∙ ap (λ (c : Called). c .outcome) (tick-done image (plain input) (start-accepted levelSetUp) (e, refl, tt)))
+          (k .outcome image input ∙ ap (λ (c : Called). c .outcome) (tick-done image (plain input) (start-unbroken levelSetUp) (e, refl, tt)))
 
   -- "works at the first tick and echoes it later", however late
   along : (n : ℕ) (image : List ℕ) → ran p image (replicate n levelInput) ≡ imageAfter image (replicate n (Ticks (plain levelInput)))

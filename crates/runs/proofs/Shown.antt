@@ -9,7 +9,8 @@ use Rattle.joint_tick.{specs.Tick.{plannerOf, guidance, ticked, stateAfter}, pr
 use Rattle.image.specs.{Layout.{PROFILE, FLAG, MARGIN, INPUT-BYTES, ANSWER-BYTES}, Parts.profileAt, Image.{fixedAt, stateAt, imageOf}, Inputs.{inputAt, answerOf}, Fits.F32}
 use Rattle.image.proofs.{Answered.{flag-answered, margin-answered, margin-word, command-words}, AnswerFits.{margin-fits, command-fits}}
 use Rattle.outcome.specs.{declared.Outcome.{Outcome, the-variants.Done}, Outcomes.{left, lent}}
-use Rattle.calls.specs.{Entry.{tickRefusal, tickFrom, tickCall}, Ticks.Accepted}
+use Rattle.lent_tick.{specs.{Unbroken.Unbroken, Tick.{tickRefusal, tickFrom}}, proofs.Flown.unbroken-taken}
+use Rattle.calls.specs.Entry.{tickCall}
 use Rattle.route.{specs.Entry.{routeRefusal, routeCall}, proofs.Taken.in-their-turn}
 use Rattle.runs.specs.Runs.{Course, Segment, Route, Tick, flying, tickOf, sourceOn, guided, RightCourse, Right}
 use Rattle.runs.specs.DemandThree.{cleanWord, plannerWords, fallbackWords, commandWords, flagOf, Shows}
@@ -61,9 +62,9 @@ unfolding flying tickCall routeCall
 flying-is Segment image input answer = refl
 flying-is (Route route) image input answer = refl
 
-not-refused : (c : Course) (image : List ℕ) → Accepted image → RightCourse c → refusalOn c image INPUT-BYTES ANSWER-BYTES ≡ Done
-not-refused Segment image a r = a
-not-refused (Route route) image a r = rw (in-their-turn, a, r)
+not-refused : (c : Course) (image : List ℕ) → Unbroken image → RightCourse c → refusalOn c image INPUT-BYTES ANSWER-BYTES ≡ Done
+not-refused Segment image u r = sym (unbroken-taken image INPUT-BYTES ANSWER-BYTES u refl refl)
+not-refused (Route route) image u r = rw (in-their-turn, ← unbroken-taken image INPUT-BYTES ANSWER-BYTES u refl refl, r)
 
 -- ---- what a tick does
 
@@ -106,7 +107,7 @@ module _ (image : List ℕ) (t : Tick) where
       let f : F32 (done .answer .margin) = rw e (margin-fits source s i) in
       (margin-word (done .answer) f ∙ ap bits e, margin-answered (done .answer) f ∙ e)
 
-  module _ (a : Accepted image) (r : Right t) where
+  module _ (a : Unbroken image) (r : Right t) where
     pub tick-done : tickOf image t ≡ left Done (lent (imageOf (stateAfter source s i)) answers)
     unfolding tickFrom
     tick-done = flying-is (t .course) image (t .input) (t .answer) ∙ rw (r .0, r .1, not-refused (t .course) image a (r .2))

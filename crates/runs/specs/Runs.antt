@@ -13,8 +13,8 @@ use Rattle.image.specs.Image.{stateAt, imageOf}
 use Rattle.image.specs.Inputs.{setupAt, inputAt}
 use Rattle.outcome.specs.declared.Outcome.the-variants.{Done}
 use Rattle.outcome.specs.Outcomes.{Called}
+use Rattle.lent_tick.specs.Steps.{marginsIf}
 use Rattle.calls.specs.Entry.{exchangeCall, onSegment, tickCall}
-use Rattle.calls.specs.Ticks.{marginsIf}
 use Rattle.route.specs.Form.{formRefusal}
 use Rattle.route.specs.Entry.{onRoute, routeCall}
 

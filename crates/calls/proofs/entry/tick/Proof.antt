@@ -1,8 +1,9 @@
 -- `calls::entry::tick`: refused as it stands, or flown and written. Assumes nothing.
 use Rattle.laws.proofs.Prelude.{needs, eq-eqb, ne-eqb, not-true, refl, arith}
 use Rattle.words.proofs.Plain.{scanned}
-use Rattle.calls.specs.Entry.{tickRefusal, tickFrom, tickCall}
-use Rattle.calls.proofs.{Flown.{takes, read-of, flown, keeps}, entry.tick.{Statement.statement, Tie.{Need-returns, Need-returns-2, Need-returns-3, Need-returns-4, Need-returns-5, close, spec}}}
+use Rattle.lent_tick.{specs.Tick.{tickRefusal, tickFrom}, proofs.Flown.{is-unbroken, unbroken-taken, read-of, flown, keeps}}
+use Rattle.calls.specs.Entry.{tickCall}
+use Rattle.calls.proofs.entry.tick.{Statement.statement, Tie.{Need-returns, Need-returns-2, Need-returns-3, Need-returns-4, Need-returns-5, close, spec}}
 
 image-length : Need-returns
 unfolding tickCall tickFrom tickRefusal
@@ -22,7 +23,7 @@ broken c =
     let t = c .before in
     let f = t .before .before .before .before .before .before in
     let l = f .before .before .before in
-    simp (← t .intact .ensures, not-true (t .intact .result) (c .if4 .taken), eq-eqb _ _ (l .if3 .left), eq-eqb _ _ (l .before .if2 .left), eq-eqb _ _ (l .before .before .if1 .left))
+    simp (← t .unbroken .ensures, not-true (t .unbroken .result) (c .if4 .taken), eq-eqb _ _ (l .if3 .left), eq-eqb _ _ (l .before .if2 .left), eq-eqb _ _ (l .before .before .if1 .left))
 
 flies : Need-returns-5
 unfolding tickCall
@@ -36,8 +37,9 @@ flies c =
     let i = p .before in
     let f = i .before .before in
     let l = f .before .before .before in
-    flown _ _ _ _ (takes _ _ _ (l .before .before .if1 .left) (l .before .if2 .left) (l .if3 .left) (t .intact .ensures) (e .if4 .left)) refl refl
-    (i .input-at .ensures) (f .fixed-at .ensures) (p .begin .ensures) (rw (← f .fixed-at .ensures) (s .reference-at .ensures)) (h .finish .ensures) (w .leave .ensures)
+    flown _ _ _ _ (unbroken-taken _ _ _ (is-unbroken (l .before .before .if1 .left) (t .unbroken .ensures) (e .if4 .left)) (l .before .if2 .left) (l .if3 .left)) refl refl
+    (i .input-at .ensures) (f .fixed-at .ensures) (p .read-and-prepare .ensures) (rw (← f .fixed-at .ensures) (s .reference-at .ensures))
+    (h .guide-pick-follow .ensures) (w .put-state-and-answer .ensures)
 
 pub tick-spec : {M : Type 1} → statement M
 tick-spec =
@@ -58,7 +60,7 @@ tick-spec =
       (n, l .if3 .left),
       (
         scanned _ 99 _ (f .before .all-plain .ensures) n,
-        keeps _ (t .intact .ensures) (c .before .before .if4 .left) _ _ (f .fixed-at .ensures) (p .begin .ensures) (t .before .finish .ensures),
+        keeps _ (is-unbroken n (t .unbroken .ensures) (c .before .before .if4 .left)) _ _ (f .fixed-at .ensures) (p .read-and-prepare .ensures) (t .before .guide-pick-follow .ensures),
       ),
     ))
     (λ c. search needs) (λ c. search needs)

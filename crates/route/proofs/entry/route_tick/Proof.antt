@@ -1,7 +1,7 @@
 -- `route::entry::route_tick`: refused as it stands, or flown and written. Assumes nothing.
 use Rattle.laws.proofs.Prelude.{needs, eq-eqb, ne-eqb, not-true, not, ap, arith}
 use Rattle.words.proofs.Plain.{scanned}
-use Rattle.calls.{specs.Entry.tickFrom, proofs.Flown.{takes, read-of, flown, keeps}}
+use Rattle.lent_tick.{specs.Tick.tickFrom, proofs.Flown.{is-unbroken, unbroken-taken, read-of, flown, keeps}}
 use Rattle.route.specs.Entry.{onRoute, routeRefusal, routeCall}
 use Rattle.route.proofs.{Taken.{formed, form-decides, formless, broken}, entry.route_tick.Statement.statement}
 use Rattle.route.proofs.entry.route_tick.Tie.{Need-returns, Need-returns-2, Need-returns-3, Need-returns-4, Need-returns-5, Need-returns-6, Need-returns-7, close, spec}
@@ -24,19 +24,19 @@ no-form c =
     let d = t .before .before in
     let l = d .before .before .before .before .before .before .before .before in
     formless _ (d .before .form-refusal .ensures) (d .is-done .ensures) _ _ _
-    (takes _ _ _ (l .before .before .if1 .left) (l .before .if2 .left) (l .if3 .left) (t .intact .ensures) (ap not (c .if5 .taken))) (t .before .if4 .taken)
+    (unbroken-taken _ _ _ (is-unbroken (l .before .before .if1 .left) (t .unbroken .ensures) (ap not (c .if5 .taken))) (l .before .if2 .left) (l .if3 .left)) (t .before .if4 .taken)
 
 broken-besides : Need-returns-5
 broken-besides c =
     let t = c .before in
     let l = t .before .before .before .before .before .before .before .before .before .before in
-    broken _ _ _ _ (l .before .before .if1 .left) (l .before .if2 .left) (l .if3 .left) (t .intact .ensures) (c .if5 .left)
+    broken _ _ _ _ (l .before .before .if1 .left) (l .before .if2 .left) (l .if3 .left) (t .unbroken .ensures) (c .if5 .left)
 
 broken-image : Need-returns-6
 broken-image c =
     let t = c .before in
     let l = t .before .before .before .before .before .before .before .before .before .before .before .before .before in
-    broken _ _ _ _ (l .before .before .if1 .left) (l .before .if2 .left) (l .if3 .left) (t .intact2 .ensures) (not-true (t .intact2 .result) (c .if6 .taken))
+    broken _ _ _ _ (l .before .before .if1 .left) (l .before .if2 .left) (l .if3 .left) (t .unbroken2 .ensures) (not-true (t .unbroken2 .result) (c .if6 .taken))
 
 flies : Need-returns-7
 unfolding routeCall onRoute
@@ -53,9 +53,11 @@ flies c =
     let f = i .before .before in
     let l = f .before .before .before in
     flown _ _ _ _
-    (form-decides _ (d .before .form-refusal .ensures) (d .is-done .ensures) _ _ _ (takes _ _ _ (l .before .before .if1 .left) (l .before .if2 .left) (l .if3 .left) (t .intact2 .ensures) (e .if6 .left)))
+    (form-decides _ (d .before .form-refusal .ensures) (d .is-done .ensures) _ _ _
+    (unbroken-taken _ _ _ (is-unbroken (l .before .before .if1 .left) (t .unbroken2 .ensures) (e .if6 .left)) (l .before .if2 .left) (l .if3 .left)))
     (d .is-done .ensures) (g .if4 .left)
-    (i .input-at .ensures) (f .fixed-at .ensures) (p .begin .ensures) (rw (← s .before .leg-count .ensures) (s .reference-on .ensures)) (h .finish .ensures) (w .leave .ensures)
+    (i .input-at .ensures) (f .fixed-at .ensures) (p .read-and-prepare .ensures) (rw (← s .before .leg-count .ensures) (s .reference-on .ensures))
+    (h .guide-pick-follow .ensures) (w .put-state-and-answer .ensures)
 
 pub route-tick-spec : {M : Type 1} → statement M
 route-tick-spec =
@@ -81,7 +83,7 @@ route-tick-spec =
       (n, l .if3 .left),
       (
         scanned _ 99 _ (f .before .all-plain .ensures) n,
-        keeps _ (t .intact2 .ensures) (c .before .before .if6 .left) _ _ (f .fixed-at .ensures) (p .begin .ensures) (t .before .finish .ensures),
+        keeps _ (is-unbroken n (t .unbroken2 .ensures) (c .before .before .if6 .left)) _ _ (f .fixed-at .ensures) (p .read-and-prepare .ensures) (t .before .guide-pick-follow .ensures),
       ),
     ))
     (λ c. search needs) (λ c. search needs)

@@ -1,7 +1,0 @@
-use Rattle.laws.proofs.Prelude.{needs}
-use Rattle.calls.proofs.entry.peak_stands.{Statement.statement, Tie.{close, spec}}
-
-pub peak-stands-spec : {M : Type 1} → statement M
-peak-stands-spec =
-    close (spec (λ c κs. search needs) (λ c κs. search needs) (λ c κs. search needs)
-    (λ c. simp (c .bits-of .ensures, c .before .peak-abs-jerk .ensures, c .before .before .word-at .ensures)))

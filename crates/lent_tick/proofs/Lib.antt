@@ -1,0 +1,5 @@
+pub mod RowFour
+pub mod Going
+pub mod Flown
+pub mod Steps
+pub mod OneAnswer

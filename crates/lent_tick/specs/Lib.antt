@@ -1,0 +1,4 @@
+pub mod Unbroken
+pub mod Tick
+pub mod Steps
+pub mod Inner

@@ -147,7 +147,7 @@ const ADDED: [(&str, &str, &str); 15] = [
     ("joint_tick", "exchange", "the exchange of the segment over values"),
     ("joint_tick", "prepare", "the tick's first stage: fractions, gyro filter, governor"),
     ("joint_tick", "reference_at", "the second: where the trajectory is"),
-    ("joint_tick", "finish", "the third: observers, attitudes, fallback, psi, margin; shield; rate controller"),
+    ("joint_tick", "guide_pick_follow", "the third: observers, attitudes, fallback, psi, margin; shield; rate controller"),
     ("calls", "setup", "set-up on lent bytes"),
     ("calls", "exchange", "the exchange of the segment on lent bytes"),
     ("calls", "tick", "the joint tick on lent bytes"),

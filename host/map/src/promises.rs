@@ -32,7 +32,7 @@ const ASKING: [(&str, &str); 4] = [
     ("words", "A word is read or written within lengths that the caller tested once, and read untested where a scan found no NaN's pattern: a test for each word would be paid at every tick."),
     ("image", "The same, part by part: `calls` and `route` test the lengths, then read and write."),
     ("route", "`legs_meet` compares two legs that lie within lengths which `route` and `pattern` have tested: a route tick compares up to 31 joins."),
-    ("calls", "`intact`, `begin` and `leave` are the parts of a tick that a route tick shares: both calls test the lengths first, and row 4 before anything is written."),
+    ("lent_tick", "The parts of a tick that a plain tick and a route tick share: both calls test the lengths first, and whether the image is unbroken before anything is written."),
 ];
 
 /// The names of the functions of which a crate's proofs/OneAnswer.antt has the theorem, by its statement; and that file.

@@ -4,11 +4,8 @@ use contract.Lifetimes.{Lfts}
 use denote.{Ref.now, Triple.{Entry.{Args, Res}, Clauses.{Ended, Lasts, atExit}}}
 use Rattle.laws.proofs.Determined.{Promise, OneAnswer, Says, no-second, both}
 use Rattle.outcome.specs.Outcomes.{Filled}
-use Rattle.log.specs.{declared.reader.Reader.Reader, Records.{hasRecord, recordAt, placeAfter}}
+use Rattle.log.specs.{declared.reader.Reader.Reader, Records.{recordAt, placeAfter}}
 use Rattle.log.proofs.form
-use Rattle.log.proofs.reader
-use Rattle.log.proofs.reader.open as opened
-use Rattle.log.proofs.reader.has_next as has-next
 use Rattle.log.proofs.reader.next as next
 use Rattle.log.proofs.reader.moved as moved
 use Rattle.log.proofs.entry
@@ -42,28 +39,13 @@ module _ (T : Ended) {X : Type 0} (seen : (κs : Lfts (T .signature .lifetimes))
       → promise κs a y (atExit T κs a w)
       → (seen κs x ≡ seen κs y) × (v ≡ w)
 
-pub read-once : OneSeen reader.read.ended (λ κs r. now r) reader.read.Reads.Post
-read-once κs a x y v w p q = (no-second p q, refl)
-
 -- ---- The functions over a reader are walked by hand: what each promises, and that its own clause is that.
-
-abbrev Opened : Promise opened.ended
-Opened κs a r e = (r .log ≡ a .0) × (r .place ≡ a .1 .0)
-
-abbrev HasNext : Promise has-next.ended
-HasNext κs a r e = r ≡ hasRecord (now (a .0 .log)) (a .0 .place)
 
 abbrev Next : Promise next.ended
 Next κs a r e = now r ≡ recordAt (now (a .0 .log)) (a .0 .place)
 
 abbrev Moved : Promise moved.ended
 Moved κs a r e = (r .log ≡ a .0 .log) × (r .place ≡ placeAfter (now (a .0 .log)) (a .0 .place))
-
-pub open-says : Says opened.ended (λ M 𝓤. opened.clauses 𝓤) Opened
-open-says M 𝓤 H A mem run κs a g r e = refl
-
-pub has-next-says : Says has-next.ended (λ M 𝓤. has-next.clauses 𝓤) HasNext
-has-next-says M 𝓤 H A mem run κs a g r e = refl
 
 pub next-says : Says next.ended (λ M 𝓤. next.clauses 𝓤) Next
 next-says M 𝓤 H A mem run κs a g r e = refl
@@ -73,12 +55,6 @@ moved-says M 𝓤 H A mem run κs a g r e = refl
 
 reader-once : {x y d : Reader} → (x .log ≡ d .log) × (x .place ≡ d .place) → (y .log ≡ d .log) × (y .place ≡ d .place) → x ≡ y
 reader-once p q i = record { log = no-second (p .0) (q .0) i; place = no-second (p .1) (q .1) i }
-
-pub open-once : OneAnswer opened.ended Opened
-open-once κs a x y v w p q = (reader-once {d = record { log = a .0; place = a .1 .0 }} p q, refl)
-
-pub has-next-once : OneAnswer has-next.ended HasNext
-has-next-once κs a x y v w p q = (no-second p q, refl)
 
 pub next-once : OneSeen next.ended (λ κs r. now r) Next
 next-once κs a x y v w p q = (no-second p q, refl)

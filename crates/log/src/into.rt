@@ -2,8 +2,8 @@
 use super::form::RECORD_BYTES;
 use super::form::is_log;
 use super::form::record_count;
-use super::reader::read;
 use super::record::has_record;
+use super::record::record_at;
 use outcome::Outcome;
 use words::put_bytes;
 use words::put_word;
@@ -25,7 +25,7 @@ pub fn count_into(log: &[u8], count: &mut [u8]) -> Outcome
     Outcome::Done
 }
 
-// The record at a place, by the reader.
+// The record at a place.
 pub fn record_into(log: &[u8], place: usize, into: &mut [u8]) -> Outcome
     ensures { λ r. ⌜ left r (now (into .exit)) ≡ recordCall (now (log .entry)) place (now (into .entry)) ⌝ }
 {
@@ -38,6 +38,6 @@ pub fn record_into(log: &[u8], place: usize, into: &mut [u8]) -> Outcome
     if !has_record(log, place) {
         return Outcome::NoRecord;
     }
-    put_bytes(into, 0, read(log, place));
+    put_bytes(into, 0, record_at(log, place));
     Outcome::Done
 }

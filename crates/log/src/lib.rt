@@ -13,8 +13,5 @@ pub use form::is_log;
 pub use into::count_into;
 pub use into::record_into;
 pub use reader::Reader;
-pub use reader::has_next;
 pub use reader::moved;
 pub use reader::next;
-pub use reader::open;
-pub use reader::read;

@@ -8,7 +8,7 @@ use std::fmt::Write;
 const FACE: &str = "probe";
 
 /// By hand: the public functions of which no `OneAnswer` can be stated, the theorem that each has instead, and why.
-const EXCEPTIONS: [(&str, &str, &str); 7] = [
+const EXCEPTIONS: [(&str, &str, &str); 4] = [
     (
         "relay_geo::lent::SimplexShield::step_lent",
         "step-lent-once",
@@ -16,14 +16,11 @@ const EXCEPTIONS: [(&str, &str, &str); 7] = [
          The theorem is `OneAnswer` of the promise written out, and `step-lent-says` that the function's own clause is that promise.",
     ),
     ("relay_traj::lent::RefGovernor::advance_lent", "advance-lent-once", "The same, with `advance-lent-says`."),
-    ("log::reader::open", "open-once", "The same, of a struct that holds a reference, with `open-says`."),
-    ("log::reader::has_next", "has-next-once", "The same, with `has-next-says`."),
-    ("log::reader::moved", "moved-once", "The same, with `moved-says`."),
-    ("log::reader::next", "next-once", "The same, with `next-says`; and see `read`."),
+    ("log::reader::moved", "moved-once", "The same, of a struct that holds a reference, with `moved-says`."),
     (
-        "log::reader::read",
-        "read-once",
-        "It answers a part of the lent log. What the part holds is fixed; where it lies is not said, and no code of the language can ask.",
+        "log::reader::next",
+        "next-once",
+        "The same, with `next-says`. It answers a part of the lent log: what the part holds is fixed; where it lies is not said, and no code of the language can ask.",
     ),
 ];
 

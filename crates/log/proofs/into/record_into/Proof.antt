@@ -1,4 +1,4 @@
--- `log::into::record_into`: the tests in their order, then what the reader hands out. Assumes nothing.
+-- `log::into::record_into`: the tests in their order, then the record. Assumes nothing.
 use Rattle.laws.proofs.Prelude.{needs, eq-eqb, ne-eqb, not-true, not-false, _≡_, sym, _∙_, ap, arith, length}
 use Rattle.words.proofs.Written.{over-all}
 use Rattle.log.specs.Entry.{recordCall}
@@ -23,7 +23,7 @@ record-into-spec =
     (λ c κs.
     let r = c .before .before .before in
     let l = record-length _ _ (sym (r .has-record .ensures) ∙ not-false (r .has-record .result) (c .before .before .if3 .left)) in
-    omega (arith, ap length (c .read .ensures), l, r .before .before .before .if1 .left))
+    omega (arith, ap length (c .record-at .ensures), l, r .before .before .before .if1 .left))
     (λ c. search needs)
     (λ c.
     let d = c .before .before .before in
@@ -32,6 +32,6 @@ record-into-spec =
     let there = not-false (r .has-record .result) (d .before .before .if3 .left) in
     let l = record-length _ _ (sym (r .has-record .ensures) ∙ there) in
     let into = i .before .before .before .before .args .into .now in
-    let same : length into ≡ length (d .read .result .now) = i .before .if1 .left ∙ sym (ap length (d .read .ensures) ∙ l) in
+    let same : length into ≡ length (d .record-at .result .now) = i .before .if1 .left ∙ sym (ap length (d .record-at .ensures) ∙ l) in
     handed _ _ into (i .before .if1 .left) (sym (i .is-log .ensures) ∙ not-false (i .is-log .result) (r .before .if2 .left)) (sym (r .has-record .ensures) ∙ there)
-    (c .before .before .put-bytes .ensures ∙ over-all into (d .read .result .now) same ∙ d .read .ensures)))
+    (c .before .before .put-bytes .ensures ∙ over-all into (d .record-at .result .now) same ∙ d .record-at .ensures)))

@@ -2,7 +2,7 @@
 use Rattle.laws.proofs.Prelude.{_≡_, refl, _∙_, ap, Bool, true, false, not, cond, T, Float, nan, ofBits}
 use Rattle.relay_math.specs.{F32.{0·0, isFinite}, Exact.inRange, declared.{Vec3.Vec3, BodyRate.BodyRate}}
 use Rattle.relay_geo.specs.{declared.{attitude.{Attitude.the-variants.Refused, Feedforward.Feedforward}, controller.GeoGains.GeoGains, set.RecoverableSet.RecoverableSet}, Vectors.{norm, sanitise3}}
-use Rattle.relay_geo.specs.{Attitude.{thrustForce, thrustAxisNed, thrustAttitude, tooWeak, flatnessOmegaFf}, Inner.{feedforwardFrom, thrustOf, feedforwardOn}, Set.minusInfinity}
+use Rattle.relay_geo.specs.{Attitude.{thrustForce, thrustAxisNed, thrustAttitude, tooWeak, flatnessOmegaFf}, Inner.{thrustOf, feedforwardOn}, Set.minusInfinity}
 use Rattle.relay_geo.proofs.{Accepts.feedforward-shares, NoAttitude.bad-heading-none}
 use Rattle.latch.specs.Latch.{latch}
 use Rattle.joint_tick.specs.declared.{profile.Profile.the-variants.{Whole, LostRotor}, state.{State.State, TickInput.TickInput}, stages.{Reference.Reference, Guided.Guided}}
@@ -16,7 +16,7 @@ zeros = record { 0 = (0·0, 0·0, 0·0) }
 
 -- the feedforward "takes an R_d and there is none"
 no-feedforward : (a j : Vec3) (yaw yawRate : Float) → thrustAttitude a yaw ≡ Refused → flatnessOmegaFf a j yaw yawRate ≡ rate.Refused
-unfolding feedforwardFrom feedforwardOn thrustOf
+unfolding feedforwardOn thrustOf
 no-feedforward a j yaw yawRate e = rw (feedforward-shares a j yaw yawRate, e) (either (tooWeak (norm (thrustForce a))))
   where
     either : (b : Bool) → _≡_ {A = Feedforward} (cond b rate.Refused rate.Refused) rate.Refused

@@ -15,7 +15,7 @@ use relay_math::Vec3;
 ghost use mathlib.Core.Path.{_≡_};
 ghost use Rattle.relay_geo.specs.Vectors.{GRAVITY-NED, cross, dot, norm, normalize, identity3, transpose3, matmul3, vee, sanitise3};
 ghost use Rattle.relay_geo.specs.Attitude.{quatToRotmat, desiredAttitude, thrustAxisNed, thrustAttitude, flatnessOmegaFf};
-ghost use Rattle.relay_geo.specs.Inner.{feedforwardFrom};
+ghost use Rattle.relay_geo.specs.Inner.{thrustOf, feedforwardOn};
 ghost use Rattle.relay_geo.specs.Controller.{FALCON-QUAD, psi, attitudeError, attitudeErrorReduced, momentReduced, moment, desiredRate, tick};
 ghost use Rattle.relay_geo.specs.Set.{newSet, margin, recoverable};
 ghost use Rattle.relay_geo.specs.Shield.{newShield, step, filter};
@@ -212,10 +212,10 @@ pub extern "C" fn probe_feedforward_from(
     yaw: f32,
     yaw_rate: f32,
 ) -> RateAnswer
-    ensures { λ r. ⌜ r ≡ rateAnswer (feedforwardFrom «a_cmd» «j_cmd» «yaw_rate» (thrustAttitude «a_cmd» yaw)) ⌝ }
+    ensures { λ r. ⌜ r ≡ rateAnswer (feedforwardOn (thrustOf «a_cmd») «j_cmd» «yaw_rate» (thrustAttitude «a_cmd» yaw)) ⌝ }
 {
-    rate_answer(relay_geo::feedforward_from(
-        a_cmd,
+    rate_answer(relay_geo::feedforward_on(
+        relay_geo::thrust_of(a_cmd),
         j_cmd,
         yaw_rate,
         relay_geo::thrust_attitude(a_cmd, yaw),

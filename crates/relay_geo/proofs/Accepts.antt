@@ -3,7 +3,7 @@ use Rattle.laws.proofs.Prelude.{_≡_, refl, sym, _∙_, Bool, true, false, not
 use Rattle.relay_math.{specs.{declared.Vec3.Vec3, F32.{1e-3, isFinite, finiteAbove}}, proofs.Order.{le-is-not-above, lt-trans}}
 use Rattle.relay_geo.specs.{declared.{vectors.Direction.the-variants.Axis, attitude.Attitude.{Attitude, the-variants.{Matrix, Refused}}}, Vectors.{1e-9, norm, long, over, normalize, givesAxis}}
 use Rattle.relay_geo.specs.Attitude.{thrustForce, thrustAxisNed, thrustAttitude, tooWeak, rateFrom, flatnessOmegaFf, givesMatrix, givesRate}
-use Rattle.relay_geo.specs.Inner.{feedforwardFrom, thrustOf, attitudeOn, feedforwardOn}
+use Rattle.relay_geo.specs.Inner.{thrustOf, attitudeOn, feedforwardOn}
 use Rattle.relay_geo.specs.declared.attitude.Feedforward.the-variants as rate
 
 -- "`normalize` refuses unless the norm is finite and above 1e-9."
@@ -40,11 +40,11 @@ unfolding thrustAxisNed normalize
 same-axis a w = rw (strong-long (norm (thrustForce a)) w)
 
 -- So the attitude that the feedforward builds is that of the acceleration and the heading, and a caller may build it once.
-pub feedforward-shares : (a j : Vec3) (yaw yawRate : Float) → flatnessOmegaFf a j yaw yawRate ≡ feedforwardFrom a j yawRate (thrustAttitude a yaw)
-unfolding flatnessOmegaFf feedforwardFrom feedforwardOn thrustOf thrustAttitude
+pub feedforward-shares : (a j : Vec3) (yaw yawRate : Float) → flatnessOmegaFf a j yaw yawRate ≡ feedforwardOn (thrustOf a) j yawRate (thrustAttitude a yaw)
+unfolding flatnessOmegaFf feedforwardOn thrustOf thrustAttitude
 feedforward-shares a j yaw yawRate = go (tooWeak (norm (thrustForce a))) refl
   where
-    go : (w : Bool) → tooWeak (norm (thrustForce a)) ≡ w → flatnessOmegaFf a j yaw yawRate ≡ feedforwardFrom a j yawRate (thrustAttitude a yaw)
+    go : (w : Bool) → tooWeak (norm (thrustForce a)) ≡ w → flatnessOmegaFf a j yaw yawRate ≡ feedforwardOn (thrustOf a) j yawRate (thrustAttitude a yaw)
     go true w = rw w
     go false w = rw (w, same-axis a w)
 
@@ -54,7 +54,6 @@ unfolding thrustOf attitudeOn thrustAttitude thrustAxisNed normalize
 shared-attitude a yaw = refl
 
 pub shared-feedforward : (a j : Vec3) (yaw yawRate : Float) → feedforwardOn (thrustOf a) j yawRate (thrustAttitude a yaw) ≡ flatnessOmegaFf a j yaw yawRate
-unfolding feedforwardFrom
 shared-feedforward a j yaw yawRate = sym (feedforward-shares a j yaw yawRate)
 
 given : (s : Bool) (c : Float) (b3 j : Vec3) (yawRate : Float) (r : Attitude) → givesRate (cond (not s) rate.Refused (rateFrom c b3 j yawRate r)) ≡ (s && givesMatrix r)
@@ -65,7 +64,7 @@ given false c b3 j yawRate r = refl
 -- Numbers exactly if the norm is finite and above 1e-3, and the attitude exists.
 pub feedforward-accepts : (a j : Vec3) (yaw yawRate : Float)
     → let c = norm (thrustForce a) in givesRate (flatnessOmegaFf a j yaw yawRate) ≡ (finiteAbove 1e-3 c && givesMatrix (thrustAttitude a yaw))
-unfolding feedforwardFrom feedforwardOn thrustOf
+unfolding feedforwardOn thrustOf
 feedforward-accepts a j yaw yawRate =
     let c = norm (thrustForce a) in
     rw (feedforward-shares a j yaw yawRate, strong c) (given (finiteAbove 1e-3 c) c (over (thrustForce a) c) j yawRate (thrustAttitude a yaw))

@@ -22,9 +22,6 @@ thrust-axis-ned-once κs a x y v w p q = (no-second p q, refl)
 pub thrust-attitude-once : OneAnswer attitude.thrust_attitude.ended attitude.thrust_attitude.Reads.Post
 thrust-attitude-once κs a x y v w p q = (no-second p q, refl)
 
-pub feedforward-from-once : OneAnswer attitude.feedforward_from.ended attitude.feedforward_from.Reads.Post
-feedforward-from-once κs a x y v w p q = (no-second p q, refl)
-
 pub flatness-omega-ff-once : OneAnswer attitude.flatness_omega_ff.ended attitude.flatness_omega_ff.Reads.Post
 flatness-omega-ff-once κs a x y v w p q = (no-second p q, refl)
 

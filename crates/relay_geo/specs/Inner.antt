@@ -21,7 +21,3 @@ unfoldable pub feedforwardOn : Thrust → Vec3 → Float → Attitude → Feedfo
 feedforwardOn t j yawRate attitude =
     let c = t .norm in
     cond (tooWeak c) rate.Refused (rateFrom c (over (t .force) c) j yawRate attitude)
-
--- the same of an acceleration
-unfoldable pub feedforwardFrom : Vec3 → Vec3 → Float → Attitude → Feedforward
-feedforwardFrom a j yawRate attitude = feedforwardOn (thrustOf a) j yawRate attitude

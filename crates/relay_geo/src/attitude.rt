@@ -16,7 +16,7 @@ use relay_math::sincos;
 use relay_math::sqrtf;
 ghost use mathlib.Core.Path.{_≡_};
 ghost use Rattle.relay_geo.specs.Attitude.{quatToRotmat, heading, desiredAttitude, thrustForce, thrustAxisNed, thrustAttitude, tooWeak, rateFrom, flatnessOmegaFf};
-ghost use Rattle.relay_geo.specs.Inner.{feedforwardFrom, thrustOf, attitudeOn, feedforwardOn};
+ghost use Rattle.relay_geo.specs.Inner.{thrustOf, attitudeOn, feedforwardOn};
 
 // A rotation from body to NED, or a plain refusal that carries no number.
 pub enum Attitude {
@@ -162,7 +162,8 @@ pub fn attitude_on(t: Thrust, yaw: f32) -> Attitude
     }
 }
 
-// The feedforward of this thrust for a caller that has the attitude already.
+// The feedforward of this thrust for a caller that has the attitude already: of an acceleration's thrust, with its `thrust_attitude`, it is that of
+// `flatness_omega_ff` (`feedforward-shares` of proofs/Accepts.antt).
 pub fn feedforward_on(t: Thrust, j_cmd: Vec3, yaw_rate: f32, r_d: Attitude) -> Feedforward
     ensures { λ r. ⌜ r ≡ feedforwardOn t «j_cmd» «yaw_rate» «r_d» ⌝ }
 {
@@ -173,13 +174,6 @@ pub fn feedforward_on(t: Thrust, j_cmd: Vec3, yaw_rate: f32, r_d: Attitude) -> F
     }
     let b3 = Vec3(tf.0 / c, tf.1 / c, tf.2 / c);
     rate_from(c, b3, j_cmd, yaw_rate, r_d)
-}
-
-// The same of an acceleration: with `thrust_attitude(a_cmd, yaw)` it is that of `flatness_omega_ff` (`feedforward-shares` of proofs/Accepts.antt).
-pub fn feedforward_from(a_cmd: Vec3, j_cmd: Vec3, yaw_rate: f32, r_d: Attitude) -> Feedforward
-    ensures { λ r. ⌜ r ≡ feedforwardFrom «a_cmd» «j_cmd» «yaw_rate» «r_d» ⌝ }
-{
-    feedforward_on(thrust_of(a_cmd), j_cmd, yaw_rate, r_d)
 }
 
 // The body rate that a flat trajectory demands, from its acceleration, jerk, heading and heading's rate. The Rust's comment has the

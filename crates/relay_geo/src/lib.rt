@@ -12,7 +12,6 @@ pub use attitude::Feedforward;
 pub use attitude::Thrust;
 pub use attitude::attitude_on;
 pub use attitude::desired_attitude;
-pub use attitude::feedforward_from;
 pub use attitude::feedforward_on;
 pub use attitude::flatness_omega_ff;
 pub use attitude::quat_to_rotmat;

@@ -65,8 +65,8 @@ fn attitudes(n: u32, i: &Row, o: &mut Row) {
         // with the attitude worked out before, as the joint tick has it
         _ => put_ahead(
             o,
-            relay_geo::feedforward_from(
-                a,
+            relay_geo::feedforward_on(
+                relay_geo::thrust_of(a),
                 vec_at(i, 3),
                 float_at(i, 7),
                 relay_geo::thrust_attitude(a, float_at(i, 6)),

@@ -5,9 +5,10 @@ use Rattle.relay_math.specs.F32.{isFinite}
 use Rattle.words.specs.Words.{floatOf, flag}
 use Rattle.latch.specs.Latch.{FliesAt}
 use Rattle.joint_tick.specs.declared.profile.Profile.{Profile, the-variants.{Whole, LostRotor}}
+use Rattle.image.specs.Passed.{plannerWord}
 use Rattle.slow.{specs.Back.lookBack, proofs.Slow.looks-back}
 use Rattle.audit.specs.declared.Verdict.{Verdict, the-variants.{AllRight, FirstWrong}}
-use Rattle.audit.specs.{Right.{commandWord, flagWord, passes, passesThird, planners, finiteOn, finites, right, plannersWord, marginsIn, rightAt, RightAt}, Verdict.{verdictFrom, verdictOf, Says}}
+use Rattle.audit.specs.{Right.{commandWord, flagWord, passes, passesThird, planners, finiteOn, finites, right, marginsIn, rightAt, RightAt}, Verdict.{verdictFrom, verdictOf, Says}}
 
 -- ---- "Answer yes exactly if all hold, else the first wrong record, counted from 0."
 
@@ -67,7 +68,7 @@ all-three : (p : ℕ → Bool) → ((k : ℕ) → k < 3 → p k ≡ true) → (p
 all-three p f = rw (f 0 (omega arith), f 1 (omega arith), f 2 (omega arith))
 
 abbrev carried : Profile → List ℕ → ℕ → Bool
-carried profile r axis = eqb (commandWord r axis) (plannersWord profile r axis)
+carried profile r axis = eqb (commandWord r axis) (plannerWord profile r axis)
 
 planners-are : (profile : Profile) (r : List ℕ) → planners profile r ≡ (carried profile r 0 && carried profile r 1 && carried profile r 2)
 unfolding planners passes passesThird
@@ -75,7 +76,7 @@ planners-are Whole r = refl
 planners-are LostRotor r = refl
 
 module _ (profile : Profile) (r : List ℕ) where
-  planners-each : (planners profile r ≡ true) ↔ ((axis : ℕ) → axis < 3 → commandWord r axis ≡ plannersWord profile r axis)
+  planners-each : (planners profile r ≡ true) ↔ ((axis : ℕ) → axis < 3 → commandWord r axis ≡ plannerWord profile r axis)
   planners-each = (
     λ e axis h. eqb-true _ _ (each (carried profile r) (sym (planners-are profile r) ∙ e) axis h),
     λ f. planners-are profile r ∙ all-three (carried profile r) (λ axis h. eq-eqb _ _ (f axis h)),
@@ -86,7 +87,7 @@ module _ (profile : Profile) (r : List ℕ) where
   finites-each = (each (λ (axis : ℕ). isFinite (floatOf (commandWord r axis))), all-three (λ (axis : ℕ). isFinite (floatOf (commandWord r axis))))
 
   -- so a record that has the flag which is demanded, and the words which it asks for, is right
-  pub by-flag : (demanded : Bool) → flagWord r ≡ flag demanded → (demanded ≡ false → (axis : ℕ) → axis < 3 → commandWord r axis ≡ plannersWord profile r axis)
+  pub by-flag : (demanded : Bool) → flagWord r ≡ flag demanded → (demanded ≡ false → (axis : ℕ) → axis < 3 → commandWord r axis ≡ plannerWord profile r axis)
       → (demanded ≡ true → (axis : ℕ) → axis < 3 → isFinite (floatOf (commandWord r axis)) ≡ true) → right profile demanded r ≡ true
   unfolding right
   by-flag true e f g = rw (eq-eqb (flagWord r) 1 e) (finites-each .1 (g refl))

@@ -1,23 +1,11 @@
 -- One turn of the pass over a log: the latch that is carried along says what looking back does. Assumes nothing.
 use Rattle.laws.proofs.Prelude.{ℕ, zero, suc, _+_, _-_, _*_, _/_, _<_, _≤_, _≡_, refl, _∙_, Bool, true, false, not, _&&_, cond, List, [], _∷_, le-of-suc-le-suc, add-one, arith, lt-ltb, not-true}
-use Rattle.laws.proofs.Prelude.{not-false, ltb, Float, nan, lt, ofBits, toBits, length, getD, take, drop, length-drop, length-take-le, held}
-use Rattle.relay_math.{specs.F32.isFinite, proofs.Order.finite-number}
-use Rattle.words.{specs.Words.floatOf, proofs.Back.canon-itself}
+use Rattle.laws.proofs.Prelude.{not-false, ltb, Float, nan, lt, length, getD, take, drop, length-drop, length-take-le}
 use Rattle.latch.{specs.Latch.{releases, engages, latch}, proofs.LatchFlies.released-is-calm}
 use Rattle.joint_tick.specs.declared.profile.Profile.{Profile}
 use Rattle.slow.specs.Back.{lookBack}
 use Rattle.log.{specs.{Form.{RECORD-BYTES, TRAILER-BYTES, MOST-RECORDS, countOf, isLog}, Records.{bytesAt, records, hasRecord, recordAt}}, proofs.{Taken.is-a-log, Reading.{records-count, record-is}}}
-use Rattle.audit.specs.{declared.Verdict.the-variants.FirstWrong, Right.{passedOn, marginIn, marginsIn, right, rightAt}, Verdict.verdictFrom}
-
--- ---- a word that is passed on, by the float x that it was read as
-
-pub finite-itself : (w : ℕ) {x : Float} → w < 4294967296 → x ≡ floatOf w → isFinite x ≡ true → passedOn w ≡ w
-unfolding passedOn
-finite-itself w h e f = let n : isFinite (floatOf w) ≡ true = rw (← e) f in rw n (canon-itself w h (finite-number (floatOf w) (held n)))
-
-pub other-zero : (w : ℕ) {x : Float} → x ≡ floatOf w → isFinite x ≡ false → passedOn w ≡ 0
-unfolding passedOn ofBits toBits
-other-zero w e f = let n : isFinite (floatOf w) ≡ false = rw (← e) f in rw n
+use Rattle.audit.specs.{declared.Verdict.the-variants.FirstWrong, Right.{marginIn, marginsIn, right, rightAt}, Verdict.verdictFrom}
 
 -- ---- stepping is looking back, with b what the earlier margins say, r that this one releases and g that it engages
 

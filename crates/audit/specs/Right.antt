@@ -2,16 +2,17 @@
 use Prim.Native.Nat.{ℕ, suc, _+_, _<_}
 use mathlib.Core.Path.{_≡_}
 use mathlib.Core.Logic.{_⊎_, _↔_}
-use mathlib.Core.Bool.{Bool, true, false, _&&_, cond}
+use mathlib.Core.Bool.{Bool, true, false, _&&_}
 use mathlib.Core.List.{List, [], map}
 use lib.Dec.{eqb}
 use lib.Ieee.{Float}
 use lib.ListN.{getD}
-use Rattle.relay_math.specs.F32.{0·0, isFinite, finiteOr}
-use Rattle.words.specs.Words.{word, float, floatOf, bits}
+use Rattle.relay_math.specs.F32.{isFinite}
+use Rattle.words.specs.Words.{word, float, floatOf}
 use Rattle.joint_tick.specs.declared.profile.Profile.{Profile}
 use Rattle.joint_tick.specs.declared.profile.Profile.the-variants.{Whole, LostRotor}
 use Rattle.image.specs.Layout.{INPUT-WORDS, AGILE, COMMAND, FLAG, MARGIN}
+use Rattle.image.specs.Passed.{passedOn, plannerWord}
 use Rattle.latch.specs.Latch.{FliesAt}
 use Rattle.slow.specs.Back.{lookBack}
 
@@ -30,10 +31,6 @@ abbrev pub marginIn : List ℕ → Float
 marginIn r = float r (INPUT-WORDS + MARGIN)
 
 -- ---- what each flag asks of the command, in bits
-
--- "non-finite made zero": the word of the number that is passed on. A finite word is passed on as it stands (`finite-itself`), -0.0 as 80000000.
-unfoldable pub passedOn : ℕ → ℕ
-passedOn w = bits (finiteOr (floatOf w) 0·0)
 
 -- on one axis the command is the planner's
 unfoldable pub passes : List ℕ → ℕ → Bool
@@ -78,14 +75,9 @@ rightAt profile enter exit rs i = right profile (lookBack enter exit (marginsIn 
 
 -- ---- the same in the user's words: what a right record at place i shows
 
--- the planner's word on an axis, as it is passed on
-abbrev pub plannersWord : Profile → List ℕ → ℕ → ℕ
-plannersWord Whole r axis = passedOn (agileWord r axis)
-plannersWord LostRotor r axis = cond (eqb axis 2) 0 (passedOn (agileWord r axis))
-
 -- it names who flies by the user's rule, which knows no flag; the planner's words are carried as they are passed on, the fallback's are finite
 pub record RightAt (profile : Profile) (enter exit : Float) (rs : List (List ℕ)) (i : ℕ) : Type 0 where
   pub flag : (flagWord (getD rs i []) ≡ 0) ⊎ (flagWord (getD rs i []) ≡ 1)
   pub flies : (flagWord (getD rs i []) ≡ 0) ↔ FliesAt enter exit (marginsIn rs) i
-  pub planner : flagWord (getD rs i []) ≡ 0 → (axis : ℕ) → axis < 3 → commandWord (getD rs i []) axis ≡ plannersWord profile (getD rs i []) axis
+  pub planner : flagWord (getD rs i []) ≡ 0 → (axis : ℕ) → axis < 3 → commandWord (getD rs i []) axis ≡ plannerWord profile (getD rs i []) axis
   pub fallback : flagWord (getD rs i []) ≡ 1 → (axis : ℕ) → axis < 3 → isFinite (floatOf (commandWord (getD rs i []) axis)) ≡ true

@@ -22,7 +22,8 @@ ghost use lib.Ieee.{lt};
 ghost use Rattle.outcome.specs.Outcomes.{left};
 ghost use Rattle.log.specs.Form.{RECORD-BYTES, isLog};
 ghost use Rattle.log.specs.Records.{records};
-ghost use Rattle.audit.specs.Right.{passedOn, passes, passesThird, planners, finiteOn, finites, right};
+ghost use Rattle.image.specs.Passed.{passedOn};
+ghost use Rattle.audit.specs.Right.{passes, passesThird, planners, finiteOn, finites, right};
 ghost use Rattle.audit.specs.Verdict.{verdictOf, verdictWord};
 ghost use Rattle.audit.specs.Entry.{checkCall};
 

@@ -3,4 +3,5 @@ pub mod Answered
 pub mod Fitting
 pub mod AnswerFits
 pub mod Moved
+pub mod Passed
 pub mod OneAnswer

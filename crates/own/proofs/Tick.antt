@@ -1,20 +1,20 @@
 -- The record of one accepted tick of a run is right by the flag that the shield then has. Assumes nothing.
-use Rattle.laws.proofs.Prelude.{_≡_, refl, sym, ap, subst, _∙_, Bool, true, false, not, cond, List, [], _∷_, _++_, ℕ, zero, suc, _+_, _*_, _<_, _≤_, arith, eqb, binary32, length, getD}
+use Rattle.laws.proofs.Prelude.{_≡_, refl, sym, ap, subst, _∙_, Bool, true, false, not, cond, List, [], _∷_, _++_, map, ℕ, zero, suc, _+_, _*_, _<_, _≤_, arith, eqb, binary32, length, getD}
 use Rattle.laws.proofs.Prelude.{List·getD-append, no, both}
 use lib.Ieee.Bits.{is-true, ofBits-toBits}
 use Rattle.relay_math.specs.{declared.Vec3.Vec3, F32.isFinite}
 use Rattle.words.{specs.Words.{word, float, floatOf, bits, flag}, proofs.Back.four-after}
 use Rattle.latch.specs.Latch.{latch}
 use Rattle.relay_geo.{specs.Vectors.Finite3, proofs.Finite.sanitise3-finite}
-use Rattle.joint_tick.{specs.{declared.profile.Profile.the-variants.{Whole, LostRotor}, Profile.{isProfile, profileOf}, Tick.guidance}, proofs.Shielding.tick-fallback}
-use Rattle.image.{specs.{Layout.{INPUT-WORDS, INPUT-BYTES, ANSWER-BYTES, AGILE, COMMAND, FLAG, MARGIN, SETUP-PROFILE}, Image.stateAt, Inputs.inputAt, Fits.FitsVec}, proofs.Answered.command-words}
+use Rattle.joint_tick.{specs.{declared.profile.Profile.{Profile, the-variants.{Whole, LostRotor}}, Profile.{isProfile, profileOf}, Tick.guidance}, proofs.Shielding.tick-fallback}
+use Rattle.image.{specs.{Layout.{INPUT-WORDS, INPUT-BYTES, ANSWER-BYTES, AGILE, COMMAND, FLAG, MARGIN, PROFILE, SETUP-PROFILE}, Image.stateAt, Inputs.inputAt, Passed.{passedOn, plannerWord}, Fits.FitsVec}, proofs.Answered.command-words}
 use Rattle.image.proofs.AnswerFits.{command-fits}
 use Rattle.outcome.{specs.{declared.Outcome.the-variants.Done, Outcomes.{isDone, Table, firstOf, Called}}, proofs.Tables.{refuses, done-none, done-exactly, same, either}}
 use Rattle.lent_tick.{specs.{Unbroken.Unbroken, Tick.{tickTable, tickFrom}, Steps.shieldOf}, proofs.Flown.taken-unbroken}
 use Rattle.route.specs.{Form.{formTable, formRefusal}, Entry.routeRefusal}
-use Rattle.runs.specs.{Runs.{Course, Segment, Route, Tick, Call, tickOf, sourceOn, guided, start, imageAfter, RightCourse, Right}, DemandThree.{enterOf, exitOf, cleanWord, commandWords, Shows}}
+use Rattle.runs.specs.{Runs.{Course, Segment, Route, Tick, Call, tickOf, sourceOn, guided, start, imageAfter, RightCourse, Right}, DemandThree.{enterOf, exitOf, commandWords, Shows}}
 use Rattle.runs.proofs.{Shown.{refusalOn, flying-is, done, tick-done, flag-shown, shows}, Going.{ran, latched}, Kept.profile-over-any-run}
-use Rattle.audit.{specs.Right.{agileWord, commandWord, flagWord, marginIn, passedOn, plannersWord, right}, proofs.Said.by-flag}
+use Rattle.audit.{specs.Right.{commandWord, flagWord, marginIn, right}, proofs.Said.by-flag}
 
 -- ---- words of an input with an answer behind it
 
@@ -51,22 +51,17 @@ accepted-right image t d =
     (subst (λ (c : Called). isDone (c .outcome) ≡ true → isDone o ≡ true) (sym (flying-is (t .course) image (t .input) (t .answer)))
     (either (λ (c : Called). isDone (c .outcome) ≡ true → isDone o ≡ true) o (λ e z. e) (λ e z. z)) d)
 
--- ---- the planner's words, by the profile's word (b: it is 1)
+-- ---- words axis by axis, and the planner's
 
-by-profile : (b : Bool) (r : List ℕ) (axis : ℕ) → axis < 3
-    → getD (passedOn (agileWord r 0) ∷ passedOn (agileWord r 1) ∷ cond b 0 (passedOn (agileWord r 2)) ∷ []) axis 0 ≡ plannersWord (cond b LostRotor Whole) r axis
-by-profile true r zero h = refl
-by-profile true r (suc zero) h = refl
-by-profile true r (suc (suc zero)) h = refl
-by-profile false r zero h = refl
-by-profile false r (suc zero) h = refl
-by-profile false r (suc (suc zero)) h = refl
-by-profile b r (suc (suc (suc axis))) h = absurd (omega arith)
+by-axis : (f : ℕ → ℕ) (axis : ℕ) → axis < 3 → getD (map f (0 ∷ 1 ∷ 2 ∷ [])) axis 0 ≡ f axis
+by-axis f zero h = refl
+by-axis f (suc zero) h = refl
+by-axis f (suc (suc zero)) h = refl
+by-axis f (suc (suc (suc axis))) h = absurd (omega arith)
 
-planners-are : {q q′ x x′ y y′ z z′ : ℕ} → q ≡ q′ → x′ ≡ x → y′ ≡ y → z′ ≡ z
-    → (cleanWord x ∷ cleanWord y ∷ cond (eqb q 1) 0 (cleanWord z) ∷ []) ≡ (passedOn x′ ∷ passedOn y′ ∷ cond (eqb q′ 1) 0 (passedOn z′) ∷ [])
-unfolding passedOn
-planners-are p a b c = rw (p, a, b, c)
+same-planner : (p : Profile) (b c : List ℕ) (axis : ℕ) → word b (AGILE + axis) ≡ word c (AGILE + axis) → plannerWord p b axis ≡ plannerWord p c axis
+same-planner Whole b c axis e = ap passedOn e
+same-planner LostRotor b c axis e = ap (λ (w : ℕ). cond (eqb axis 2) 0 (passedOn w)) e
 
 three : {x x′ y y′ z z′ : ℕ} → x ≡ x′ → y ≡ y′ → z ≡ z′ → (x ∷ y ∷ z ∷ []) ≡ (x′ ∷ y′ ∷ z′ ∷ [])
 three a b c = rw (a, b, c)
@@ -119,17 +114,14 @@ module _ (setup : List ℕ) (calls : List Call) (t : Tick) (p : isProfile (word 
 
   -- a command's word, by its axis
   command-kept : (axis : ℕ) → axis < 3 → commandWord kept axis ≡ getD (commandWords answer) axis 0
-  command-kept zero h = in-answer COMMAND
-  command-kept (suc zero) h = in-answer (COMMAND + 1)
-  command-kept (suc (suc zero)) h = in-answer (COMMAND + 2)
-  command-kept (suc (suc (suc axis))) h = absurd (omega arith)
+  command-kept axis h = let e : INPUT-WORDS + COMMAND + axis ≡ INPUT-WORDS + (COMMAND + axis) = omega arith in rw e (in-answer (COMMAND + axis) ∙ sym (by-axis (λ (k : ℕ). word answer (COMMAND + k)) axis h))
 
-  planner-kept : b ≡ false → (axis : ℕ) → axis < 3 → commandWord kept axis ≡ plannersWord (profileOf (word setup SETUP-PROFILE)) kept axis
+  planner-kept : b ≡ false → (axis : ℕ) → axis < 3 → commandWord kept axis ≡ plannerWord (profileOf (word setup SETUP-PROFILE)) kept axis
   planner-kept e axis h =
       command-kept axis h
-      ∙ ap (λ (ws : List ℕ). getD ws axis 0) (shown .planner (shown .flies .1 e)
-      ∙ planners-are (profile-over-any-run setup calls p) (in-input AGILE (omega arith)) (in-input (AGILE + 1) (omega arith)) (in-input (AGILE + 2) (omega arith)))
-      ∙ by-profile (eqb (word setup SETUP-PROFILE) 1) kept axis h
+      ∙ ap (λ (ws : List ℕ). getD ws axis 0) (shown .planner (shown .flies .1 e)) ∙ by-axis (plannerWord (profileOf (word image PROFILE)) (t .input)) axis h
+      ∙ ap (λ (w : ℕ). plannerWord (profileOf w) (t .input) axis) (profile-over-any-run setup calls p)
+      ∙ same-planner (profileOf (word setup SETUP-PROFILE)) (t .input) kept axis (sym (in-input (AGILE + axis) (omega arith)))
 
   fallback-kept : b ≡ true → (axis : ℕ) → axis < 3 → isFinite (floatOf (commandWord kept axis)) ≡ true
   fallback-kept e axis h =

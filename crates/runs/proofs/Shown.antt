@@ -1,40 +1,25 @@
 -- One tick of either kind on bytes: that it is accepted, and what its answer shows. Assumes nothing.
-use Rattle.laws.proofs.Prelude.{_≡_, refl, sym, ap, _∙_, _⊎_, inl, inr, _↔_, Bool, true, false, not, cond, List, [], _∷_, ℕ, _<_, arith, T, eqb, Float, nan, inf, fin, isNan, ofBits, toBits, length}
-use Rattle.laws.proofs.Prelude.{no}
-use Rattle.words.{specs.Words.{word, vec, float, floatOf, bits, flag, floatsOfVec, wordsOf}, proofs.Back.canon-itself}
-use Rattle.relay_math.specs.{F32.{0·0, isFinite, finiteOr}, declared.Vec3.Vec3}
+use Rattle.laws.proofs.Prelude.{_≡_, refl, sym, ap, _∙_, _⊎_, inl, inr, _↔_, Bool, true, false, List, [], _∷_, map, ℕ, arith, Float, ofBits, toBits, length}
+use Rattle.words.specs.Words.{word, vec, float, bits, flag, floatsOfVec, wordsOf}
+use Rattle.relay_math.specs.declared.Vec3.{Vec3}
 use Rattle.relay_geo.specs.Vectors.{sanitise3}
-use Rattle.joint_tick.specs.declared.{profile.Profile.the-variants.{Whole, LostRotor}, state.{TickInput.TickInput, State.State}, stages.{Reference.Reference, Ticked.Ticked}}
+use Rattle.joint_tick.specs.declared.{profile.Profile.{Profile, the-variants.{Whole, LostRotor}}, state.{TickInput.TickInput, State.State}, stages.{Reference.Reference, Ticked.Ticked}}
 use Rattle.joint_tick.{specs.Tick.{plannerOf, guidance, ticked, stateAfter}, proofs.Shielding.{tick-margin, tick-planner, tick-fallback, planner-is}}
-use Rattle.image.specs.{Layout.{PROFILE, FLAG, MARGIN, INPUT-BYTES, ANSWER-BYTES}, Parts.profileAt, Image.{fixedAt, stateAt, imageOf}, Inputs.{inputAt, answerOf}, Fits.F32}
+use Rattle.image.specs.{Layout.{PROFILE, FLAG, MARGIN, INPUT-BYTES, ANSWER-BYTES}, Parts.profileAt, Image.{fixedAt, stateAt, imageOf}, Inputs.{inputAt, answerOf}, Passed.{passedOn, plannerWord}, Fits.F32}
 use Rattle.image.proofs.{Answered.{flag-answered, margin-answered, margin-word, command-words}, AnswerFits.{margin-fits, command-fits}}
 use Rattle.outcome.specs.{declared.Outcome.{Outcome, the-variants.Done}, Outcomes.{left, lent}}
 use Rattle.lent_tick.{specs.{Unbroken.Unbroken, Tick.{tickRefusal, tickFrom}}, proofs.Flown.unbroken-taken}
 use Rattle.calls.specs.Entry.{tickCall}
 use Rattle.route.{specs.Entry.{routeRefusal, routeCall}, proofs.Taken.in-their-turn}
 use Rattle.runs.specs.Runs.{Course, Segment, Route, Tick, flying, tickOf, sourceOn, guided, RightCourse, Right}
-use Rattle.runs.specs.DemandThree.{cleanWord, plannerWords, fallbackWords, commandWords, flagOf, Shows}
+use Rattle.runs.specs.DemandThree.{plannerWords, fallbackWords, commandWords, flagOf, Shows}
 
--- ---- a word that is passed on: itself if its number is finite, else 0
+-- ---- the planner's words, by the profile
 
-finite-number : (x : Float) → isFinite x ≡ true → T (not (isNan x))
-unfolding isFinite isNan
-finite-number nan e = no e
-finite-number (inf s) e = no e
-finite-number (fin s m x) e = tt
-
-pub finite-word-itself : (w : ℕ) → w < 4294967296 → isFinite (floatOf w) ≡ true → cleanWord w ≡ w
-finite-word-itself w h e = rw e (canon-itself w h (finite-number (floatOf w) e))
-
-pub other-word-zero : (w : ℕ) → isFinite (floatOf w) ≡ false → cleanWord w ≡ 0
-unfolding ofBits toBits
-other-word-zero w e = rw e
-
--- the planner's words by the profile's word (b: it is 1)
-planner-by : (b : Bool) (v : Vec3) → wordsOf (floatsOfVec (plannerOf (cond b LostRotor Whole) record { 0 = v } .0)) ≡ bits (finiteOr (v .0) 0·0) ∷ bits (finiteOr (v .1) 0·0) ∷ cond b 0 (bits (finiteOr (v .2) 0·0)) ∷ []
-unfolding ofBits toBits
-planner-by true v = refl
-planner-by false v = refl
+planner-by : (p : Profile) (input : List ℕ) → wordsOf (floatsOfVec (plannerOf p (inputAt input .agile) .0)) ≡ map (plannerWord p input) (0 ∷ 1 ∷ 2 ∷ [])
+unfolding inputAt vec float passedOn ofBits toBits
+planner-by Whole input = refl
+planner-by LostRotor input = refl
 
 -- ---- a flag's word
 
@@ -91,10 +76,8 @@ module _ (image : List ℕ) (t : Tick) where
   words-of v e = let w = command-words (done .answer) (command-fits source s (t .input)) in rw (w .0, w .1, w .2, e)
 
   planner-words : done .answer .fallback ≡ false → commandWords answers ≡ plannerWords (word image PROFILE) (t .input)
-  unfolding inputAt vec float fixedAt profileAt
-  planner-words e =
-      words-of (plannerOf (fixedAt image .profile) (i .agile) .0) (tick-planner source s i e ∙ planner-is source s i)
-      ∙ planner-by (eqb (word image PROFILE) 1) (i .agile .0)
+  unfolding fixedAt profileAt
+  planner-words e = words-of (plannerOf (fixedAt image .profile) (i .agile) .0) (tick-planner source s i e ∙ planner-is source s i) ∙ planner-by (fixedAt image .profile) (t .input)
 
   fallback-words : done .answer .fallback ≡ true → commandWords answers ≡ fallbackWords (guided image t)
   unfolding guided

@@ -1,16 +1,17 @@
 -- The user's third demand, on bytes: what is said of one tick. Definitions only.
 use mathlib.Core.Path.{_≡_}
 use mathlib.Core.Logic.{_⊎_, _↔_}
-use mathlib.Core.Bool.{true, false, cond}
-use mathlib.Core.List.{List, [], _∷_}
+use mathlib.Core.Bool.{true, false}
+use mathlib.Core.List.{List, [], _∷_, map}
 use Prim.Native.Nat.{ℕ, _+_}
-use lib.Dec.{eqb}
 use lib.Ieee.{Float, lt}
-use Rattle.words.specs.Words.{word, float, floatOf, bits, floatsOfVec, wordsOf}
-use Rattle.relay_math.specs.F32.{0·0, isFinite, finiteOr}
+use Rattle.words.specs.Words.{word, float, bits, floatsOfVec, wordsOf}
+use Rattle.relay_math.specs.F32.{isFinite}
 use Rattle.relay_geo.specs.Vectors.{sanitise3}
 use Rattle.joint_tick.specs.declared.stages.Guided.{Guided}
-use Rattle.image.specs.Layout.{ENTER, EXIT, PROFILE, AGILE, COMMAND, FLAG, MARGIN}
+use Rattle.joint_tick.specs.Profile.{profileOf}
+use Rattle.image.specs.Layout.{ENTER, EXIT, PROFILE, COMMAND, FLAG, MARGIN}
+use Rattle.image.specs.Passed.{plannerWord}
 use Rattle.outcome.specs.Outcomes.{number}
 use Rattle.runs.specs.Runs.{Tick, tickOf, guided, start}
 
@@ -21,14 +22,9 @@ enterOf setup = float (start setup) ENTER
 abbrev pub exitOf : List ℕ → Float
 exitOf setup = float (start setup) EXIT
 
--- a word whose number is made zero if it isn't finite
-abbrev pub cleanWord : ℕ → ℕ
-cleanWord w = bits (finiteOr (floatOf w) 0·0)
-
--- the planner's three words of a tick input so treated, by the profile's word: with a rotor lost "a planner's third component is made zero, and demand 3
--- reads it so"
+-- the planner's three words of a tick input as they are passed on, by the profile's word
 abbrev pub plannerWords : ℕ → List ℕ → List ℕ
-plannerWords profile input = cleanWord (word input AGILE) ∷ cleanWord (word input (AGILE + 1)) ∷ cond (eqb profile 1) 0 (cleanWord (word input (AGILE + 2))) ∷ []
+plannerWords profile input = map (plannerWord (profileOf profile) input) (0 ∷ 1 ∷ 2 ∷ [])
 
 -- the fallback's, and those that the answer passes on
 abbrev pub fallbackWords : Guided → List ℕ

@@ -1,6 +1,7 @@
 -- `audit::passed_on`: a word of 32 bits that is finite is its number's word. Assumes nothing.
 use Rattle.laws.proofs.Prelude.{needs, sym, _∙_}
-use Rattle.audit.proofs.{Walk.{finite-itself, other-zero}, passed_on.{Statement.statement, Tie.{close, spec}}}
+use Rattle.image.proofs.Passed.{finite-itself, other-zero}
+use Rattle.audit.proofs.passed_on.{Statement.statement, Tie.{close, spec}}
 
 pub passed-on-spec : {M : Type 1} → statement M
 passed-on-spec =

@@ -2,7 +2,7 @@
 use Rattle.laws.proofs.Prelude.{_≡_, refl, sym, ap, subst, _∙_, inl, inr, List, [], _∷_, _++_, ℕ, zero, suc, _+_, _-_, _*_, _/_, _%_, _≤_, _<_, arith, le-ltb, ne-eqb, length, getD, take, drop}
 use Rattle.laws.proofs.Prelude.{length-append, length-drop, take-append-drop, take-at, drop-at, getD-take, getD-drop, length-take-le, le-or-lt}
 use lib.{ListN.List·getD-eq-default, Seq.{drop-cons, drop-drop}}
-use Rattle.route.specs.Form.{LEG-BYTES}
+use Rattle.image.specs.Layout.{LEG-BYTES}
 use Rattle.pattern.specs.{declared.form.Head.{Head, the-variants.{Neither, Leg, Repeat}}, Tree.{Pattern, nothing, leg, repeat, bytesOf, Fits}}
 use Rattle.pattern.specs.Read.{Read, broken, is, headOf, sizeOf, repeated, itemOf, append, before, itemsOf, read, insideOf, itemWithin}
 use Rattle.pattern.proofs.{Heads.{a-leg, a-repeat, Room, head-room, Tags, head-tags, size-some}, Trees.{read-none, read-here, items-none, items-here}}

@@ -4,7 +4,8 @@ use Rattle.laws.proofs.Prelude.{sets, slice, length-sets, getD-take}
 use lib.Seq.{take-length}
 use Rattle.words.{specs.Words.{bytesOf, Put}, proofs.Written.{sets-append, whole}}
 use Rattle.outcome.specs.{declared.Outcome.{Outcome, the-variants.{Done, BadPattern, LegCount, NoRoom, LegsApart}}, Outcomes.left}
-use Rattle.route.specs.Form.{LEG-BYTES, MOST-LEGS}
+use Rattle.image.specs.Layout.{LEG-BYTES}
+use Rattle.route.specs.Form.{MOST-LEGS}
 use Rattle.pattern.specs.{declared.walk.Walked.the-variants.{Broken, Past}, Tree.{Pattern, flown}, Read.{broken, is, read}, Walk.{legIn, capped, walkedTo, Walk, Found, Places}}
 use Rattle.pattern.specs.Entry.{DEEPEST, joined, routeLength, routeOf, allMeet, legsRead, expandRefusal, Buffers, buffers, expandCall, routeCall}
 use Rattle.pattern.proofs.{Runs.run-slice, Walks.{capped-least, counted}, Going.{came, was-broken}, Long.{AllLong, Long, long-read, long-places}, Found.legsAt}

@@ -3,9 +3,9 @@ use Rattle.laws.proofs.Prelude.{_≡_, refl, sym, ap, subst, _∙_, true, false
 use Rattle.laws.proofs.Prelude.{add-one, arith, le-ltb, eq-eqb, ne-eqb, ltb-false, eqb-false, not-false, length, getD, take, drop, length-append, List·getD-append, sets, sets-eq, drop-at}
 use Rattle.laws.proofs.Prelude.{getD-append-add, no, both}
 use Rattle.words.{specs.Words.{fourBytes, word, float, floatOf, vec, bytesOf as wordBytes}, proofs.Back.{four-after, word-bytesOf}}
-use Rattle.image.specs.Parts.{legAt}
+use Rattle.image.specs.{Layout.LEG-BYTES, Parts.legAt}
 use Rattle.outcome.{specs.{declared.Outcome.the-variants.Done, Outcomes.{isDone, left}}, proofs.Tables.{done-none, refused-keeps, either}}
-use Rattle.route.{specs.Form.{LEG-BYTES, TRAILER-BYTES, MOST-LEGS, countOf, backOf, legOf, legsMeet, formRefusal, allMeet as routeMeets}, proofs.Joins.joins-say}
+use Rattle.route.{specs.Form.{TRAILER-BYTES, MOST-LEGS, countOf, backOf, legOf, legsMeet, formRefusal, allMeet as routeMeets}, proofs.Joins.joins-say}
 use Rattle.pattern.specs.{Tree.{Pattern, flown, times, repeat, bytesOf, Fits}, Read.{Read, broken, is, read}}
 use Rattle.pattern.specs.Entry.{DEEPEST, joined, routeLength, routeOf, allMeet, legsRead, legsOf, expandTable, expandRefusal, buffers, Expanded, withRoute, expandCall, routeCall}
 use Rattle.pattern.proofs.{Runs.run-slice, Long.{AllLong, Long, long-read}, Call.expanded, Back.reads-back}

@@ -3,8 +3,8 @@ use Rattle.laws.proofs.Prelude.{_≡_, refl, sym, ap, subst, _∙_, Bool, true,
 use Rattle.laws.proofs.Prelude.{length, getD, take, drop, length-drop, length-map, length-append, sets, length-take-le, getD-take, take-all}
 use lib.{ListN.List·getD-map, Seq.{take-suc, drop-cons}}
 use Rattle.words.proofs.Written.{sets-append}
-use Rattle.image.specs.Parts.{legAt}
-use Rattle.route.specs.Form.{LEG-BYTES, legsMeet}
+use Rattle.image.specs.{Layout.LEG-BYTES, Parts.legAt}
+use Rattle.route.specs.Form.{legsMeet}
 use Rattle.pattern.specs.{Walk.{legIn, Places}, Entry.{allMeet, joined}}
 
 pub leg-length : (b : List ℕ) (place : ℕ) → place + LEG-BYTES ≤ length b → length (legIn b place) ≡ LEG-BYTES

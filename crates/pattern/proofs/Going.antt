@@ -2,7 +2,8 @@
 use Rattle.laws.proofs.Prelude.{_≡_, refl, sym, ap, subst, _∙_, List, [], _∷_, _++_, map-append, append-nil, ℕ, _+_, _-_, _*_, _≤_, _<_, add-zero, arith, length, take, drop, length-append, length-map}
 use Rattle.laws.proofs.Prelude.{sets, slice, length-slice}
 use Rattle.words.proofs.Written.{sets-append}
-use Rattle.route.specs.Form.{LEG-BYTES, MOST-LEGS}
+use Rattle.image.specs.Layout.{LEG-BYTES}
+use Rattle.route.specs.Form.{MOST-LEGS}
 use Rattle.pattern.specs.{declared.{form.Head.{Head, the-variants.{Neither, Leg, Repeat}}, walk.Walked.{Walked, the-variants.{Broken, Past}}}, Tree.{Pattern, nothing, leg, repeat, times, flown}}
 use Rattle.pattern.specs.{Read.{Read, broken, is, headOf, sizeOf, repeated, itemOf, append, before, read, insideOf, itemWithin}, Walk.{legIn, capped, Found, walkedTo, Walk, OneMore, Rounds}}
 use Rattle.pattern.proofs.{Parts.{part-from, part-within, part-of-whole}, Runs.{length-times, map-times, run-slice, rounds-over, at-least}, Heads.{Room, head-room, size-some}}

@@ -6,11 +6,12 @@ use lib.Dec.{eqb, ltb}
 use lib.ListN.{length}
 use lib.Seq.{sets}
 use Rattle.words.specs.Words.{bytesOf}
+use Rattle.image.specs.Layout.{LEG-BYTES}
 use Rattle.image.specs.Parts.{legAt}
 use Rattle.outcome.specs.declared.Outcome.{Outcome}
 use Rattle.outcome.specs.declared.Outcome.the-variants.{InputLength, BadPattern, LegCount, NoRoom, LegsApart}
 use Rattle.outcome.specs.Outcomes.{Table, firstOf, differs, Left, leftUnless}
-use Rattle.route.specs.Form.{LEG-BYTES, TRAILER-BYTES, MOST-LEGS, legsMeet}
+use Rattle.route.specs.Form.{TRAILER-BYTES, MOST-LEGS, legsMeet}
 use Rattle.pattern.specs.Tree.{flown}
 use Rattle.pattern.specs.Read.{Read, broken, is, read}
 

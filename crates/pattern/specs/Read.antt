@@ -4,7 +4,7 @@ use mathlib.Core.Bool.{cond}
 use mathlib.Core.List.{List}
 use lib.Dec.{eqb, ltb}
 use lib.ListN.{length, getD, take, drop}
-use Rattle.route.specs.Form.{LEG-BYTES}
+use Rattle.image.specs.Layout.{LEG-BYTES}
 use Rattle.pattern.specs.declared.form.Head.{Head}
 use Rattle.pattern.specs.declared.form.Head.the-variants.{Neither, Leg, Repeat}
 use Rattle.pattern.specs.Tree.{Pattern, nothing, leg, repeat}

@@ -6,7 +6,8 @@ use mathlib.Core.List.{List, map}
 use lib.Dec.{ltb}
 use lib.ListN.{length, getD, set, take, drop}
 use lib.Seq.{sets, slice}
-use Rattle.route.specs.Form.{LEG-BYTES, MOST-LEGS}
+use Rattle.image.specs.Layout.{LEG-BYTES}
+use Rattle.route.specs.Form.{MOST-LEGS}
 use Rattle.pattern.specs.declared.walk.Walked.{Walked}
 use Rattle.pattern.specs.declared.walk.Walked.the-variants.{Broken, Past}
 use Rattle.pattern.specs.Tree.{Pattern, times, flown}

@@ -1,5 +1,5 @@
 // How a pattern stands in bytes: items one after another, each a leg or a repeat.
-use route::LEG_BYTES;
+use image::LEG_BYTES;
 ghost use mathlib.Core.Path.{_≡_};
 ghost use Prim.Native.Nat.{_≤_, _<_};
 ghost use lib.ListN.{length};

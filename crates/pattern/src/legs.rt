@@ -1,7 +1,7 @@
 // The legs that a walk found, by their places in the pattern's bytes: whether they meet, and the route of them.
+use image::LEG_BYTES;
 use image::LEG_WORDS;
 use outcome::Outcome;
-use route::LEG_BYTES;
 use route::TRAILER_BYTES;
 use route::legs_meet;
 use words::put_bytes;
@@ -13,7 +13,8 @@ ghost use lib.ListN.{length, take};
 ghost use lib.Seq.{sets};
 ghost use Rattle.words.specs.Words.{Put};
 ghost use Rattle.outcome.specs.Outcomes.{left};
-ghost use Rattle.route.specs.Form.{LEG-BYTES, TRAILER-BYTES, MOST-LEGS};
+ghost use Rattle.image.specs.Layout.{LEG-BYTES};
+ghost use Rattle.route.specs.Form.{TRAILER-BYTES, MOST-LEGS};
 ghost use Rattle.pattern.specs.Walk.{legIn, Places};
 ghost use Rattle.pattern.specs.Entry.{allMeet, joined, buffers, routeCall};
 

@@ -1,9 +1,9 @@
 -- What a route tick is refused for, and what a route of the right form has. Assumes nothing.
 use Rattle.laws.proofs.Prelude.{_≡_, refl, sym, ap, _∙_, Bool, true, false, not, cond, List, ℕ, _+_, _*_, _≤_, _<_, arith, ltb-false, eqb-false, eq-eqb, not-true, not-false, length}
 use Rattle.outcome.{specs.{declared.Outcome.{Outcome, the-variants.{Done, BrokenImage}}, Outcomes.{isDone, left, lent}}, proofs.Tables.{done-none, in-turn, same, refused-keeps}}
-use Rattle.image.specs.Layout.{IMAGE-BYTES, INPUT-BYTES, ANSWER-BYTES}
+use Rattle.image.specs.Layout.{IMAGE-BYTES, LEG-BYTES, INPUT-BYTES, ANSWER-BYTES}
 use Rattle.lent_tick.specs.{Unbroken.unbroken, Tick.{tickTable, tickRefusal, tickFrom}}
-use Rattle.route.specs.{Form.{LEG-BYTES, TRAILER-BYTES, countOf, formTable, formRefusal}, Entry.{routeRefusal, routeCall}}
+use Rattle.route.specs.{Form.{TRAILER-BYTES, countOf, formTable, formRefusal}, Entry.{routeRefusal, routeCall}}
 
 -- a tick's rows, then the route's own
 pub in-their-turn : (image : List ℕ) (inputLen answerLen : ℕ) (route : List ℕ)

@@ -9,7 +9,7 @@ use lib.ListN.{length}
 use Rattle.words.specs.Words.{fourBytes}
 use Rattle.relay_math.specs.declared.Vec3.{Vec3}
 use Rattle.joint_tick.specs.declared.state.Leg.{Leg}
-use Rattle.image.specs.Layout.{LEG-WORDS}
+use Rattle.image.specs.Layout.{LEG-WORDS, LEG-BYTES}
 use Rattle.image.specs.Parts.{legAt}
 use Rattle.outcome.specs.declared.Outcome.{Outcome}
 use Rattle.outcome.specs.declared.Outcome.the-variants.{LegCount, RouteLength, LegsApart}
@@ -18,9 +18,6 @@ use Rattle.outcome.specs.Outcomes.{Table, firstOf, differs}
 -- the limit: everything but the check is over any count
 abbrev pub MOST-LEGS : ℕ
 MOST-LEGS = 32
-
-abbrev pub LEG-BYTES : ℕ
-LEG-BYTES = 4 * LEG-WORDS
 
 abbrev pub TRAILER-BYTES : ℕ
 TRAILER-BYTES = 8

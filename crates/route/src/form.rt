@@ -1,4 +1,5 @@
 // How a route stands in bytes: legs of 19 words each, then a trailer of two words, the count and how many bytes back the first leg starts.
+use image::LEG_BYTES;
 use image::LEG_WORDS;
 use outcome::Outcome;
 use words::float_of;
@@ -9,13 +10,12 @@ ghost use Prim.Native.Nat.{_+_, _-_, _*_, _≤_};
 ghost use lib.Ieee.{eq};
 ghost use lib.ListN.{length};
 ghost use Rattle.words.specs.Words.{floatOf, vec};
+ghost use Rattle.image.specs.Layout.{LEG-BYTES};
 ghost use Rattle.image.specs.Parts.{legAt};
-ghost use Rattle.route.specs.Form.{LEG-BYTES, TRAILER-BYTES, countOf, backOf, vecsMeet, legsMeet, allMeet, formRefusal};
+ghost use Rattle.route.specs.Form.{TRAILER-BYTES, countOf, backOf, vecsMeet, legsMeet, allMeet, formRefusal};
 
 // The limit: everything but the check is over any count.
 pub const MOST_LEGS: usize = 32;
-
-pub const LEG_BYTES: usize = 4 * LEG_WORDS;
 
 pub const TRAILER_BYTES: usize = 8;
 

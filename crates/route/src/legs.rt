@@ -13,7 +13,7 @@ ghost use Prim.Native.Nat.{_+_, _*_, _<_, _≤_};
 ghost use lib.ListN.{length};
 ghost use Rattle.words.specs.Words.{float};
 ghost use Rattle.relay_traj.specs.Quintic.{mend};
-ghost use Rattle.route.specs.Form.{LEG-BYTES};
+ghost use Rattle.image.specs.Layout.{LEG-BYTES};
 ghost use Rattle.route.specs.Legs.{durationOf, referenceOf, referenceOn};
 
 // A leg's last word.

@@ -4,7 +4,6 @@ mod form; // form.rt: how a route stands in bytes, and which are refused
 mod legs; // legs.rt: the leg flown
 
 pub use entry::route_tick;
-pub use form::LEG_BYTES;
 pub use form::MOST_LEGS;
 pub use form::TRAILER_BYTES;
 pub use form::legs_meet;

@@ -91,7 +91,7 @@ fn put_back(input: &mut [u8], yaw: u32, yaw_rate: u32)
     put_word(input, YAW_RATE, yaw_rate);
 }
 
-// A desk tick. The core is not asked beforehand whether it would refuse: judging an image twice took a desk tick 36 ns more (docs/SPEED.md). Where it refuses, the
+// A desk tick. The core is not asked beforehand whether it would refuse: that would judge every image twice (docs/SPEED.md says what it costs). Where it refuses, the
 // two words of the input that were written for it are put back, and nothing else was written.
 pub fn tick(
     desk: &mut [u8],

@@ -158,7 +158,7 @@ pub fn put_state(
     put_vec(image, PEAKS, peaks);
 }
 
-// Only what a tick moves, 29 words of 99, over an image whose words are its own state's: a part of the 38 ns that `all_plain` of `words` saves.
+// Only what a tick moves, 29 words of 99, over an image whose words are its own state's: what `all_plain` of `words` found makes that enough.
 fn put_moved(image: &mut [u8], engaged: bool, governor: RefGovernor, rate: AdrcRate, lpf: GyroLpf)
     requires { ⌜ (length (now image) ≡ IMAGE-BYTES) × (now image ≡ imageOf (stateAt (now image))) × Unmoved record { engaged = engaged; governor = governor; rate = rate; lpf = lpf } (movingAt (now image)) ⌝ }
     ensures { λ _. ⌜ now (image .exit) ≡ imageOf record { fixed = fixedAt (now (image .entry)); moving = record { engaged = engaged; governor = governor; rate = rate; lpf = lpf } } ⌝ }

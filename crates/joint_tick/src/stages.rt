@@ -373,7 +373,7 @@ fn follow(profile: Profile, rate: AdrcRate, observed: Observed3, wanted: BodyRat
     }
 }
 
-// The command before its non-finite numbers are made zero. ADRC's `act` does that itself, so it is done once on the way to the torque: 7 ns (docs/SPEED.md).
+// The command before its non-finite numbers are made zero. ADRC's `act` does that itself, so it is done once on the way to the torque (docs/SPEED.md).
 fn chosen(engaged: bool, planner: BodyRate, fallback: BodyRate) -> BodyRate
     ensures { λ r. ⌜ r ≡ cond engaged fallback planner ⌝ }
 {

@@ -39,14 +39,10 @@ engaged-stays-in-band enter exit m l = simp (l, and-false)
 -- ---- the step
 
 module _ (s : SimplexShield) (m : Float) (agile fallback : BodyRate) where
-  -- the flag is the latch's, kept in the shield; the set and the thresholds stay
+  -- the flag is the latch's
   pub step-latches : step s m agile fallback .fallback ≡ latch (s .enter) (s .exit) (s .engaged) m
   unfolding step
   step-latches = refl
-
-  pub step-keeps : step s m agile fallback .shield ≡ record { set = s .set; engaged = step s m agile fallback .fallback; enter = s .enter; exit = s .exit }
-  unfolding step
-  step-keeps = refl
 
   -- "What is passed on is that command with non-finite numbers made zero, else the fallback treated alike, and the flag names which."
   pub planner-passed-on : step s m agile fallback .fallback ≡ false → step s m agile fallback .command ≡ record { 0 = sanitise3 (agile .0) }

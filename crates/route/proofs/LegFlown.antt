@@ -93,14 +93,6 @@ module _ (b : List ℕ) where
         go p false e =
             inr record { none = λ j h. elim (eq-or-lt-of-le (le-of-suc-le-suc h)) [ inl q ↦ subst (λ (x : ℕ). lt time (endOf b (suc x)) ≡ false) (sym q) e | inr l ↦ p .none j l ] }
 
-    -- the leg is one of the route's
-    pub leg-within : (n : ℕ) → 0 < n → flown b n time .leg < n
-    leg-within n h =
-        elim (above-or-past n) [
-          | inl f ↦ rw (the-leg-flown n (f .0) (f .1)) (f .1 .within)
-          | inr p ↦ rw (past-all-ends n p) (omega (arith, h))
-        ]
-
     -- ---- the time on the leg lies within 0 and the leg's duration
 
     module _ (r : Running time) where

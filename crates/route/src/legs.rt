@@ -43,7 +43,7 @@ fn axis_at(route: &[u8], k: usize, t: f32) -> Mended
     }
 }
 
-// The base's own sample, of one leg. Its segment is made of the words at once, which saves a route tick 28 ns against a leg read first and `segment_of` called on it
+// The base's own sample, of one leg. Its segment is made of the words at once, which is quicker than a leg read first and `segment_of` called on it
 // (docs/SPEED.md).
 fn reference_of(route: &[u8], i: usize, at: f32) -> Reference
     requires { ⌜ LEG-BYTES * i + LEG-BYTES ≤ length (now route) ⌝ }
@@ -58,7 +58,7 @@ fn reference_of(route: &[u8], i: usize, at: f32) -> Reference
 }
 
 // Of the first leg whose end is above the time, at the time less the end before it; past all ends of the last leg, at its duration. The two calls keep
-// `reference_of` from being inlined, so that its stack is free again when the tick goes on: 128 bytes, for 2 ns.
+// `reference_of` from being inlined, so that its stack is free again when the tick goes on: 128 bytes, for next to no time.
 pub(crate) fn reference_on(route: &[u8], count: usize, time: f32) -> Reference
     requires { ⌜ (0 < count) × (LEG-BYTES * count ≤ length (now route)) ⌝ }
     ensures { λ r. ⌜ r ≡ referenceOn (now (route .entry)) count time ⌝ }

@@ -39,8 +39,8 @@ fn is_plain(w: u32) -> bool
     w % 0x8000_0000 <= 0x7f80_0000
 }
 
-// Whether no word is a NaN's pattern: a tick that knows it tests no word again, which saves 38 ns of 234 (docs/SPEED.md).
-// 0x7f_ffff more brings just those patterns to the top bit, and `|` keeps it: four words take four instructions, 4 ns less than a test of each.
+// Whether no word is a NaN's pattern: a tick that knows it tests no word again (docs/SPEED.md says what that saves).
+// 0x7f_ffff more brings just those patterns to the top bit, and `|` keeps it: four words take four instructions, fewer than a test of each.
 pub fn all_plain(bytes: &[u8], count: usize) -> bool
     requires { ⌜ 4 * count ≤ length (now bytes) ⌝ }
     ensures { λ r. ⌜ r ≡ allPlain (now (bytes .entry)) count ⌝ }
@@ -65,7 +65,7 @@ pub fn float_of(w: u32) -> f32
     }
 }
 
-// Untested where all words are known to be plain: a part of the 38 ns that `all_plain` saves a tick.
+// Untested where all words are known to be plain (`all_plain`).
 pub fn read_float(bytes: &[u8], k: usize, plain: bool) -> f32
     requires { ⌜ 4 * k + 4 ≤ length (now bytes) ⌝ ∗ ⌜ Plain plain (now bytes) ⌝ }
     ensures { λ r. ⌜ r ≡ float (now (bytes .entry)) k ⌝ }
@@ -90,7 +90,7 @@ pub fn read_vec(bytes: &[u8], k: usize, plain: bool) -> Vec3
     )
 }
 
-// The float there, or another where it is not finite, by one test of its word: that saves a route tick 11 ns (docs/SPEED.md). Tested first for a NaN's
+// The float there, or another where it is not finite, by one test of its word (docs/SPEED.md says what that saves). Tested first for a NaN's
 // pattern and then as a number, each word would have two. Doubled, the test takes two instructions less on x86-64.
 pub fn finite_at(bytes: &[u8], k: usize, otherwise: f32) -> f32
     requires { ⌜ 4 * k + 4 ≤ length (now bytes) ⌝ }

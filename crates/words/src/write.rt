@@ -65,8 +65,7 @@ pub fn put_vec(bytes: &mut [u8], k: usize, v: Vec3)
     put_three(bytes, k, v.0, v.1, v.2);
 }
 
-// Each word as its float would be written: a NaN's pattern becomes 0x7fc0_0000. Where no word is one, all stand so already and none is written: a part of
-// the 38 ns that `all_plain` saves a tick.
+// Each word as its float would be written: a NaN's pattern becomes 0x7fc0_0000. Where no word is one, all stand so already and none is written.
 pub fn make_canonical(bytes: &mut [u8], count: usize, plain: bool)
     requires { ⌜ length (now bytes) ≡ 4 * count ⌝ ∗ ⌜ Plain plain (now bytes) ⌝ }
     ensures { λ _. ⌜ now (bytes .exit) ≡ bytesOf (canons (now (bytes .entry)) 0 count) ⌝ }
@@ -81,7 +80,7 @@ pub fn make_canonical(bytes: &mut [u8], count: usize, plain: bool)
     }
 }
 
-// Bytes as they stand, from any byte on. Four at a time, all read before one is written, are one load and one store: that saves an append to a log 14 ns.
+// Bytes as they stand, from any byte on. Four at a time, all read before one is written, are one load and one store.
 pub fn put_bytes(bytes: &mut [u8], at: usize, from: &[u8])
     requires { ⌜ at + length (now from) ≤ length (now bytes) ⌝ }
     ensures { λ _. ⌜ now (bytes .exit) ≡ sets (now (bytes .entry)) at (now (from .entry)) ⌝ }

@@ -1,21 +1,12 @@
 -- What a call on a desk leaves: a refused one leaves all as it was, and an accepted tick is the core's tick of the input that it leaves. Assumes nothing.
 use Rattle.laws.proofs.Prelude.{_≡_, refl, sym, ap, _∙_, Bool, true, false, cond, List, ℕ, length, no}
-use Rattle.outcome.specs.{declared.Outcome.{Outcome, the-variants.Done}, Outcomes.{isDone, differs, Left, left, lent, Called}}
+use Rattle.outcome.{specs.{declared.Outcome.{Outcome, the-variants.Done}, Outcomes.{isDone, differs, Left, left, lent, Called}}, proofs.Tables.by-test}
 use Rattle.image.specs.Layout.{INPUT-BYTES, ANSWER-BYTES}
 use Rattle.lent_tick.{specs.{Unbroken.Unbroken, Tick.tickRefusal}, proofs.Flown.unbroken-taken}
 use Rattle.calls.specs.Entry.{tickCall}
 use Rattle.desk.specs.{declared.entry.DeskOutcome.{DeskOutcome, the-variants.{DeskLength, SticksLength, Core}}, Filters.{DESK-BYTES, STICKS-BYTES, deskAt, deskOf, deskCentre}}
-use Rattle.desk.specs.Entry.{deskDone, deskLeft, centreCall, flownInput, LentToDesk, lentToDesk, tickRefusalAt, deskTickCall}
+use Rattle.desk.specs.Entry.{deskDone, centreCall, flownInput, LentToDesk, lentToDesk, tickRefusalAt, deskTickCall}
 use Rattle.desk.proofs.Flown.{flown-length, core-done}
-
--- what holds of what an accepted call leaves, and of what a refused one does, holds of what a call leaves
-pub either : {B : Type 0} (P : Left DeskOutcome B → Type 0) (o : DeskOutcome) {written kept : B} → (deskDone o ≡ true → P (left (Core Done) written)) → (deskDone o ≡ false → P (left o kept))
-    → P (deskLeft o written kept)
-either {B} P o {written} {kept} w k = go (deskDone o) refl
-  where
-    go : (t : Bool) → deskDone o ≡ t → P (cond t (left (Core Done) written) (left o kept))
-    go true e = w e
-    go false e = k e
 
 -- the button of a desk of the right length
 pub centred : (desk : List ℕ) → length desk ≡ DESK-BYTES → centreCall desk ≡ left (Core Done) (deskOf (deskCentre (deskAt desk)))
@@ -33,7 +24,7 @@ module _ (desk sticks image input answer : List ℕ) where
   pub refused-changes-nothing : deskDone (call .outcome) ≡ false → call .later ≡ lentToDesk desk image input answer
   unfolding deskTickCall
   refused-changes-nothing =
-      either (λ (l : Left DeskOutcome LentToDesk). deskDone (l .outcome) ≡ false → l .later ≡ lentToDesk desk image input answer) refusal
+      by-test (λ (l : Left DeskOutcome LentToDesk). deskDone (l .outcome) ≡ false → l .later ≡ lentToDesk desk image input answer) (deskDone refusal)
       (λ e f. no (sym f)) (λ e f. refl)
 
   -- where the desk's own lengths are right, "the core's number is handed on"
@@ -58,9 +49,9 @@ module _ (desk sticks image input answer : List ℕ) where
   pub is-core-tick : deskDone (call .outcome) ≡ true → tickCall image (call .later .input) answer ≡ left Done (lent (call .later .image) (call .later .answer))
   unfolding deskTickCall
   is-core-tick =
-      either
+      by-test
       (λ (l : Left DeskOutcome LentToDesk). deskDone (l .outcome) ≡ true → tickCall image (l .later .input) answer ≡ left Done (lent (l .later .image) (l .later .answer)))
-      refusal
+      (deskDone refusal)
       (λ e f. ap (λ (o : Outcome). left o (tickCall image flown answer .later)) (core-done image input flown answer (flown-length desk sticks input) (done-asked e)))
       (λ e f. no (sym e ∙ f))
     where
@@ -70,7 +61,7 @@ module _ (desk sticks image input answer : List ℕ) where
   -- the input that it leaves has the length of the one that it was lent
   pub input-length : length (call .later .input) ≡ length input
   unfolding deskTickCall
-  input-length = either (λ (l : Left DeskOutcome LentToDesk). length (l .later .input) ≡ length input) refusal (λ e. flown-length desk sticks input) (λ e. refl)
+  input-length = by-test (λ (l : Left DeskOutcome LentToDesk). length (l .later .input) ≡ length input) (deskDone refusal) (λ e. flown-length desk sticks input) (λ e. refl)
 
   -- with right lengths, and an unbroken image, a desk tick is accepted
   pub tick-accepted : length desk ≡ DESK-BYTES → length sticks ≡ STICKS-BYTES → length input ≡ INPUT-BYTES → length answer ≡ ANSWER-BYTES → Unbroken image → call .outcome ≡ Core Done

@@ -2,13 +2,13 @@
 use Rattle.laws.proofs.Prelude.{_≡_, refl, sym, ap, subst, _∙_, Bool, true, false, List, [], _∷_, _++_, ℕ, Float, length}
 use Rattle.words.specs.Words.{float, vec}
 use Rattle.image.specs.Layout.{DT}
-use Rattle.outcome.specs.Outcomes.{Left}
+use Rattle.outcome.{specs.Outcomes.Left, proofs.Tables.by-test}
 use Rattle.relay_math.specs.declared.Vec3.{Vec3}
 use Rattle.relay_adrc.{specs.{declared.filter.CommandFilter.CommandFilter, Filter.{Event, Step, Reset, filterNew, after, run}}, proofs.Limits.{Limit, Held, fresh-held}}
 use Rattle.desk.specs.{declared.{filters.Desk.Desk, entry.DeskOutcome.DeskOutcome}, Filters.{DESK-BYTES, deskAt, deskOf, newAt, deskSetUp, deskStep, deskCentre}}
 use Rattle.desk.specs.Entry.{deskDone, LentToDesk, moved, tickRefusalAt, deskTickCall}
 use Rattle.desk.specs.Runs.{Stick, Heading, Turn, Zoom, place, filterOf, omegaGiven, magLimit, rateLimit, DeskCall, Ticks, Centres, deskBy, deskAfter, deskStart, eventsBy, eventsAlong}
-use Rattle.desk.proofs.{Read.{set-up-fits, stepped-fits, centred-fits, desk-length, read-again}, Calls.{either, centred}}
+use Rattle.desk.proofs.{Read.{set-up-fits, stepped-fits, centred-fits, desk-length, read-again}, Calls.centred}
 
 -- ---- one call
 
@@ -35,7 +35,7 @@ call-moves s desk Centres p =
     subst (λ (l : Left DeskOutcome (List ℕ)). Moves s (eventsBy s Centres) desk (l .later)) (sym (centred desk p))
     record { size = desk-length (deskCentre (deskAt desk)); filter = ap (filterOf s) (read-again _ (centred-fits desk)) ∙ reset-by s (deskAt desk) }
 call-moves s desk (Ticks t) p =
-    either (λ (l : Left DeskOutcome LentToDesk). Moves s (eventsBy s (Ticks t)) desk (l .later .desk)) (refusal (length desk))
+    by-test (λ (l : Left DeskOutcome LentToDesk). Moves s (eventsBy s (Ticks t)) desk (l .later .desk)) (done (length desk))
     (λ e. rw (ap done (sym p) ∙ e) record { size = desk-length (moved desk (t .sticks) (t .input)); filter = ap (filterOf s) (read-again _ (stepped-fits desk _ _)) ∙ stepped-by s (deskAt desk) (t .sticks) (float (t .input) DT) })
     (λ e. rw (ap done (sym p) ∙ e) record { size = p; filter = refl })
   where

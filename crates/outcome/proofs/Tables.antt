@@ -61,14 +61,15 @@ in-turn ((false, o) ∷ rows) more r = in-turn rows more (both (not (isDone o)) 
 pub refused-keeps : {B : Type 0} (o : Outcome) (written kept : B) → isDone o ≡ false → leftUnless o written kept ≡ left o kept
 refused-keeps o written kept e = rw e
 
--- what holds of what an accepted call leaves, and of what a refused one does, holds of what a call leaves
+-- what holds of both sides of a test holds of the one that is taken
+pub by-test : {A : Type 0} (P : A → Type 0) (t : Bool) {x y : A} → (t ≡ true → P x) → (t ≡ false → P y) → P (cond t x y)
+by-test P true f g = f refl
+by-test P false f g = g refl
+
+-- so of what an accepted call leaves and of what a refused one does
 pub either : {B : Type 0} (P : Left Outcome B → Type 0) (o : Outcome) {written kept : B} → (isDone o ≡ true → P (left Done written)) → (isDone o ≡ false → P (left o kept))
     → P (leftUnless o written kept)
-either {B} P o {written} {kept} w k = go (isDone o) refl
-  where
-    go : (t : Bool) → isDone o ≡ t → P (cond t (left Done written) (left o kept))
-    go true e = w e
-    go false e = k e
+either P o w k = by-test P (isDone o) w k
 
 -- ---- a call that asks a function, which says o, whether it is refused: t is whether o is done
 

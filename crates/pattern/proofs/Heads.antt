@@ -1,5 +1,6 @@
 -- What an item starts with, test by test. Assumes nothing.
 use Rattle.laws.proofs.Prelude.{_≡_, refl, sym, ap, _∙_, Bool, true, false, cond, List, ℕ, _+_, _-_, _*_, _≤_, _<_, arith, ltb-false, eqb-true, eqb-false, eqb, ltb, length, getD, slice, length-slice}
+use Rattle.outcome.proofs.Tables.{by-test}
 use Rattle.pattern.specs.{declared.form.Head.{Head, the-variants.{Neither, Leg, Repeat}}, Read.{headOf, innerLength, sizeOf}}
 use Rattle.pattern.proofs.Parts.{part-get}
 
@@ -43,9 +44,21 @@ module _ (s : List ℕ) {left t : ℕ} (e : left ≡ length s) (f : t ≡ getD s
 
 -- ---- what follows of the bytes there are
 
-either : {A : Type 0} (P : A → Type 0) (t : Bool) {x y : A} → (t ≡ true → P x) → (t ≡ false → P y) → P (cond t x y)
-either P true f g = f refl
-either P false f g = g refl
+by-head : (P : Head → Type 0) (s : List ℕ) → P Neither → (getD s 0 0 ≡ 0 → 77 ≤ length s → P Leg)
+    → (getD s 0 0 ≡ 1 → (1 ≤ getD s 1 0) × (getD s 1 0 ≤ 9) × (4 + innerLength s ≤ length s) → P (Repeat (getD s 1 0) (innerLength s))) → P (headOf s)
+unfolding headOf
+by-head P s none leg repeat =
+    let left = length s in
+    by-test P (eqb (getD s 0 0) 0) (λ t. by-test P (ltb left 77) (λ _. none) (λ p. leg (eqb-true (getD s 0 0) 0 t) (ltb-false left 77 p)))
+    (λ _. by-test P (eqb (getD s 0 0) 1)
+    (λ t. by-test P (ltb left 4) (λ _. none)
+    (λ p. by-test P (eqb (getD s 1 0) 0) (λ _. none)
+    (λ z. by-test P (ltb 9 (getD s 1 0)) (λ _. none)
+    (λ q. by-test P (ltb (left - 4) (innerLength s)) (λ _. none)
+    (λ r.
+    let some = eqb-false (getD s 1 0) 0 z in
+    repeat (eqb-true (getD s 0 0) 1 t) (omega (arith, some), ltb-false 9 (getD s 1 0) q, omega (arith, ltb-false left 4 p, ltb-false (left - 4) (innerLength s) r)))))))
+    (λ _. none))
 
 abbrev pub Room : ℕ → Head → Type 0
 Room left Neither = Unit
@@ -53,20 +66,7 @@ Room left Leg = 77 ≤ left
 Room left (Repeat n len) = (1 ≤ n) × (n ≤ 9) × (4 + len ≤ left)
 
 pub head-room : (s : List ℕ) → Room (length s) (headOf s)
-unfolding headOf
-head-room s =
-    let left = length s in
-    let P : Head → Type 0 = Room left in
-    either P (eqb (getD s 0 0) 0) (λ _. either P (ltb left 77) (λ _. tt) (λ p. ltb-false left 77 p))
-    (λ _. either P (eqb (getD s 0 0) 1)
-    (λ _. either P (ltb left 4) (λ _. tt)
-    (λ p. either P (eqb (getD s 1 0) 0) (λ _. tt)
-    (λ z. either P (ltb 9 (getD s 1 0)) (λ _. tt)
-    (λ q. either P (ltb (left - 4) (innerLength s)) (λ _. tt)
-    (λ r.
-    let some = eqb-false (getD s 1 0) 0 z in
-    (omega (arith, some), ltb-false 9 (getD s 1 0) q, omega (arith, ltb-false left 4 p, ltb-false (left - 4) (innerLength s) r)))))))
-    (λ _. tt))
+head-room s = by-head (Room (length s)) s tt (λ _ h. h) (λ _ h. h)
 
 pub size-some : (h : Head) → 1 ≤ sizeOf h
 unfolding sizeOf
@@ -94,13 +94,4 @@ Tags s Leg = getD s 0 0 ≡ 0
 Tags s (Repeat n len) = (getD s 0 0 ≡ 1) × (getD s 1 0 ≡ n) × (innerLength s ≡ len)
 
 pub head-tags : (s : List ℕ) → Tags s (headOf s)
-unfolding headOf
-head-tags s =
-    let P : Head → Type 0 = Tags s in
-    either P (eqb (getD s 0 0) 0) (λ t. either P (ltb (length s) 77) (λ _. tt) (λ _. eqb-true (getD s 0 0) 0 t))
-    (λ _. either P (eqb (getD s 0 0) 1)
-    (λ t. either P (ltb (length s) 4) (λ _. tt)
-    (λ _. either P (eqb (getD s 1 0) 0) (λ _. tt)
-    (λ _. either P (ltb 9 (getD s 1 0)) (λ _. tt)
-    (λ _. either P (ltb (length s - 4) (innerLength s)) (λ _. tt) (λ _. (eqb-true (getD s 0 0) 1 t, refl, refl))))))
-    (λ _. tt))
+head-tags s = by-head (Tags s) s tt (λ e _. e) (λ e _. (e, refl, refl))

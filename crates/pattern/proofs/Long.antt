@@ -35,10 +35,6 @@ unfolding repeated flown
 long-repeated n broken a = tt
 long-repeated n (is p) a = subst AllLong (sym (append-nil (times n (flown p)))) (long-times n (flown p) a)
 
-long-either : (t : Bool) (r s : Read) → Long r → Long s → Long (cond t r s)
-long-either true r s a b = a
-long-either false r s a b = b
-
 module _ (inside : List ℕ → Read) (f : (b : List ℕ) → Long (inside b)) where
   long-item : (b : List ℕ) (h : Head) → Room (length b) h → Long (itemOf inside b h)
   unfolding itemOf flown
@@ -52,8 +48,7 @@ module _ (inside : List ℕ → Read) (f : (b : List ℕ) → Long (inside b)) w
   long-items (suc n) b =
       let item = itemOf inside b (headOf b) in
       let more = itemsOf inside n (drop (sizeOf (headOf b)) b) in
-      long-either (eqb (length b) 0) (is nothing) (before item more) tt
-      (long-before item more (long-item b (headOf b) (head-room b)) (long-items n (drop (sizeOf (headOf b)) b)))
+      by-test Long (eqb (length b) 0) (λ _. tt) (λ _. long-before item more (long-item b (headOf b) (head-room b)) (long-items n (drop (sizeOf (headOf b)) b)))
 
 pub long-read : (depth : ℕ) (b : List ℕ) → Long (read depth b)
 unfolding read

@@ -55,35 +55,40 @@ walk-is p {b} {r} {next} {n} {old} {new} e c f = record {
 
 -- ---- one item
 
-module _ (b : List ℕ) (at end : ℕ) (h : end ≤ length b) where
+-- what the walk of the item at `at` is given: bytes up to `end`, room for 32 places, and how many legs stand before it
+pub record Item (b : List ℕ) (at end depth n : ℕ) (old : List ℕ) : Type 0 where
+  pub within : end ≤ length b
+  pub size : length old ≡ MOST-LEGS
+  pub few : n ≤ 33
+
+module _ {b : List ℕ} {at end depth n : ℕ} {old : List ℕ} (given : Item b at end depth n old) where
   room-there : {x : Head} → x ≡ headOf (slice at end b) → Room (length (slice at end b)) x
   room-there e = subst (Room (length (slice at end b))) (sym e) (head-room (slice at end b))
 
   pub leg-fits : Leg ≡ headOf (slice at end b) → at + 1 + LEG-BYTES ≤ end
-  leg-fits e = omega (arith, room-there e, length-slice at end b h)
+  leg-fits e = omega (arith, room-there e, length-slice at end b (given .within))
 
   pub repeat-fits : {rounds len : ℕ} → Repeat rounds len ≡ headOf (slice at end b) → (1 ≤ rounds) × (rounds ≤ 9) × (at + 4 + len ≤ end)
-  repeat-fits e = let r = room-there e in (r .0, r .1, omega (arith, r .2, length-slice at end b h))
+  repeat-fits e = let r = room-there e in (r .0, r .1, omega (arith, r .2, length-slice at end b (given .within)))
 
-module _ (b : List ℕ) (at end depth : ℕ) (n : ℕ) (old : List ℕ) where
   pub neither-done : Neither ≡ headOf (slice at end b) → Walk b (itemWithin depth (slice at end b)) (at + sizeOf (headOf (slice at end b))) n old Broken old
   unfolding itemOf
   neither-done e = walk-broken (ap (itemOf (insideOf depth) (slice at end b)) (sym e))
 
-  pub leg-done : {m : ℕ} {new : List ℕ} → end ≤ length b → Leg ≡ headOf (slice at end b) → OneMore n (at + 1) old m new
+  pub leg-done : {m : ℕ} {new : List ℕ} → Leg ≡ headOf (slice at end b) → OneMore n (at + 1) old m new
       → Walk b (itemWithin depth (slice at end b)) (at + sizeOf (headOf (slice at end b))) n old (Past (at + 77) m) new
   unfolding itemOf sizeOf flown
-  leg-done {m} {new} h e o =
+  leg-done {m} {new} e o =
       let l = take LEG-BYTES (drop 1 (slice at end b)) in
       let next : at + 77 ≡ at + sizeOf (headOf (slice at end b)) = ap (λ (x : Head). at + sizeOf x) e in
       walk-is (leg l nothing) (ap (itemOf (insideOf depth) (slice at end b)) (sym e)) (rw (← next, o .counted))
       (λ f. record {
         places = (at + 1) ∷ [];
-        legs = ap (λ (x : List ℕ). x ∷ []) (sym (part-of-whole b at end 1 LEG-BYTES (leg-fits b at end h e)));
+        legs = ap (λ (x : List ℕ). x ∷ []) (sym (part-of-whole b at end 1 LEG-BYTES (leg-fits e)));
         put = o .put (omega arith);
       })
 
-  module _ (rounds len : ℕ) (h : end ≤ length b) (e : Repeat rounds len ≡ headOf (slice at end b)) where
+  module _ {rounds len : ℕ} (e : Repeat rounds len ≡ headOf (slice at end b)) where
     repeat-is : itemWithin depth (slice at end b) ≡ repeated rounds (insideOf depth (take len (drop 4 (slice at end b))))
     unfolding itemOf
     repeat-is = ap (itemOf (insideOf depth) (slice at end b)) (sym e)
@@ -97,28 +102,27 @@ module _ (b : List ℕ) (at end depth : ℕ) (n : ℕ) (old : List ℕ) where
       inner-is =
           repeat-is
           ∙ ap (λ (f : List ℕ → Read). repeated rounds (f (take len (drop 4 (slice at end b))))) (inside-is depth d)
-          ∙ ap (λ (s : List ℕ). repeated rounds (read (depth - 1) s)) (part-within b at end 4 len (repeat-fits b at end h e .2))
+          ∙ ap (λ (s : List ℕ). repeated rounds (read (depth - 1) s)) (part-within b at end 4 len (repeat-fits e .2))
 
       pub body-broken : {new : List ℕ} → Broken ≡ walkedTo (at + 4 + len) n (read (depth - 1) (slice (at + 4) (at + 4 + len) b))
           → Walk b (itemWithin depth (slice at end b)) (at + sizeOf (headOf (slice at end b))) n old Broken new
       unfolding repeated
       body-broken w = walk-broken (inner-is ∙ ap (repeated rounds) (was-broken (read (depth - 1) (slice (at + 4) (at + 4 + len) b)) (at + 4 + len) n w))
 
-      pub repeat-done : {x m r : ℕ} {mid new : List ℕ} → length old ≡ MOST-LEGS → n ≤ 33
-          → Walk b (read (depth - 1) (slice (at + 4) (at + 4 + len) b)) (at + 4 + len) n old (Past x m) mid → Rounds rounds n m mid r new
+      pub repeat-done : {x m r : ℕ} {mid new : List ℕ} → Walk b (read (depth - 1) (slice (at + 4) (at + 4 + len) b)) (at + 4 + len) n old (Past x m) mid → Rounds rounds n m mid r new
           → Walk b (itemWithin depth (slice at end b)) (at + sizeOf (headOf (slice at end b))) n old (Past x r) new
       unfolding repeated sizeOf flown
-      repeat-done {x} {m} {r} {mid} {new} size few w o =
+      repeat-done {x} {m} {r} {mid} {new} w o =
           let c = came (read (depth - 1) (slice (at + 4) (at + 4 + len) b)) (at + 4 + len) n x m (w .counted) in
           let ls = flown (c .tree) in
-          let one = repeat-fits b at end h e .0 in
+          let one = repeat-fits e .0 in
           let all : flown (repeat rounds (c .tree) nothing) ≡ times rounds ls = append-nil (times rounds ls) in
           let many : length (flown (repeat rounds (c .tree) nothing)) ≡ rounds * length ls = ap length all ∙ length-times rounds ls in
           let next : x ≡ at + sizeOf (headOf (slice at end b)) =
           c .place ∙ assoc ∙ ap (λ (y : Head). at + sizeOf y) e in
           walk-is (repeat rounds (c .tree) nothing) (inner-is ∙ ap (repeated rounds) (c .is-it))
           (ap (λ (y : ℕ). Past y r) next ∙ ap (Past (at + sizeOf (headOf (slice at end b))))
-          (o .counted ∙ capped-rounds rounds n (length ls) m one few (c .count) ∙ ap (λ (k : ℕ). capped (n + k)) (sym many)))
+          (o .counted ∙ capped-rounds rounds n (length ls) m one (given .few) (c .count) ∙ ap (λ (k : ℕ). capped (n + k)) (sym many)))
           (λ f.
           let least = at-least rounds (length ls) one in
           let g = w .found (c .tree) (c .is-it) (omega (arith, f, many, least)) in
@@ -128,7 +132,7 @@ module _ (b : List ℕ) (at end depth : ℕ) (n : ℕ) (old : List ℕ) where
           let put = o .put (subst (λ (k : ℕ). n + rounds * k ≤ MOST-LEGS) (sym legs) (omega (arith, f, many))) in
           let body : slice n m mid ≡ g .places =
           ap (λ (k : ℕ). slice n k mid) last ∙ ap (slice n (n + length (g .places))) (g .put)
-          ∙ run-slice old n (g .places) (omega (arith, same, f, many, least, size)) in
+          ∙ run-slice old n (g .places) (omega (arith, same, f, many, least, given .size)) in
           record {
             places = times rounds (g .places);
             legs = map-times (legIn b) rounds (g .places) ∙ ap (times rounds) (g .legs) ∙ sym all;
@@ -172,16 +176,6 @@ sized inside s Neither p r e = let z : _≡_ {A = ℕ} 0 1 = cc in absurd (omega
 sized inside s Leg p r e = r
 sized inside s (Repeat n len) p r e = r .2
 
--- how far an item that is not broken brings the walk
-pub item-next : (b : List ℕ) (depth at end n : ℕ) {x m : ℕ} → at < end → end ≤ length b
-    → Past x m ≡ walkedTo (at + sizeOf (headOf (slice at end b))) n (itemWithin depth (slice at end b)) → (at < x) × (x ≤ end)
-item-next b depth at end n {x} {m} h k e =
-    let s = slice at end b in
-    let c = came (itemWithin depth s) (at + sizeOf (headOf s)) n x m e in
-    let z = sized (insideOf depth) s (headOf s) (c .tree) (head-room s) (c .is-it) in
-    let p = c .place in
-    (omega (arith, p, size-some (headOf s)), omega (arith, p, z, length-slice at end b k))
-
 module _ (b : List ℕ) {whole rest : Read} {count n : ℕ} {old new : List ℕ} (g : Going b whole rest count old n new) where
   pub going-broken : (r : Read) {next : ℕ} {new' : List ℕ} → rest ≡ before broken r → Walk b whole next count old Broken new'
   unfolding before
@@ -217,22 +211,36 @@ module _ (b : List ℕ) {whole rest : Read} {count n : ℕ} {old new : List ℕ}
             };
       }
 
--- ---- one turn of the walk
+-- ---- one turn of the walk, at the item at `at`
 
-module _ (b : List ℕ) (depth at end : ℕ) {whole : Read} {count n : ℕ} {old new : List ℕ} (k : end ≤ length b) (g : Going b whole (read depth (slice at end b)) count old n new) where
-  pub step-broken : {next : ℕ} {later : List ℕ} → at < end → Broken ≡ walkedTo (at + sizeOf (headOf (slice at end b))) n (itemWithin depth (slice at end b))
-      → Walk b whole next count old Broken later
-  step-broken h e =
+pub record Turn (b : List ℕ) (depth at end : ℕ) (whole : Read) (count n : ℕ) (old new : List ℕ) : Type 0 where
+  pub within : end ≤ length b
+  pub some : at < end
+  pub going : Going b whole (read depth (slice at end b)) count old n new
+
+module _ {b : List ℕ} {depth at end : ℕ} {whole : Read} {count n : ℕ} {old new : List ℕ} (t : Turn b depth at end whole count n old new) where
+  -- how far an item that is not broken brings the walk
+  pub item-next : {x m : ℕ} → Past x m ≡ walkedTo (at + sizeOf (headOf (slice at end b))) n (itemWithin depth (slice at end b)) → (at < x) × (x ≤ end)
+  item-next {x} {m} e =
+      let s = slice at end b in
+      let c = came (itemWithin depth s) (at + sizeOf (headOf s)) n x m e in
+      let z = sized (insideOf depth) s (headOf s) (c .tree) (head-room s) (c .is-it) in
+      let p = c .place in
+      (omega (arith, p, size-some (headOf s)), omega (arith, p, z, length-slice at end b (t .within)))
+
+  pub step-broken : {next : ℕ} {later : List ℕ} → Broken ≡ walkedTo (at + sizeOf (headOf (slice at end b))) n (itemWithin depth (slice at end b)) → Walk b whole next count old Broken later
+  step-broken e =
       let s = slice at end b in
       let more = read depth (slice (at + sizeOf (headOf s)) end b) in
-      going-broken b g more (read-step b depth at end h k refl ∙ ap (λ (i : Read). before i more) (was-broken (itemWithin depth s) (at + sizeOf (headOf s)) n e))
+      going-broken b (t .going) more (read-step b depth at end (t .some) (t .within) refl ∙ ap (λ (i : Read). before i more) (was-broken (itemWithin depth s) (at + sizeOf (headOf s)) n e))
 
-  pub step-on : {x m : ℕ} {later : List ℕ} → at < end → Walk b (itemWithin depth (slice at end b)) (at + sizeOf (headOf (slice at end b))) n new (Past x m) later
+  pub step-on : {x m : ℕ} {later : List ℕ} → Walk b (itemWithin depth (slice at end b)) (at + sizeOf (headOf (slice at end b))) n new (Past x m) later
       → Going b whole (read depth (slice x end b)) count old m later
-  step-on {x} {m} h w =
+  step-on {x} {m} w =
       let s = slice at end b in
       let c = came (itemWithin depth s) (at + sizeOf (headOf s)) n x m (w .counted) in
-      going-on b g (itemWithin depth s) (read depth (slice x end b)) (at + sizeOf (headOf s)) (read-step b depth at end h k (c .place)) w
+      going-on b (t .going) (itemWithin depth s) (read depth (slice x end b)) (at + sizeOf (headOf s)) (read-step b depth at end (t .some) (t .within) (c .place)) w
 
-  pub step-end : end ≤ at → Walk b whole end count old (Past end n) new
-  step-end h = going-end b g (read-none depth (slice at end b) (omega (arith, length-slice at end b k)))
+pub step-end : (b : List ℕ) (depth at end : ℕ) {whole : Read} {count n : ℕ} {old new : List ℕ} → end ≤ length b → Going b whole (read depth (slice at end b)) count old n new → end ≤ at
+    → Walk b whole end count old (Past end n) new
+step-end b depth at end k g h = going-end b g (read-none depth (slice at end b) (omega (arith, length-slice at end b k)))

@@ -1,8 +1,8 @@
 -- `pattern::walk::expand` and `expand_item` call each other: the depth falls, and in the loop the bytes do. Assumes nothing.
 use Rattle.laws.proofs.Prelude.{needs, _≡_, sym, _∙_, ℕ, _+_, _-_, _≤_, _<_, arith, length, slice}
 use Rattle.route.specs.Form.{MOST-LEGS}
-use Rattle.pattern.specs.Read.{read}
-use Rattle.pattern.proofs.Going.{Going, going-few, going-start, told, came-up, item-next, leg-fits, repeat-fits, neither-done, leg-done, too-deep, body-broken, repeat-done, step-broken}
+use Rattle.pattern.specs.{declared.form.Head.Head, Read.{read, headOf}}
+use Rattle.pattern.proofs.Going.{Item, Turn, Going, going-few, going-start, told, came-up, item-next, leg-fits, repeat-fits, neither-done, leg-done, too-deep, body-broken, repeat-done, step-broken}
 use Rattle.pattern.proofs.{Going.{step-on, step-end}, walk.+expand+expand_item.{statement, Tie.close}}
 use borrow.Fn.{Kinds.In, PlainCycle.{Measures, is, falls, and}}
 use Rattle.pattern.proofs.walk.expand.Reads as expand
@@ -33,12 +33,31 @@ expand-item-at t = and 2 expand-item-kinds.ps (is 2 expand-item-kinds.ps μ-expa
 abbrev expand-item-below : ℕ → In 2 expand-item-kinds.ps
 expand-item-below t = and 2 expand-item-kinds.ps (falls 2 expand-item-kinds.ps _<_ μ-expand-item t) expand-item.Pre
 
+abbrev item-claims : ℕ → expand-item-lts.Claims
+item-claims t = (head-at-reads.Asked, head-at-reads.Learnt, put-place-reads.Asked, put-place-reads.Learnt, expand-below t, expand.Post, put-rounds-reads.Asked, put-rounds-reads.Learnt)
+
+-- what is known of an item once its head is read
+abbrev Headed : ℕ → Type 0
+Headed t = expand-item-lts.After-head-at (item-claims t) (expand-item-at t) expand-item.Post
+
+item : (t : ℕ) (head : Headed t) → let a = head .before .before .before .args in Item (a .b .now) (a .at) (a .end) (a .depth) (a .count) (a .places .now)
+item t head = let pre = head .before .before .before .pre .1 in record { within = pre .1; size = pre .2; few = pre .3 }
+
+head-is : (t : ℕ) (head : Headed t) {x : Head} → head .head-at .result ≡ x → let a = head .before .before .before .args in x ≡ headOf (slice (a .at) (a .end) (a .b .now))
+head-is t head e = sym e ∙ head .head-at .ensures
+
 abbrev expand-Inv-loop : expand-lts.InvT-loop
 expand-Inv-loop b from end depth places₀ count at₀ n₀ places at n =
     (at ≤ end) × (length places ≡ MOST-LEGS) × Going b (read depth (slice from end b)) (read depth (slice at end b)) count places₀ n places
 
 abbrev expand-μ-loop : expand-lts.MeasureT-loop
 expand-μ-loop b from end depth places₀ count at₀ n₀ places at n = end - at
+
+-- what is known of a turn once its item is walked
+turned : (t : ℕ) (call : expand-lts.After-expand-item (expand-item-below t, expand-item.Post) (expand-at t) expand.Post expand-Inv-loop expand-μ-loop)
+    → let at = call .before .before .before in let a = at .before .before .before .args in
+    Turn (a .b .now) (a .depth) (at .loop .at) (a .end) (read (a .depth) (slice (a .from) (a .end) (a .b .now))) (a .count) (at .loop .n) (a .places .now) (at .loop .places)
+turned t call = let turn = call .before .before in record { within = turn .before .before .before .before .pre .1 .1; some = turn .loop-test .taken; going = turn .before .loop .inv .2 }
 
 pub +expand+expand-item-spec : {M : Type 1} → statement M
 +expand+expand-item-spec = close μ-expand μ-expand-item
@@ -47,99 +66,42 @@ pub +expand+expand-item-spec : {M : Type 1} → statement M
     (λ c κs.
     let turn = c .before in
     let inv = turn .before .loop .inv in
-    let pre = turn .before .before .before .before .pre .1 in
-    (omega arith, (turn .loop-test .taken, pre .1, inv .1, going-few (inv .2))))
+    (omega arith, (turn .loop-test .taken, turn .before .before .before .before .pre .1 .1, inv .1, going-few (inv .2))))
     (λ c. search needs)
     (λ c. search needs)
-    (λ c.
-    let call = c .before .before .before .before in
-    let turn = call .before .before in
-    let start = turn .before .before .before .before in
-    let pre = start .pre .1 in
-    let a = start .args in
-    step-broken (a .b .now) (a .depth) (turn .before .loop .at) (a .end) (pre .1) (turn .before .loop .inv .2) (turn .loop-test .taken) (sym (c .enum-told .given .1) ∙ call .expand-item .ensures .counted))
+    (λ c. let call = c .before .before .before .before in step-broken (turned t call) (sym (c .enum-told .given .1) ∙ call .expand-item .ensures .counted))
     (λ c. search needs)
     (λ c.
     let call = c .before .before .before .before .before in
-    let turn = call .before .before in
-    let start = turn .before .before .before .before in
-    let pre = start .pre .1 in
-    let a = start .args in
-    let next = item-next (a .b .now) (a .depth) (turn .before .loop .at) (a .end) (turn .before .loop .n) (turn .loop-test .taken) (pre .1) (sym (c .before .walked .given .1) ∙ call .expand-item .ensures .counted) in
-    omega (arith, next .0, turn .loop-test .taken))
+    let next = item-next (turned t call) (sym (c .before .walked .given .1) ∙ call .expand-item .ensures .counted) in
+    omega (arith, next .0, turned t call .some))
     (λ c.
     let call = c .before .before .before .before .before in
-    let turn = call .before .before in
-    let inv = turn .before .loop .inv in
-    let start = turn .before .before .before .before in
-    let pre = start .pre .1 in
-    let a = start .args in
-    let walked = told (c .before .walked .given .1) (call .expand-item .ensures) in (
-      item-next (a .b .now) (a .depth) (turn .before .loop .at) (a .end) (turn .before .loop .n) (turn .loop-test .taken) (pre .1) (walked .counted) .1,
-      omega arith,
-      step-on (a .b .now) (a .depth) (turn .before .loop .at) (a .end) (pre .1) (inv .2) (turn .loop-test .taken) walked,
-    ))
+    let walked = told (c .before .walked .given .1) (call .expand-item .ensures) in
+    (item-next (turned t call) (walked .counted) .1, omega arith, step-on (turned t call) walked))
     (λ c. search needs)
     (λ c.
     let start = c .before .before .before .before in
     let a = start .args in
     step-end (a .b .now) (a .depth) (c .before .loop .at) (a .end) (start .pre .1 .1) (c .before .loop .inv .2) (c .loop-test .left)))
-    (λ t. expand-item-lts.spec
-    (head-at-reads.Asked, head-at-reads.Learnt, put-place-reads.Asked, put-place-reads.Learnt, expand-below t, expand.Post, put-rounds-reads.Asked, put-rounds-reads.Learnt)
-    (expand-item-at t) expand-item.Post
+    (λ t. expand-item-lts.spec (item-claims t) (expand-item-at t) expand-item.Post
     (λ c κs. search needs)
     (λ c. search needs)
     (λ c. search needs)
-    (λ c.
-    let head = c .before .before in
-    let start = head .before .before .before in
-    let pre = start .pre .1 in
-    let a = start .args in
-    let fits = leg-fits (a .b .now) (a .at) (a .end) (pre .1) (sym (c .enum-told2 .given .1) ∙ head .head-at .ensures) in
-    omega (arith, fits))
+    (λ c. omega (arith, leg-fits (item t (c .before .before)) (head-is t (c .before .before) (c .enum-told2 .given .1))))
     (λ c. search needs)
     (λ c κs. search needs)
     (λ c. search needs)
-    (λ c.
-    let told = c .before .before in
-    let head = told .before .before in
-    let start = head .before .before .before in
-    let pre = start .pre .1 in
-    let a = start .args in
-    too-deep (a .b .now) (a .at) (a .end) (a .depth) (a .count) (a .places .now) _ _ (pre .1) (sym (told .head .given .1) ∙ head .head-at .ensures) (c .if1 .taken))
-    (λ c.
-    let told = c .before .before in
-    let head = told .before .before in
-    let start = head .before .before .before in
-    let pre = start .pre .1 in
-    let a = start .args in
-    let fits = repeat-fits (a .b .now) (a .at) (a .end) (pre .1) (sym (told .head .given .1) ∙ head .head-at .ensures) in
-    omega (arith, fits .2))
-    (λ c.
-    let told = c .before .before in
-    let head = told .before .before in
-    let start = head .before .before .before in
-    let pre = start .pre .1 in
-    let a = start .args in
-    let fits = repeat-fits (a .b .now) (a .at) (a .end) (pre .1) (sym (told .head .given .1) ∙ head .head-at .ensures) in
-    omega (arith, fits .2))
-    (λ c.
-    let told = c .before .before in
-    let head = told .before .before in
-    let start = head .before .before .before in
-    let pre = start .pre .1 in
-    let a = start .args in
-    let fits = repeat-fits (a .b .now) (a .at) (a .end) (pre .1) (sym (told .head .given .1) ∙ head .head-at .ensures) in
-    omega (arith, fits .2))
+    (λ c. let told = c .before .before in let head = told .before .before in too-deep (item t head) (head-is t head (told .head .given .1)) (c .if1 .taken))
+    (λ c. let told = c .before .before in let head = told .before .before in omega (arith, repeat-fits (item t head) (head-is t head (told .head .given .1)) .2))
+    (λ c. let told = c .before .before in let head = told .before .before in omega (arith, repeat-fits (item t head) (head-is t head (told .head .given .1)) .2))
+    (λ c. let told = c .before .before in let head = told .before .before in omega (arith, repeat-fits (item t head) (head-is t head (told .head .given .1)) .2))
     (λ c. search needs)
     (λ c κs.
     let told = c .before .before .before in
     let head = told .before .before in
-    let start = head .before .before .before in
-    let pre = start .pre .1 in
-    let a = start .args in
-    let fits = repeat-fits (a .b .now) (a .at) (a .end) (pre .1) (sym (told .head .given .1) ∙ head .head-at .ensures) in
-    (omega arith, (omega arith, omega (arith, fits .2), pre .2, pre .3)))
+    let fits = repeat-fits (item t head) (head-is t head (told .head .given .1)) in
+    (omega arith, (omega arith, omega (arith, fits .2), item t head .size, item t head .few)))
     (λ c. search needs)
     (λ c. search needs)
     (λ c κs.
@@ -147,35 +109,23 @@ pub +expand+expand-item-spec : {M : Type 1} → statement M
     let call = body .before .before .before .before in
     let told = call .before .before .before .before in
     let head = told .before .before in
-    let start = head .before .before .before in
-    let pre = start .pre .1 in
-    let a = start .args in
-    let fits = repeat-fits (a .b .now) (a .at) (a .end) (pre .1) (sym (told .head .given .1) ∙ head .head-at .ensures) in
-    let up = came-up _ _ _ (pre .3) (sym (body .body .given .1) ∙ call .expand .ensures .counted) in
+    let fits = repeat-fits (item t head) (head-is t head (told .head .given .1)) in
+    let up = came-up _ _ _ (item t head .few) (sym (body .body .given .1) ∙ call .expand .ensures .counted) in
     (omega arith, up .0, up .1, fits .0, fits .1))
-    (λ c.
-    let head = c .before .before in
-    let a = head .before .before .before .args in
-    neither-done (a .b .now) (a .at) (a .end) (a .depth) (a .count) (a .places .now) (sym (c .enum-told .given .1) ∙ head .head-at .ensures))
+    (λ c. let head = c .before .before in neither-done (item t head) (head-is t head (c .enum-told .given .1)))
     (λ c. search needs)
     (λ c.
     let put = c .before .before in
     let told = put .before .before in
     let head = told .before .before in
-    let start = head .before .before .before in
-    let pre = start .pre .1 in
-    let a = start .args in
-    leg-done (a .b .now) (a .at) (a .end) (a .depth) (a .count) (a .places .now) (pre .1) (sym (told .enum-told2 .given .1) ∙ head .head-at .ensures) (put .put-place .ensures))
+    leg-done (item t head) (head-is t head (told .enum-told2 .given .1)) (put .put-place .ensures))
     (λ c. search needs)
     (λ c.
     let call = c .before .before .before .before in
     let deep = call .before .before in
     let told = deep .before .before in
     let head = told .before .before in
-    let start = head .before .before .before in
-    let pre = start .pre .1 in
-    let a = start .args in
-    body-broken (a .b .now) (a .at) (a .end) (a .depth) (a .count) (a .places .now) _ _ (pre .1) (sym (told .head .given .1) ∙ head .head-at .ensures) (deep .if1 .left) (sym (c .enum-told3 .given .1) ∙ call .expand .ensures .counted))
+    body-broken (item t head) (head-is t head (told .head .given .1)) (deep .if1 .left) (sym (c .enum-told3 .given .1) ∙ call .expand .ensures .counted))
     (λ c. search needs)
     (λ c.
     let put = c .before .before in
@@ -184,8 +134,4 @@ pub +expand+expand-item-spec : {M : Type 1} → statement M
     let deep = call .before .before in
     let known = deep .before .before in
     let head = known .before .before in
-    let start = head .before .before .before in
-    let pre = start .pre .1 in
-    let a = start .args in
-    repeat-done (a .b .now) (a .at) (a .end) (a .depth) (a .count) (a .places .now) _ _ (pre .1) (sym (known .head .given .1) ∙ head .head-at .ensures) (deep .if1 .left) (pre .2) (pre .3)
-    (told (body .body .given .1) (call .expand .ensures)) (put .put-rounds .ensures)))
+    repeat-done (item t head) (head-is t head (known .head .given .1)) (deep .if1 .left) (told (body .body .given .1) (call .expand .ensures)) (put .put-rounds .ensures)))

@@ -1,5 +1,7 @@
 // Logs from other boxes (request Ten of document 02): whether a log's flags are those that its own margins demand, and its commands those that its flags
 // demand. One pass over the lent log, which is only read.
+use image::AGILE;
+use image::INPUT_WORDS;
 use joint_tick::Profile;
 use joint_tick::is_profile;
 use joint_tick::profile_of;
@@ -27,14 +29,12 @@ ghost use Rattle.audit.specs.Right.{passes, passesThird, planners, finit
 ghost use Rattle.audit.specs.Verdict.{verdictOf, verdictWord};
 ghost use Rattle.audit.specs.Entry.{checkCall};
 
-// The words of a record that are looked at: of the input, and of the answer, which stands behind it. The promises hold them to the layout's.
-const AGILE: usize = 11;
+// The words of a record's answer that are looked at; it stands behind the input.
+const COMMAND: usize = INPUT_WORDS + image::COMMAND;
 
-const COMMAND: usize = 20;
+const FLAG: usize = INPUT_WORDS + image::FLAG;
 
-const FLAG: usize = 23;
-
-const MARGIN: usize = 26;
+const MARGIN: usize = INPUT_WORDS + image::MARGIN;
 
 // What is said of a log: the place of a wrong record is counted from 0.
 pub enum Verdict {

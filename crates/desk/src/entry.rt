@@ -8,7 +8,10 @@ use crate::filters::put_desk;
 use crate::filters::set_up;
 use crate::filters::step;
 use calls::tick_refusal;
+use image::DT;
 use image::INPUT_BYTES;
+use image::YAW;
+use image::YAW_RATE;
 use outcome::Outcome;
 use outcome::is_done;
 use words::float_at;
@@ -23,13 +26,6 @@ ghost use Rattle.words.specs.Words.{Put};
 ghost use Rattle.image.specs.Layout.{YAW, INPUT-BYTES};
 ghost use Rattle.outcome.specs.Outcomes.{left};
 ghost use Rattle.desk.specs.Entry.{deskNumber, deskSetUpCall, centreCall, withHeading, lentToDesk, deskTickCall};
-
-// The tick input's words of the heading and its rate, and of dt (crate `image`'s layout).
-const YAW: usize = 8;
-
-const YAW_RATE: usize = 9;
-
-const DT: usize = 10;
 
 // How a call on a desk ends. The core's outcome is handed on as it is; the two of the desk's own come before it.
 pub enum DeskOutcome {

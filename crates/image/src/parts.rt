@@ -39,7 +39,7 @@ ghost use Rattle.joint_tick.specs.Profile.{profileWord};
 ghost use Rattle.image.specs.Parts.{quatAt, gainsAt, setAt, governorAt, quinticAt, segmentAt, adrcGainsAt, axisAt, rateAt, biquadAt, lpfAt, legAt, profileAt, floatsOfGains, floatsOfSet, floatsOfGovernor, floatsOfQuintic, floatsOfSegment, floatsOfAdrcGains, floatsOfAxis, floatsOfRate, floatsOfBiquad, floatsOfLpf};
 ghost use Rattle.image.specs.Inner.{movedOfAxis, movedOfBiquad};
 
-pub fn quat_at(bytes: &[u8], k: usize, plain: bool) -> Quat
+pub(crate) fn quat_at(bytes: &[u8], k: usize, plain: bool) -> Quat
     requires { ⌜ 4 * k + 16 ≤ length (now bytes) ⌝ ∗ ⌜ Plain plain (now bytes) ⌝ }
     ensures { λ r. ⌜ r ≡ quatAt (now (bytes .entry)) k ⌝ }
 {
@@ -51,7 +51,7 @@ pub fn quat_at(bytes: &[u8], k: usize, plain: bool) -> Quat
     )
 }
 
-pub fn gains_at(bytes: &[u8], k: usize, plain: bool) -> GeoGains
+pub(crate) fn gains_at(bytes: &[u8], k: usize, plain: bool) -> GeoGains
     requires { ⌜ 4 * k + 36 ≤ length (now bytes) ⌝ ∗ ⌜ Plain plain (now bytes) ⌝ }
     ensures { λ r. ⌜ r ≡ gainsAt (now (bytes .entry)) k ⌝ }
 {
@@ -62,7 +62,7 @@ pub fn gains_at(bytes: &[u8], k: usize, plain: bool) -> GeoGains
     }
 }
 
-pub fn set_at(bytes: &[u8], k: usize, plain: bool) -> RecoverableSet
+pub(crate) fn set_at(bytes: &[u8], k: usize, plain: bool) -> RecoverableSet
     requires { ⌜ 4 * k + 12 ≤ length (now bytes) ⌝ ∗ ⌜ Plain plain (now bytes) ⌝ }
     ensures { λ r. ⌜ r ≡ setAt (now (bytes .entry)) k ⌝ }
 {
@@ -73,7 +73,7 @@ pub fn set_at(bytes: &[u8], k: usize, plain: bool) -> RecoverableSet
     }
 }
 
-pub fn governor_at(bytes: &[u8], k: usize, plain: bool) -> RefGovernor
+pub(crate) fn governor_at(bytes: &[u8], k: usize, plain: bool) -> RefGovernor
     requires { ⌜ 4 * k + 16 ≤ length (now bytes) ⌝ ∗ ⌜ Plain plain (now bytes) ⌝ }
     ensures { λ r. ⌜ r ≡ governorAt (now (bytes .entry)) k ⌝ }
 {
@@ -85,7 +85,7 @@ pub fn governor_at(bytes: &[u8], k: usize, plain: bool) -> RefGovernor
     }
 }
 
-pub fn quintic_at(bytes: &[u8], k: usize, plain: bool) -> Quintic
+pub(crate) fn quintic_at(bytes: &[u8], k: usize, plain: bool) -> Quintic
     requires { ⌜ 4 * k + 28 ≤ length (now bytes) ⌝ ∗ ⌜ Plain plain (now bytes) ⌝ }
     ensures { λ r. ⌜ r ≡ quinticAt (now (bytes .entry)) k ⌝ }
 {
@@ -100,7 +100,7 @@ pub fn quintic_at(bytes: &[u8], k: usize, plain: bool) -> Quintic
     }
 }
 
-pub fn segment_at(bytes: &[u8], k: usize, plain: bool) -> Segment3
+pub(crate) fn segment_at(bytes: &[u8], k: usize, plain: bool) -> Segment3
     requires { ⌜ 4 * k + 84 ≤ length (now bytes) ⌝ ∗ ⌜ Plain plain (now bytes) ⌝ }
     ensures { λ r. ⌜ r ≡ segmentAt (now (bytes .entry)) k ⌝ }
 {
@@ -111,7 +111,7 @@ pub fn segment_at(bytes: &[u8], k: usize, plain: bool) -> Segment3
     )
 }
 
-pub fn adrc_gains_at(bytes: &[u8], k: usize, plain: bool) -> AdrcGains
+pub(crate) fn adrc_gains_at(bytes: &[u8], k: usize, plain: bool) -> AdrcGains
     requires { ⌜ 4 * k + 16 ≤ length (now bytes) ⌝ ∗ ⌜ Plain plain (now bytes) ⌝ }
     ensures { λ r. ⌜ r ≡ adrcGainsAt (now (bytes .entry)) k ⌝ }
 {
@@ -123,7 +123,7 @@ pub fn adrc_gains_at(bytes: &[u8], k: usize, plain: bool) -> AdrcGains
     }
 }
 
-pub fn axis_at(bytes: &[u8], k: usize, plain: bool) -> AdrcAxis
+pub(crate) fn axis_at(bytes: &[u8], k: usize, plain: bool) -> AdrcAxis
     requires { ⌜ 4 * k + 36 ≤ length (now bytes) ⌝ ∗ ⌜ Plain plain (now bytes) ⌝ }
     ensures { λ r. ⌜ r ≡ axisAt (now (bytes .entry)) k ⌝ }
 {
@@ -137,7 +137,7 @@ pub fn axis_at(bytes: &[u8], k: usize, plain: bool) -> AdrcAxis
     }
 }
 
-pub fn rate_at(bytes: &[u8], k: usize, plain: bool) -> AdrcRate
+pub(crate) fn rate_at(bytes: &[u8], k: usize, plain: bool) -> AdrcRate
     requires { ⌜ 4 * k + 108 ≤ length (now bytes) ⌝ ∗ ⌜ Plain plain (now bytes) ⌝ }
     ensures { λ r. ⌜ r ≡ rateAt (now (bytes .entry)) k ⌝ }
 {
@@ -148,7 +148,7 @@ pub fn rate_at(bytes: &[u8], k: usize, plain: bool) -> AdrcRate
     }
 }
 
-pub fn biquad_at(bytes: &[u8], k: usize, plain: bool) -> Biquad
+pub(crate) fn biquad_at(bytes: &[u8], k: usize, plain: bool) -> Biquad
     requires { ⌜ 4 * k + 36 ≤ length (now bytes) ⌝ ∗ ⌜ Plain plain (now bytes) ⌝ }
     ensures { λ r. ⌜ r ≡ biquadAt (now (bytes .entry)) k ⌝ }
 {
@@ -165,7 +165,7 @@ pub fn biquad_at(bytes: &[u8], k: usize, plain: bool) -> Biquad
     }
 }
 
-pub fn lpf_at(bytes: &[u8], k: usize, plain: bool) -> GyroLpf
+pub(crate) fn lpf_at(bytes: &[u8], k: usize, plain: bool) -> GyroLpf
     requires { ⌜ 4 * k + 108 ≤ length (now bytes) ⌝ ∗ ⌜ Plain plain (now bytes) ⌝ }
     ensures { λ r. ⌜ r ≡ lpfAt (now (bytes .entry)) k ⌝ }
 {
@@ -199,7 +199,7 @@ pub(crate) fn profile_at(bytes: &[u8], k: usize) -> Profile
     profile_of(word_at(bytes, k))
 }
 
-pub fn put_gains(bytes: &mut [u8], k: usize, g: GeoGains)
+pub(crate) fn put_gains(bytes: &mut [u8], k: usize, g: GeoGains)
     requires { ⌜ 4 * k + 36 ≤ length (now bytes) ⌝ }
     ensures { λ _. ⌜ Put (now (bytes .entry)) k (wordsOf (floatsOfGains g)) (now (bytes .exit)) ⌝ }
 {
@@ -208,14 +208,14 @@ pub fn put_gains(bytes: &mut [u8], k: usize, g: GeoGains)
     put_vec(bytes, k + VEC_WORDS + VEC_WORDS, g.j);
 }
 
-pub fn put_set(bytes: &mut [u8], k: usize, s: RecoverableSet)
+pub(crate) fn put_set(bytes: &mut [u8], k: usize, s: RecoverableSet)
     requires { ⌜ 4 * k + 12 ≤ length (now bytes) ⌝ }
     ensures { λ _. ⌜ Put (now (bytes .entry)) k (wordsOf (floatsOfSet s)) (now (bytes .exit)) ⌝ }
 {
     put_three(bytes, k, s.k_r, s.lambda_j, s.psi_max);
 }
 
-pub fn put_governor(bytes: &mut [u8], k: usize, g: RefGovernor)
+pub(crate) fn put_governor(bytes: &mut [u8], k: usize, g: RefGovernor)
     requires { ⌜ 4 * k + 16 ≤ length (now bytes) ⌝ }
     ensures { λ _. ⌜ Put (now (bytes .entry)) k (wordsOf (floatsOfGovernor g)) (now (bytes .exit)) ⌝ }
 {
@@ -223,7 +223,7 @@ pub fn put_governor(bytes: &mut [u8], k: usize, g: RefGovernor)
     put_float(bytes, k + 3, g.g_min);
 }
 
-pub fn put_quintic(bytes: &mut [u8], k: usize, q: Quintic)
+pub(crate) fn put_quintic(bytes: &mut [u8], k: usize, q: Quintic)
     requires { ⌜ 4 * k + 28 ≤ length (now bytes) ⌝ }
     ensures { λ _. ⌜ Put (now (bytes .entry)) k (wordsOf (floatsOfQuintic q)) (now (bytes .exit)) ⌝ }
 {
@@ -232,7 +232,7 @@ pub fn put_quintic(bytes: &mut [u8], k: usize, q: Quintic)
     put_float(bytes, k + T_END, q.t_end);
 }
 
-pub fn put_segment(bytes: &mut [u8], k: usize, s: Segment3)
+pub(crate) fn put_segment(bytes: &mut [u8], k: usize, s: Segment3)
     requires { ⌜ 4 * k + 84 ≤ length (now bytes) ⌝ }
     ensures { λ _. ⌜ Put (now (bytes .entry)) k (wordsOf (floatsOfSegment s)) (now (bytes .exit)) ⌝ }
 {
@@ -241,7 +241,7 @@ pub fn put_segment(bytes: &mut [u8], k: usize, s: Segment3)
     put_quintic(bytes, k + QUINTIC_WORDS + QUINTIC_WORDS, s.2);
 }
 
-pub fn put_adrc_gains(bytes: &mut [u8], k: usize, g: AdrcGains)
+pub(crate) fn put_adrc_gains(bytes: &mut [u8], k: usize, g: AdrcGains)
     requires { ⌜ 4 * k + 16 ≤ length (now bytes) ⌝ }
     ensures { λ _. ⌜ Put (now (bytes .entry)) k (wordsOf (floatsOfAdrcGains g)) (now (bytes .exit)) ⌝ }
 {
@@ -259,7 +259,7 @@ pub(crate) fn put_axis_moved(bytes: &mut [u8], k: usize, a: AdrcAxis)
     put_float(bytes, k + 4, a.u_delivered_frac);
 }
 
-pub fn put_axis(bytes: &mut [u8], k: usize, a: AdrcAxis)
+pub(crate) fn put_axis(bytes: &mut [u8], k: usize, a: AdrcAxis)
     requires { ⌜ 4 * k + 36 ≤ length (now bytes) ⌝ }
     ensures { λ _. ⌜ Put (now (bytes .entry)) k (wordsOf (floatsOfAxis a)) (now (bytes .exit)) ⌝ }
 {
@@ -267,7 +267,7 @@ pub fn put_axis(bytes: &mut [u8], k: usize, a: AdrcAxis)
     put_adrc_gains(bytes, k + 5, a.g);
 }
 
-pub fn put_rate(bytes: &mut [u8], k: usize, r: AdrcRate)
+pub(crate) fn put_rate(bytes: &mut [u8], k: usize, r: AdrcRate)
     requires { ⌜ 4 * k + 108 ≤ length (now bytes) ⌝ }
     ensures { λ _. ⌜ Put (now (bytes .entry)) k (wordsOf (floatsOfRate r)) (now (bytes .exit)) ⌝ }
 {
@@ -276,7 +276,7 @@ pub fn put_rate(bytes: &mut [u8], k: usize, r: AdrcRate)
     put_axis(bytes, k + AXIS_WORDS + AXIS_WORDS, r.yaw);
 }
 
-pub fn put_biquad(bytes: &mut [u8], k: usize, f: Biquad)
+pub(crate) fn put_biquad(bytes: &mut [u8], k: usize, f: Biquad)
     requires { ⌜ 4 * k + 36 ≤ length (now bytes) ⌝ }
     ensures { λ _. ⌜ Put (now (bytes .entry)) k (wordsOf (floatsOfBiquad f)) (now (bytes .exit)) ⌝ }
 {
@@ -294,7 +294,7 @@ pub(crate) fn put_biquad_moved(bytes: &mut [u8], k: usize, f: Biquad)
     put_three(bytes, k + 6, f.x2, f.y1, f.y2);
 }
 
-pub fn put_lpf(bytes: &mut [u8], k: usize, l: GyroLpf)
+pub(crate) fn put_lpf(bytes: &mut [u8], k: usize, l: GyroLpf)
     requires { ⌜ 4 * k + 108 ≤ length (now bytes) ⌝ }
     ensures { λ _. ⌜ Put (now (bytes .entry)) k (wordsOf (floatsOfLpf l)) (now (bytes .exit)) ⌝ }
 {

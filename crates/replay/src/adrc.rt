@@ -1,21 +1,21 @@
 // 002: relay_adrc, numbers 200 to 230.
 use super::parts::Row;
+use super::parts::adrc_gains_at;
+use super::parts::axis_at;
+use super::parts::biquad_at;
 use super::parts::body_rate_at;
 use super::parts::filter_at;
 use super::parts::filter3_at;
+use super::parts::lpf_at;
+use super::parts::put_adrc_gains;
+use super::parts::put_axis;
+use super::parts::put_biquad;
 use super::parts::put_filter;
 use super::parts::put_filter3;
+use super::parts::put_lpf;
+use super::parts::put_rate;
 use super::parts::put_yes;
-use image::adrc_gains_at;
-use image::axis_at;
-use image::biquad_at;
-use image::lpf_at;
-use image::put_adrc_gains;
-use image::put_axis;
-use image::put_biquad;
-use image::put_lpf;
-use image::put_rate;
-use image::rate_at;
+use super::parts::rate_at;
 use relay_adrc::AdrcAxis;
 use relay_adrc::AdrcGains;
 use relay_adrc::AdrcRate;
@@ -51,13 +51,12 @@ pub(crate) fn answer(n: u32, i: &Row, o: &mut Row) {
 }
 
 fn gains(n: u32, i: &Row, o: &mut Row) {
-    let g = adrc_gains_at(i, 0, false);
+    let g = adrc_gains_at(i, 0);
     match n {
-        200 => put_adrc_gains(o, 0, AdrcGains::new(g.omega_o, g.omega_c, g.b0)),
-        201 => put_adrc_gains(o, 0, AdrcGains::with_tau(g.omega_o, g.omega_c, g.b0, g.tau)),
+        200 => put_adrc_gains(o, AdrcGains::new(g.omega_o, g.omega_c, g.b0)),
+        201 => put_adrc_gains(o, AdrcGains::with_tau(g.omega_o, g.omega_c, g.b0, g.tau)),
         202 => put_adrc_gains(
             o,
-            0,
             AdrcGains::from_bandwidth(g.omega_o, g.omega_c, g.b0, g.tau),
         ),
         203 => put_yes(o, 0, g.well_separated(float_at(i, 4))),
@@ -66,24 +65,24 @@ fn gains(n: u32, i: &Row, o: &mut Row) {
 }
 
 fn axes(n: u32, i: &Row, o: &mut Row) {
-    let a = axis_at(i, 0, false);
+    let a = axis_at(i);
     match n {
         205 => put_float(o, 0, relay_adrc::sanitise(a.z1, a.z2)),
-        206 => put_axis(o, 0, AdrcAxis::new(adrc_gains_at(i, 0, false))),
+        206 => put_axis(o, AdrcAxis::new(adrc_gains_at(i, 0))),
         207 => put_float(o, 0, a.disturbance()),
         208 => put_axis_tick(o, a.tick(float_at(i, 9), float_at(i, 10), float_at(i, 11))),
-        209 => put_axis(o, 0, a.reset()),
-        _ => put_axis(o, 0, a.set_delivered_fraction(float_at(i, 9))),
+        209 => put_axis(o, a.reset()),
+        _ => put_axis(o, a.set_delivered_fraction(float_at(i, 9))),
     }
 }
 
 fn lowpasses(n: u32, i: &Row, o: &mut Row) {
     match n {
-        211 => put_biquad(o, 0, Biquad::lowpass(float_at(i, 0), float_at(i, 1))),
-        212 => put_biquad(o, 0, Biquad::passthrough()),
-        213 => put_filtered(o, biquad_at(i, 0, false).filter(float_at(i, 9))),
-        214 => put_lpf(o, 0, GyroLpf::new(float_at(i, 0), float_at(i, 1))),
-        _ => put_gyro_filtered(o, lpf_at(i, 0, false).filter(body_rate_at(i, 27))),
+        211 => put_biquad(o, Biquad::lowpass(float_at(i, 0), float_at(i, 1))),
+        212 => put_biquad(o, Biquad::passthrough()),
+        213 => put_filtered(o, biquad_at(i).filter(float_at(i, 9))),
+        214 => put_lpf(o, GyroLpf::new(float_at(i, 0), float_at(i, 1))),
+        _ => put_gyro_filtered(o, lpf_at(i).filter(body_rate_at(i, 27))),
     }
 }
 
@@ -91,25 +90,20 @@ fn rates(n: u32, i: &Row, o: &mut Row) {
     match n {
         216 => put_rate(
             o,
-            0,
             AdrcRate::new(
-                adrc_gains_at(i, 0, false),
-                adrc_gains_at(i, 4, false),
-                adrc_gains_at(i, 8, false),
+                adrc_gains_at(i, 0),
+                adrc_gains_at(i, 4),
+                adrc_gains_at(i, 8),
             ),
         ),
-        217 => put_rate(o, 0, AdrcRate::falcon_quad()),
+        217 => put_rate(o, AdrcRate::falcon_quad()),
         218 => put_rate_tick(
             o,
-            rate_at(i, 0, false).tick(body_rate_at(i, 27), body_rate_at(i, 30), float_at(i, 33)),
+            rate_at(i).tick(body_rate_at(i, 27), body_rate_at(i, 30), float_at(i, 33)),
         ),
-        219 => put_rate(o, 0, rate_at(i, 0, false).reset()),
-        220 => put_rate(
-            o,
-            0,
-            rate_at(i, 0, false).set_delivered_fraction(vec_at(i, 27)),
-        ),
-        _ => put_vec(o, 0, rate_at(i, 0, false).disturbance()),
+        219 => put_rate(o, rate_at(i).reset()),
+        220 => put_rate(o, rate_at(i).set_delivered_fraction(vec_at(i, 27))),
+        _ => put_vec(o, 0, rate_at(i).disturbance()),
     }
 }
 
@@ -140,22 +134,22 @@ fn three_filters(n: u32, i: &Row, o: &mut Row) {
 // The new state, then what is answered.
 
 fn put_axis_tick(o: &mut Row, t: AxisTick) {
-    put_axis(o, 0, t.axis);
+    put_axis(o, t.axis);
     put_float(o, 9, t.u);
 }
 
 fn put_filtered(o: &mut Row, f: Filtered) {
-    put_biquad(o, 0, f.biquad);
+    put_biquad(o, f.biquad);
     put_float(o, 9, f.y);
 }
 
 fn put_gyro_filtered(o: &mut Row, f: GyroFiltered) {
-    put_lpf(o, 0, f.lpf);
+    put_lpf(o, f.lpf);
     put_vec(o, 27, f.rate.0);
 }
 
 fn put_rate_tick(o: &mut Row, t: RateTick) {
-    put_rate(o, 0, t.rate);
+    put_rate(o, t.rate);
     put_vec(o, 27, t.torque.0);
 }
 

@@ -1,16 +1,16 @@
 // 000: relay_geo, numbers 0 to 31.
 use super::parts::Row;
 use super::parts::body_rate_at;
+use super::parts::gains_at;
 use super::parts::mat_at;
+use super::parts::put_gains;
 use super::parts::put_mat;
+use super::parts::put_set;
 use super::parts::put_shield;
 use super::parts::put_yes;
+use super::parts::quat_at;
+use super::parts::set_at;
 use super::parts::shield_at;
-use image::gains_at;
-use image::put_gains;
-use image::put_set;
-use image::quat_at;
-use image::set_at;
 use relay_geo::Attitude;
 use relay_geo::Direction;
 use relay_geo::Feedforward;
@@ -54,7 +54,7 @@ fn vectors(n: u32, i: &Row, o: &mut Row) {
 fn attitudes(n: u32, i: &Row, o: &mut Row) {
     let a = vec_at(i, 0);
     match n {
-        10 => put_mat(o, 0, relay_geo::quat_to_rotmat(quat_at(i, 0, false))),
+        10 => put_mat(o, 0, relay_geo::quat_to_rotmat(quat_at(i, 0))),
         11 => put_attitude(o, relay_geo::desired_attitude(a, float_at(i, 3))),
         12 => put_direction(o, relay_geo::thrust_axis_ned(a)),
         13 => put_attitude(o, relay_geo::thrust_attitude(a, float_at(i, 3))),
@@ -76,10 +76,10 @@ fn attitudes(n: u32, i: &Row, o: &mut Row) {
 }
 
 fn controls(n: u32, i: &Row, o: &mut Row) {
-    let c = GeoAtt::new(gains_at(i, 0, false));
+    let c = GeoAtt::new(gains_at(i));
     match n {
-        16 => put_gains(o, 0, GeoGains::falcon_quad()),
-        17 => put_gains(o, 0, c.gains),
+        16 => put_gains(o, GeoGains::falcon_quad()),
+        17 => put_gains(o, c.gains),
         18 => put_float(o, 0, GeoAtt::psi(mat_at(i, 0), mat_at(i, 9))),
         19 => put_vec(o, 0, GeoAtt::attitude_error(mat_at(i, 0), mat_at(i, 9))),
         20 => put_vec(
@@ -101,14 +101,14 @@ fn controls(n: u32, i: &Row, o: &mut Row) {
         23 => put_vec(
             o,
             0,
-            c.desired_rate(quat_at(i, 9, false), vec_at(i, 13), float_at(i, 16))
+            c.desired_rate(quat_at(i, 9), vec_at(i, 13), float_at(i, 16))
                 .0,
         ),
         _ => put_vec(
             o,
             0,
             c.tick(
-                    quat_at(i, 9, false),
+                    quat_at(i, 9),
                     body_rate_at(i, 13),
                     vec_at(i, 16),
                     float_at(i, 19),
@@ -119,14 +119,10 @@ fn controls(n: u32, i: &Row, o: &mut Row) {
 }
 
 fn shields(n: u32, i: &Row, o: &mut Row) {
-    let set = set_at(i, 0, false);
+    let set = set_at(i);
     let s = shield_at(i);
     match n {
-        25 => put_set(
-            o,
-            0,
-            RecoverableSet::new(set.k_r, set.lambda_j, set.psi_max),
-        ),
+        25 => put_set(o, RecoverableSet::new(set.k_r, set.lambda_j, set.psi_max)),
         26 => put_float(o, 0, set.margin(float_at(i, 3), float_at(i, 4))),
         27 => put_yes(o, 0, set.recoverable(float_at(i, 3), float_at(i, 4))),
         28 => put_shield(o, SimplexShield::new(set, float_at(i, 3), float_at(i, 4))),

@@ -1,12 +1,12 @@
 // 001: relay_traj, numbers 100 to 117.
 use super::parts::Row;
-use image::governor_at;
+use super::parts::governor_at;
+use super::parts::put_governor;
+use super::parts::put_quintic;
+use super::parts::put_segment;
+use super::parts::quintic_at;
+use super::parts::segment_at;
 use image::leg_at;
-use image::put_governor;
-use image::put_quintic;
-use image::put_segment;
-use image::quintic_at;
-use image::segment_at;
 use relay_traj::Advanced;
 use relay_traj::JerkCoeffs;
 use relay_traj::Quintic;
@@ -32,14 +32,10 @@ pub(crate) fn answer(n: u32, i: &Row, o: &mut Row) {
 
 // A new one takes as many words as it has.
 fn quintics(n: u32, i: &Row, o: &mut Row) {
-    let q = quintic_at(i, 0, false);
+    let q = quintic_at(i);
     match n {
         100 => put_float(o, 0, relay_traj::fin(q.c5, q.c4)),
-        101 => put_quintic(
-            o,
-            0,
-            Quintic::new(q.c5, q.c4, q.c3, q.c2, q.c1, q.c0, q.t_end),
-        ),
+        101 => put_quintic(o, Quintic::new(q.c5, q.c4, q.c3, q.c2, q.c1, q.c0, q.t_end)),
         102 => put_float(o, 0, q.duration()),
         103 => put_sample(o, q.eval(float_at(i, 7))),
         104 => put_coeffs(o, q.jerk_coeffs()),
@@ -49,12 +45,11 @@ fn quintics(n: u32, i: &Row, o: &mut Row) {
 
 fn segments(n: u32, i: &Row, o: &mut Row) {
     let l = leg_at(i, 0);
-    let s = segment_at(i, 0, false);
+    let s = segment_at(i);
     match n {
-        106 => put_segment(o, 0, Segment3::new(l.p0, l.v0, l.a0, l.pf, l.vf, l.af, l.t)),
+        106 => put_segment(o, Segment3::new(l.p0, l.v0, l.a0, l.pf, l.vf, l.af, l.t)),
         107 => put_segment(
             o,
-            0,
             Segment3::rest_to_rest(vec_at(i, 0), vec_at(i, 3), float_at(i, 6)),
         ),
         108 => put_float(o, 0, s.duration()),
@@ -64,7 +59,7 @@ fn segments(n: u32, i: &Row, o: &mut Row) {
 }
 
 fn governors(n: u32, i: &Row, o: &mut Row) {
-    let g = governor_at(i, 0, false);
+    let g = governor_at(i);
     match n {
         111 => put_float(o, 0, relay_traj::clamp_to(g.s, g.err_lo)),
         112 => put_float(
@@ -72,11 +67,11 @@ fn governors(n: u32, i: &Row, o: &mut Row) {
             0,
             relay_traj::gate_factor(g.s, g.err_lo, g.err_hi, g.g_min),
         ),
-        113 => put_governor(o, 0, RefGovernor::new(g.s, g.err_lo, g.err_hi)),
+        113 => put_governor(o, RefGovernor::new(g.s, g.err_lo, g.err_hi)),
         114 => put_float(o, 0, g.gate(float_at(i, 4))),
         115 => put_advanced(o, g.advance(float_at(i, 4), float_at(i, 5))),
         116 => put_float(o, 0, g.time()),
-        _ => put_governor(o, 0, g.reset()),
+        _ => put_governor(o, g.reset()),
     }
 }
 
@@ -97,6 +92,6 @@ fn put_sample3(o: &mut Row, s: Sample3) {
 }
 
 fn put_advanced(o: &mut Row, a: Advanced) {
-    put_governor(o, 0, a.governor);
+    put_governor(o, a.governor);
     put_float(o, 4, a.time);
 }

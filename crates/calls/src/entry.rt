@@ -1,4 +1,5 @@
 // Set-up, tick and exchange on lent bytes. Nothing is asked of the caller; a refused call changes no byte of any buffer.
+use super::unread::unread_unbroken;
 use image::ANSWER_BYTES;
 use image::IMAGE_BYTES;
 use image::IMAGE_WORDS;
@@ -40,8 +41,7 @@ pub fn tick_refusal(image: &[u8], input_len: usize, answer_len: usize) -> Outcom
     if answer_len != ANSWER_BYTES {
         return Outcome::AnswerLength;
     }
-    let fixed = fixed_at(image, false);
-    if unbroken(image, fixed.segment, fixed.enter, fixed.exit) {
+    if unread_unbroken(image) {
         return Outcome::Done;
     }
     Outcome::BrokenImage
@@ -86,8 +86,7 @@ pub fn exchange(image: &mut [u8], segment: &[u8]) -> Outcome
     if segment.len() != LEG_BYTES {
         return Outcome::InputLength;
     }
-    let fixed = fixed_at(image, false);
-    if !unbroken(image, fixed.segment, fixed.enter, fixed.exit) {
+    if !unread_unbroken(image) {
         return Outcome::BrokenImage;
     }
     let state = joint_tick::exchange(state_at(image), leg_at(segment, 0));

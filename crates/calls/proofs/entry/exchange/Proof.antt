@@ -3,7 +3,7 @@ use Rattle.laws.proofs.Prelude.{_≡_, Bool, false, not, List, ℕ, length, nee
 use Rattle.joint_tick.specs.{declared.state.{State.State, Leg.Leg}, SetUp.exchange}
 use Rattle.image.specs.{Layout.{IMAGE-BYTES, LEG-BYTES}, Parts.legAt, Image.{stateAt, imageOf}}
 use Rattle.outcome.specs.{declared.Outcome.the-variants.Done, Outcomes.left}
-use Rattle.lent_tick.{specs.Unbroken.unbroken, proofs.Flown.read-of}
+use Rattle.lent_tick.specs.Unbroken.{unbroken}
 use Rattle.calls.specs.Entry.{exchangeCall, exchangeRefusal}
 use Rattle.calls.proofs.entry.exchange.{Statement.statement, Tie.{Need-returns-4, close, spec}}
 
@@ -22,8 +22,8 @@ writes c =
     let h = l .before in
     let t = h .before .before in
     let i = t .before in
-    let a = i .before .before .before .before in
-    exchanged _ _ (a .before .if1 .left) (a .if2 .left) (i .unbroken .ensures) (t .if3 .left)
+    let a = i .before .before in
+    exchanged _ _ (a .before .if1 .left) (a .if2 .left) (i .unread-unbroken .ensures) (t .if3 .left)
     (h .state-at .ensures) (l .leg-at .ensures) (u .exchange .ensures) (c .before .before .put-state .ensures)
 
 pub exchange-spec : {M : Type 1} → statement M
@@ -37,17 +37,16 @@ exchange-spec =
       eq-eqb _ _ (c .before .if1 .left),
     ))
     (λ c κs. search needs)
-    (λ c κs. (c .before .before .before .before .if1 .left, read-of (c .before .fixed-at .ensures)))
     (λ c. search needs)
-    (λ c. let i = c .before in let a = i .before .before .before .before in simp (
-      ← i .unbroken .ensures,
-      not-true (i .unbroken .result) (c .if3 .taken),
+    (λ c. let i = c .before in let a = i .before .before in simp (
+      ← i .unread-unbroken .ensures,
+      not-true (i .unread-unbroken .result) (c .if3 .taken),
       eq-eqb _ _ (a .if2 .left),
       eq-eqb _ _ (a .before .if1 .left),
     ))
     (λ c κs. search needs)
     (λ c κs. search needs)
     (λ c κs. search needs)
-    (λ c κs. c .before .before .before .before .before .before .before .before .before .before .before .if1 .left)
+    (λ c κs. c .before .before .before .before .before .before .before .before .before .if1 .left)
     (λ c. search needs)
     writes)

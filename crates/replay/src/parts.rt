@@ -126,72 +126,81 @@ pub(crate) fn put_governor(o: &mut Row, x: RefGovernor) {
     put_taken(o, s.fixed, m, 4, GOVERNOR);
 }
 
-// Of three axes the first is taken.
-pub(crate) fn put_quintic(o: &mut Row, x: Quintic) {
-    let s = blank();
-    let mut f = s.fixed;
-    let segment = Segment3(x, x, x);
-    f.segment = segment;
-    put_taken(o, f, s.moving, 7, SEGMENT);
-}
-
-pub(crate) fn put_segment(o: &mut Row, x: Segment3) {
+// The first n words of a segment.
+fn put_of_segment(o: &mut Row, x: Segment3, n: usize)
+    requires { ⌜ n ≤ 21 ⌝ }
+{
     let s = blank();
     let mut f = s.fixed;
     f.segment = x;
-    put_taken(o, f, s.moving, 21, SEGMENT);
+    put_taken(o, f, s.moving, n, SEGMENT);
 }
 
-pub(crate) fn put_adrc_gains(o: &mut Row, x: AdrcGains) {
-    let s = blank();
-    let mut a = s.moving.rate.roll;
-    a.g = x;
-    let mut m = s.moving;
-    let rate = AdrcRate {
-        roll: a,
-        pitch: a,
-        yaw: a,
-    };
-    m.rate = rate;
-    put_taken(o, s.fixed, m, 4, RATE + 5);
-}
-
-pub(crate) fn put_axis(o: &mut Row, x: AdrcAxis) {
-    let s = blank();
-    let mut m = s.moving;
-    let rate = AdrcRate {
-        roll: x,
-        pitch: x,
-        yaw: x,
-    };
-    m.rate = rate;
-    put_taken(o, s.fixed, m, 9, RATE);
-}
-
-pub(crate) fn put_rate(o: &mut Row, x: AdrcRate) {
+// n words of the rate controller, from number k on.
+fn put_of_rate(o: &mut Row, x: AdrcRate, n: usize, k: usize)
+    requires { ⌜ k + n ≤ 27 ⌝ }
+{
     let s = blank();
     let mut m = s.moving;
     m.rate = x;
-    put_taken(o, s.fixed, m, 27, RATE);
+    put_taken(o, s.fixed, m, n, RATE + k);
 }
 
-pub(crate) fn put_biquad(o: &mut Row, x: Biquad) {
-    let s = blank();
-    let mut m = s.moving;
-    let lpf = GyroLpf {
-        roll: x,
-        pitch: x,
-        yaw: x,
-    };
-    m.lpf = lpf;
-    put_taken(o, s.fixed, m, 9, LPF);
-}
-
-pub(crate) fn put_lpf(o: &mut Row, x: GyroLpf) {
+// The first n words of the gyro's filter.
+fn put_of_lpf(o: &mut Row, x: GyroLpf, n: usize)
+    requires { ⌜ n ≤ 27 ⌝ }
+{
     let s = blank();
     let mut m = s.moving;
     m.lpf = x;
-    put_taken(o, s.fixed, m, 27, LPF);
+    put_taken(o, s.fixed, m, n, LPF);
+}
+
+// What stands on three axes is written three times, and the first is taken.
+fn three_axes(a: AdrcAxis) -> AdrcRate {
+    AdrcRate {
+        roll: a,
+        pitch: a,
+        yaw: a,
+    }
+}
+
+pub(crate) fn put_quintic(o: &mut Row, x: Quintic) {
+    put_of_segment(o, Segment3(x, x, x), 7);
+}
+
+pub(crate) fn put_segment(o: &mut Row, x: Segment3) {
+    put_of_segment(o, x, 21);
+}
+
+pub(crate) fn put_adrc_gains(o: &mut Row, x: AdrcGains) {
+    let mut a = blank().moving.rate.roll;
+    a.g = x;
+    put_of_rate(o, three_axes(a), 4, 5);
+}
+
+pub(crate) fn put_axis(o: &mut Row, x: AdrcAxis) {
+    put_of_rate(o, three_axes(x), 9, 0);
+}
+
+pub(crate) fn put_rate(o: &mut Row, x: AdrcRate) {
+    put_of_rate(o, x, 27, 0);
+}
+
+pub(crate) fn put_biquad(o: &mut Row, x: Biquad) {
+    put_of_lpf(
+        o,
+        GyroLpf {
+            roll: x,
+            pitch: x,
+            yaw: x,
+        },
+        9,
+    );
+}
+
+pub(crate) fn put_lpf(o: &mut Row, x: GyroLpf) {
+    put_of_lpf(o, x, 27);
 }
 
 // ---- what it has no place for, from word k on

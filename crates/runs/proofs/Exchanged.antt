@@ -11,7 +11,7 @@ use Rattle.image.specs.{Layout.{ENGAGED, GOVERNOR, SEGMENT, PEAKS, LEG-BYTES}, 
 use Rattle.image.proofs.Decoded.{image-is, segment-written, state-fits}
 use Rattle.lent_tick.{specs.Unbroken.Unbroken, proofs.{RowFour.unbroken-has, Going.exchange-fits}}
 use Rattle.calls.{specs.Entry.{exchangeRefusal, exchangeCall}, proofs.Steps.exchange-steps}
-use Rattle.runs.specs.{Runs.{Tick, Call, Ticks, Exchanges, tickOf, leftBy, guided, start, imageAfter, Right}, DemandThree.{enterOf, exitOf, flagOf, InBand}, Kept.{Untouched, SameWords}}
+use Rattle.runs.specs.{Runs.{Tick, Call, Ticks, Exchanges, tickOf, leftBy, guided, start, imageAfter, Right}, DemandThree.{enterOf, exitOf, flagOf, InBand}, Kept.{keptByExchanges, SameWords}}
 use Rattle.runs.proofs.{Going.{call-steps, ran}, Middle.{in-band-as-before, flag-kept}, Kept.{clock-over-any-run, exchange-same}}
 
 -- "They always equal the value worked out from the stored coefficients": after any run of set-up, ticks, route ticks and exchanges, by their bits.
@@ -55,8 +55,8 @@ module _ (image segment : List ℕ) (a : Unbroken image) (e : length segment ≡
       ∙ segment-written (exchange (stateAt image) (legAt segment 0)) (exchange-fits (stateAt image) segment (state-fits image) .segment)
 
   -- .. and every other word but the peaks is as it was, a NaN made 7fc00000.
-  pub exchange-keeps : {k n : ℕ} → Untouched k n → SameWords image later k n
-  exchange-keeps {k} {n} w = subst (λ (l : Filled). SameWords image (l .later) k n) (sym (exchange-done image segment a e)) (exchange-same image segment a w)
+  pub exchange-keeps : SameWords keptByExchanges image later
+  exchange-keeps = subst (λ (l : Filled). SameWords keptByExchanges image (l .later)) (sym (exchange-done image segment a e)) (exchange-same image segment a)
 
 -- ---- across one: between the thresholds it changes hands no more than anything else does
 

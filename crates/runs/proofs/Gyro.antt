@@ -7,11 +7,11 @@ use Rattle.relay_adrc.{specs.{declared.biquad.Biquad.Biquad, Biquad.{filterAt, 
 use Rattle.joint_tick.specs.{declared.state.State.State, Profile.isProfile, SetUp.setUp}
 use Rattle.outcome.specs.{declared.Outcome.{Outcome, the-variants.{Done, BadProfile, PassThrough}}, Outcomes.{isDone, Table, left, leftUnless, Filled}}
 use Rattle.outcome.proofs.Tables.{done-none, never-given, in-turn, either}
-use Rattle.image.{specs.{Layout.{IMAGE-BYTES, SETUP-PROFILE, SETUP-BYTES}, Parts.{biquadAt, lpfAt}, Image.{movingAt, stateAt}, Inputs.setupAt}, proofs.Decoded.decode-encode}
+use Rattle.image.{specs.{Layout.{LPF, BIQUAD-WORDS, IMAGE-WORDS, IMAGE-BYTES, SETUP-PROFILE, SETUP-BYTES}, Parts.{biquadAt, lpfAt}, Image.{movingAt, stateAt}, Inputs.setupAt}, proofs.Decoded.decode-encode}
 use Rattle.lent_tick.{specs.{Unbroken.Unbroken, Tick.{tickTable, tickRefusal}}, proofs.Going.set-up-fits}
 use Rattle.calls.specs.Entry.{setUpTable, exchangeTable, setUpRefusal, exchangeRefusal, SetsUp, setUpCall}
 use Rattle.route.specs.{Form.formTable, Entry.routeRefusal}
-use Rattle.runs.specs.{Runs.{Tick, Call, guided, start, imageAfter, marginsAlong, Right}, DemandThree.{enterOf, exitOf, Shows}, Kept.{RollFilter, PitchFilter, YawFilter, Lasts}}
+use Rattle.runs.specs.{Runs.{Tick, Call, guided, start, imageAfter, marginsAlong, Right}, DemandThree.{enterOf, exitOf, Shows}, Kept.lasting}
 use Rattle.runs.specs.Gyro.{unfiltered, tableBefore, refusalBefore, setUpBefore, Filter, Roll, Pitch, Yaw, Passes}
 use Rattle.runs.proofs.{Going.start-unbroken, DemandThree.demand-three, Kept.{words-kept-over-any-run, all-keep-lasting}, LostRotor.ten-exactly}
 
@@ -102,11 +102,14 @@ module _ (setup : List ℕ) (taken : SetsUp setup) where
       let e : f .b0 ≡ f .b2 = alike f (stored axis) in
       no (sym (ap (λ (w : ℕ). lt 0·0 (floatOf w)) zero) ∙ ap (lt 0·0) (sym e) ∙ ap (λ (w : ℕ). lt 0·0 (floatOf w)) one)
 
+  at : (calls : List Call) (k : ℕ) → k < IMAGE-WORDS → lasting k ≡ true → word (imageAfter (start setup) calls) k ≡ word (start setup) k
+  at calls k h w = words-kept-over-any-run setup calls k h (all-keep-lasting k w calls)
+
   kept : (calls : List Call) {k : ℕ} → Filter k
       → let image = imageAfter (start setup) calls in (word image k ≡ word (start setup) k) × (word image (k + 2) ≡ word (start setup) (k + 2))
-  kept calls Roll = let at = words-kept-over-any-run setup calls (Lasts RollFilter) (all-keep-lasting RollFilter calls) in (at 0 (lit< tt), at 2 (lit< tt))
-  kept calls Pitch = let at = words-kept-over-any-run setup calls (Lasts PitchFilter) (all-keep-lasting PitchFilter calls) in (at 0 (lit< tt), at 2 (lit< tt))
-  kept calls Yaw = let at = words-kept-over-any-run setup calls (Lasts YawFilter) (all-keep-lasting YawFilter calls) in (at 0 (lit< tt), at 2 (lit< tt))
+  kept calls Roll = (at calls LPF (lit< tt) refl, at calls (LPF + 2) (lit< tt) refl)
+  kept calls Pitch = (at calls (LPF + BIQUAD-WORDS) (lit< tt) refl, at calls (LPF + BIQUAD-WORDS + 2) (lit< tt) refl)
+  kept calls Yaw = (at calls (LPF + BIQUAD-WORDS + BIQUAD-WORDS) (lit< tt) refl, at calls (LPF + BIQUAD-WORDS + BIQUAD-WORDS + 2) (lit< tt) refl)
 
   -- "Set-up no longer takes a cut-off that `Biquad::lowpass` would turn into a pass-through": no axis of the gyro is unfiltered, after any calls.
   pub always-filtered : (calls : List Call) {k : ℕ} → Filter k → ¬ (Passes (imageAfter (start setup) calls) k)

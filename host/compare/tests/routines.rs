@@ -15,7 +15,8 @@ fn every_routine_is_the_rust_s_bit_for_bit() {
     assert!(found.is_empty(), "{} routines differ from the Rust; the first row of each is above", found.len());
 }
 
-/// The 80 of documents 000 to 003 that are ported, two that the joint tick uses, `thrust_attitude` and `feedforward_from`, and two over a lent state.
+/// The 80 of documents 000 to 003 that are ported, two for the joint tick, `thrust_attitude` and `feedforward_from` (the feedforward from an attitude
+/// worked out before), and two over a lent state.
 #[test]
 fn the_table_has_every_routine_once() {
     let table = table::all();

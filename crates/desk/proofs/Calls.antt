@@ -33,7 +33,7 @@ module _ (desk sticks image input answer : List ℕ) where
   core-handed-on p q = rw (p, q)
 
   -- an accepted tick has the right lengths, and the core's consent
-  done-asked : deskDone refusal ≡ true → isDone (tickRefusal image (length input) (length answer)) ≡ true
+  pub done-asked : deskDone refusal ≡ true → isDone (tickRefusal image (length input) (length answer)) ≡ true
   unfolding tickRefusalAt
   done-asked = go (differs (length desk) DESK-BYTES) (differs (length sticks) STICKS-BYTES)
     where

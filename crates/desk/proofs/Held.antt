@@ -12,7 +12,7 @@ use Rattle.desk.proofs.{Read.{set-up-fits, stepped-fits, centred-fits, 
 
 -- ---- one call
 
-stepped-by : (s : Stick) (d : Desk) (sticks : List ℕ) (dt : Float) → filterOf s (deskStep d (vec sticks 0) dt) ≡ after (filterOf s d) (Step (float sticks (place s)) dt)
+pub stepped-by : (s : Stick) (d : Desk) (sticks : List ℕ) (dt : Float) → filterOf s (deskStep d (vec sticks 0) dt) ≡ after (filterOf s d) (Step (float sticks (place s)) dt)
 unfolding deskStep after vec
 stepped-by Heading d sticks dt = refl
 stepped-by Turn d sticks dt = refl
@@ -69,11 +69,11 @@ size-kept desk (c ∷ calls) p = size-kept (deskBy desk c) calls (call-moves Hea
 
 -- ---- from set-up on
 
-start-length : (setup : List ℕ) → length (deskStart setup) ≡ DESK-BYTES
+pub start-length : (setup : List ℕ) → length (deskStart setup) ≡ DESK-BYTES
 unfolding deskStart
 start-length setup = desk-length (deskSetUp setup)
 
-fresh : (s : Stick) (setup : List ℕ) → filterOf s (deskAt (deskStart setup)) ≡ filterNew (omegaGiven s setup) (magLimit s setup) (rateLimit s setup)
+pub fresh : (s : Stick) (setup : List ℕ) → filterOf s (deskAt (deskStart setup)) ≡ filterNew (omegaGiven s setup) (magLimit s setup) (rateLimit s setup)
 unfolding deskStart deskSetUp newAt
 fresh Heading setup = ap (filterOf Heading) (read-again _ (set-up-fits setup))
 fresh Turn setup = ap (filterOf Turn) (read-again _ (set-up-fits setup))

@@ -3,4 +3,5 @@ pub mod Read
 pub mod Calls
 pub mod Held
 pub mod Written
+pub mod Within
 pub mod OneAnswer

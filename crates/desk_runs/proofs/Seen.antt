@@ -1,12 +1,13 @@
 -- A run with a desk is, for the core, a run of its own calls, and for the desk one of the desk's. Assumes nothing.
 use mathlib.Core.{Path.{_≡_, refl, sym, ap, _∙_}, Bool.{Bool, true, false, cond}, List.{List, [], _∷_, _++_}}
 use Prim.Native.Nat.{ℕ}
-use lib.ListN.{length}
+use lib.{ListN.length, Ieee.neg}
 use Rattle.outcome.specs.Outcomes.{Called}
 use Rattle.runs.specs.Runs.{Call, flying, leftBy, imageAfter, Ticks as CoreTicks}
+use Rattle.relay_math.specs.F32.{Within as Between}
 use Rattle.relay_adrc.proofs.Limits.{Limit, Held as Within}
 use Rattle.desk.specs.{Entry.{deskDone, LentToDesk}, Filters.{DESK-BYTES, deskAt}, Runs.{Stick, filterOf, magLimit, rateLimit, DeskCall, deskBy, deskAfter, deskStart}}
-use Rattle.desk.proofs.{Calls.{refused-changes-nothing, is-core-tick}, Held.{size-kept, sticks-held}}
+use Rattle.desk.proofs.{Calls.{refused-changes-nothing, is-core-tick}, Held.{size-kept, sticks-held}, Within.sticks-within}
 use Rattle.desk_runs.specs.Runs.{Held, held, AnyCall, ByDesk, Button, OnCore, deskTick, heldBy, heldAfter, flownTick, coreCalls, coreAlong, deskCalls, deskAlong}
 
 -- ---- the core
@@ -62,3 +63,9 @@ desk-size h calls p = ap length (desk-sees h calls) ∙ size-kept (h .desk) (des
 pub sticks-held-along : (s : Stick) (setup image : List ℕ) (calls : List AnyCall) → Limit (magLimit s setup) → Limit (rateLimit s setup)
     → Within (filterOf s (deskAt (heldAfter (held (deskStart setup) image) calls .desk)))
 sticks-held-along s setup image calls m r = rw (desk-sees (held (deskStart setup) image) calls) (sticks-held s setup (deskAlong (held (deskStart setup) image) calls) m r)
+
+-- and by the limits that the desk's set-up was given, each number by its own
+pub sticks-within-along : (s : Stick) (setup image : List ℕ) (calls : List AnyCall)
+    → let f = filterOf s (deskAt (heldAfter (held (deskStart setup) image) calls .desk)) in
+    (Limit (magLimit s setup) → Between (neg (magLimit s setup)) (magLimit s setup) (f .y)) × (Limit (rateLimit s setup) → Between (neg (rateLimit s setup)) (rateLimit s setup) (f .yd))
+sticks-within-along s setup image calls = rw (desk-sees (held (deskStart setup) image) calls) (sticks-within s setup (deskAlong (held (deskStart setup) image) calls))

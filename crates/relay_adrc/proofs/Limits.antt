@@ -1,5 +1,5 @@
 -- `clamp_sym`, and the command filter within its limits. Assumes nothing.
-use Rattle.laws.proofs.Prelude.{_≡_, refl, sym, _∙_, _+_, _*_, arith, Bool, true, false, cond, _||_, List, [], _∷_, T, Float, nan, inf, fin, up, down, lt, le, neg, isNan, ofBits, le-ltb}
+use Rattle.laws.proofs.Prelude.{_≡_, refl, sym, subst, _∙_, _+_, _*_, arith, Bool, true, false, cond, _||_, List, [], _∷_, T, Float, nan, inf, fin, up, down, lt, le, neg, isNan, ofBits, le-ltb}
 use lib.Ieee.Bits.{is-false}
 use Rattle.relay_math.{specs.F32.{0·0, isFinite, finiteOr, Within}, proofs.Order.{Number, finite-number, le-of-not-lt, not-lt-of-le, le-trans, low-within, high-within, between}}
 use Rattle.relay_math.proofs.Finite.{or-zero-finite}
@@ -76,26 +76,71 @@ pub record Held (f : CommandFilter) : Type 0 where
   pub value : Within (neg (f .«max_mag»)) (f .«max_mag») (f .y)
   pub rate : Within (neg (f .«max_rate»)) (f .«max_rate») (f .yd)
 
+-- ---- each half by its own limit alone, whatever the other limit, the state, the inputs and the dts are: the filter's arithmetic is not looked at
+
+module _ (limit number : CommandFilter → Float) (kept : (f : CommandFilter) (e : Event) → limit (after f e) ≡ limit f)
+    (within : (f : CommandFilter) (e : Event) → Limit (limit f) → Within (neg (limit f)) (limit f) (number (after f e))) where
+  limit-kept : (f : CommandFilter) (es : List Event) → limit (run f es) ≡ limit f
+  unfolding run
+  limit-kept f [] = refl
+  limit-kept f (e ∷ es) = limit-kept (after f e) es ∙ kept f e
+
+  half-held : (f : CommandFilter) (es : List Event) → Limit (limit f) → Within (neg (limit f)) (limit f) (number f) → Within (neg (limit f)) (limit f) (number (run f es))
+  unfolding run
+  half-held f [] l h = h
+  half-held f (e ∷ es) l h =
+      subst (λ (m : Float). Limit m → Within (neg m) m (number (after f e)) → Within (neg m) m (number (run (after f e) es))) (kept f e) (half-held (after f e) es) l (within f e l)
+
+mag-after : (f : CommandFilter) (e : Event) → after f e .«max_mag» ≡ f .«max_mag»
+unfolding after filterStep
+mag-after f (Step u dt) = refl
+mag-after f Reset = refl
+
+rate-after : (f : CommandFilter) (e : Event) → after f e .«max_rate» ≡ f .«max_rate»
+unfolding after filterStep
+rate-after f (Step u dt) = refl
+rate-after f Reset = refl
+
+pub value-within : (f : CommandFilter) (e : Event) → Limit (f .«max_mag») → Within (neg (f .«max_mag»)) (f .«max_mag») (after f e .y)
+unfolding after filterStep
+value-within f (Step u dt) l = clamped-within _ _ l
+value-within f Reset l = zero-within _ l
+
+rate-within : (f : CommandFilter) (e : Event) → Limit (f .«max_rate») → Within (neg (f .«max_rate»)) (f .«max_rate») (after f e .yd)
+unfolding after filterStep
+rate-within f (Step u dt) l = clamped-within _ _ l
+rate-within f Reset l = zero-within _ l
+
+-- neither steps nor resets change a limit
+pub limits-kept : (f : CommandFilter) (es : List Event) → (run f es .«max_mag» ≡ f .«max_mag») × (run f es .«max_rate» ≡ f .«max_rate»)
+limits-kept f es = (limit-kept (λ f. f .«max_mag») (λ f. f .y) mag-after value-within f es, limit-kept (λ f. f .«max_rate») (λ f. f .yd) rate-after rate-within f es)
+
+-- "each value stays within its limit", for a rate limit that may be any f32; and each rate, whatever the other limit
+pub value-held : (f : CommandFilter) (es : List Event) → Limit (f .«max_mag») → Within (neg (f .«max_mag»)) (f .«max_mag») (f .y) → Within (neg (f .«max_mag»)) (f .«max_mag») (run f es .y)
+value-held = half-held (λ f. f .«max_mag») (λ f. f .y) mag-after value-within
+
+pub rate-held : (f : CommandFilter) (es : List Event) → Limit (f .«max_rate») → Within (neg (f .«max_rate»)) (f .«max_rate») (f .yd) → Within (neg (f .«max_rate»)) (f .«max_rate») (run f es .yd)
+rate-held = half-held (λ f. f .«max_rate») (λ f. f .yd) rate-after rate-within
+
+-- a fresh filter has both numbers 0
+pub fresh-within : (ωn maxMag maxRate : Float) (es : List Event) → let f = run (filterNew ωn maxMag maxRate) es in
+    (Limit maxMag → Within (neg maxMag) maxMag (f .y)) × (Limit maxRate → Within (neg maxRate) maxRate (f .yd))
+fresh-within ωn maxMag maxRate es =
+    let f = filterNew ωn maxMag maxRate in
+    (λ m. value-held f es m (zero-within maxMag m), λ r. rate-held f es r (zero-within maxRate r))
+
 pub record Limited (f : CommandFilter) : Type 0 where
   pub mag : Limit (f .«max_mag»)
   pub rate : Limit (f .«max_rate»)
 
-after-limited : (f : CommandFilter) (e : Event) → Limited f → Limited (after f e)
-unfolding after filterStep
-after-limited f (Step u dt) l = record { mag = l .mag; rate = l .rate }
-after-limited f Reset l = record { mag = l .mag; rate = l .rate }
-
--- whatever the state was: the filter's arithmetic is not looked at
-pub after-held : (f : CommandFilter) (e : Event) → Limited f → Held (after f e)
-unfolding after filterStep
-after-held f (Step u dt) l = record { value = clamped-within _ _ (l .mag); rate = clamped-within _ _ (l .rate) }
-after-held f Reset l = record { value = zero-within _ (l .mag); rate = zero-within _ (l .rate) }
-
 -- "For finite magnitude and rate limits at or above zero, each value and each rate stays within its limit after any sequence of stick bits, dt bits and resets."
 pub run-held : (f : CommandFilter) (es : List Event) → Limited f → Held f → Held (run f es)
-unfolding run
-run-held f [] l h = h
-run-held f (e ∷ es) l h = run-held (after f e) es (after-limited f e l) (after-held f e l)
+run-held f es l h =
+    let k = limits-kept f es in
+    record {
+      value = subst (λ (m : Float). Within (neg m) m (run f es .y)) (sym (k .0)) (value-held f es (l .mag) (h .value));
+      rate = subst (λ (m : Float). Within (neg m) m (run f es .yd)) (sym (k .1)) (rate-held f es (l .rate) (h .rate));
+    }
 
 pub fresh-held : (ωn maxMag maxRate : Float) (es : List Event) → Limit maxMag → Limit maxRate → Held (run (filterNew ωn maxMag maxRate) es)
 fresh-held ωn maxMag maxRate es m r =

@@ -4,9 +4,9 @@ use Rattle.words.{specs.Words.{word, bytesOf}, proofs.Back.word-bytesOf}
 use Rattle.relay_geo.{specs.{declared.shield.Thresholds.Thresholds, Shield.mend}, proofs.SetUp.enter-below-exit}
 use Rattle.joint_tick.specs.{declared.profile.Profile.Profile, Profile.{isProfile, profileOf}}
 use Rattle.outcome.{specs.{declared.Outcome.the-variants.{Done, BrokenLog, PassThrough}, Outcomes.{firstOf, left, Filled}}, proofs.Tables.never-given}
-use Rattle.log.{specs.{Form.{MOST-RECORDS, isLog}, Records.records}, proofs.{Taken.is-a-log, Reading.records-count}}
+use Rattle.log.{specs.{Form.{MOST-RECORDS, emptyLog, fromEnd, isLog}, Records.records}, proofs.{Taken.is-a-log, Reading.records-count, Refused.empty-log}}
 use Rattle.audit.specs.{declared.Verdict.{Verdict, the-variants.{AllRight, FirstWrong}}, Verdict.{verdictOf, verdictWord, Says}, Entry.{verdictOn, checkTable, checkCall}}
-use Rattle.audit.proofs.Said.{verdict-says}
+use Rattle.audit.proofs.Said.{verdict-says, empty-right}
 
 -- thresholds as set-up mends them are in order
 pub mended : (enter exit : Float) {t : Thresholds} → T (fits binary32 enter) → t ≡ mend enter exit → lt (t .enter) (t .exit) ≡ true
@@ -70,3 +70,18 @@ eight-before-ten log profile enter exit into h l = rw (h, l)
 -- 11 is "at set-up alone" (request Twelve)
 pub no-check-gives-eleven : (log : List ℕ) (profile n : ℕ) → ¬ (firstOf (checkTable log profile n) ≡ PassThrough)
 no-check-gives-eleven log profile n = never-given PassThrough refl (checkTable log profile n) refl
+
+no-records : records emptyLog ≡ []
+unfolding records isLog fromEnd
+no-records = refl
+
+-- "An empty log gets yes": its 12 bytes, the trailer 0, 0, 108
+pub empty-accepted : (profile : ℕ) (enter exit : Float) (into : List ℕ) → isProfile profile ≡ true → length into ≡ 4
+    → checkCall emptyLog profile enter exit into ≡ left Done (bytesOf (0xffff_ffff ∷ []))
+unfolding verdictOn
+empty-accepted profile enter exit into p h =
+    let t = mend enter exit in
+    let written : Verdict → Filled = λ v. left Done (bytesOf (verdictWord v ∷ [])) in
+    taken emptyLog profile enter exit into h empty-log p
+    ∙ ap (λ (rs : List (List ℕ)). written (verdictOf (profileOf profile) (t .enter) (t .exit) rs)) no-records
+    ∙ ap written (empty-right (profileOf profile) (t .enter) (t .exit))

@@ -1,3 +1,4 @@
 pub mod Seen
 pub mod DemandThree
 pub mod Kept
+pub mod Logged

@@ -5,6 +5,8 @@ use Prim.Native.Nat.{ℕ}
 use Rattle.outcome.specs.Outcomes.{Left}
 use Rattle.runs.specs.Runs.{Segment, Tick, Call, leftBy}
 use Rattle.runs.specs.Runs.{Ticks as CoreTicks}
+use Rattle.log.specs.Runs.{recordsOf}
+use Rattle.own.specs.Own.{keepsOf}
 use Rattle.desk.specs.declared.entry.DeskOutcome.{DeskOutcome}
 use Rattle.desk.specs.Entry.{deskDone, centreCall, LentToDesk, deskTickCall}
 use Rattle.desk.specs.Runs.{DeskCall, Ticks, Centres}
@@ -67,3 +69,15 @@ unfoldable pub deskAlong : Held → List AnyCall → List DeskCall
 unfolding heldBy deskCalls
 deskAlong h [] = []
 deskAlong h (c ∷ calls) = deskCalls h c ++ deskAlong (heldBy h c) calls
+
+-- ---- "so that a log keeps what was flown": the records that a log of every accepted tick has, of a desk tick the input as the desk left it
+
+unfoldable pub recordsBy : Held → AnyCall → List (List ℕ)
+recordsBy h (ByDesk g) = let l = deskTick h g in cond (deskDone (l .outcome)) ((l .later .input ++ l .later .answer) ∷ []) []
+recordsBy h Button = []
+recordsBy h (OnCore c) = recordsOf (keepsOf (h .image) c)
+
+unfoldable pub recordsAlong : Held → List AnyCall → List (List ℕ)
+unfolding heldBy recordsBy
+recordsAlong h [] = []
+recordsAlong h (c ∷ calls) = recordsBy h c ++ recordsAlong (heldBy h c) calls

@@ -1,5 +1,5 @@
--- Completeness of request Ten: every log of our own is all right. Assumes nothing.
-use Rattle.laws.proofs.Prelude.{_≡_, refl, sym, ap, subst, _∙_, Bool, true, false, List, [], _∷_, _++_, append-assoc, ℕ, Float, length}
+-- Completeness of request Ten: every log of one run of ours is all right. Assumes nothing.
+use Rattle.laws.proofs.Prelude.{_≡_, refl, sym, ap, subst, _∙_, Bool, true, false, List, [], _∷_, _++_, ℕ, Float, length}
 use Rattle.words.specs.Words.{word, float, bytesOf}
 use Rattle.latch.specs.Latch.{after}
 use Rattle.relay_geo.specs.{declared.shield.SimplexShield.SimplexShield, Shield.{mend, newShield}}
@@ -7,29 +7,23 @@ use Rattle.joint_tick.specs.{declared.state.State.State, Profile.{isProfile, pr
 use Rattle.image.{specs.{Layout.{SETUP-ENTER, SETUP-EXIT, SETUP-PROFILE}, Image.fixedAt, Inputs.setupAt}, proofs.Decoded.decode-encode}
 use Rattle.outcome.specs.{declared.Outcome.the-variants.Done, Outcomes.{isDone, left}}
 use Rattle.lent_tick.{specs.Steps.shieldOf, proofs.Going.set-up-fits}
-use Rattle.log.{specs.Runs.{Held, Given, afterOne, afterAll, keptBy, keptAlong, recordsOf, atFirst}, proofs.Reading.{kept-all, records-kept, never-refused}}
+use Rattle.log.{specs.{Form.isLog, Records.records, Runs.{Given, NoneRefused, recordsOf, atFirst}}, proofs.Reading.{kept-all, records-kept, never-refused}}
 use Rattle.runs.specs.{Runs.{Call, Ticks, Exchanges, tickOf, leftBy, marginsOf, start, imageAfter}, DemandThree.{enterOf, exitOf}}
 use Rattle.runs.proofs.Going.{call-steps, start-engaged, thresholds-in-order, thresholds-kept, ran}
 use Rattle.audit.{specs.{declared.Verdict.the-variants.AllRight, Verdict.verdictOf, Entry.{verdictOn, checkCall}}, proofs.{Carried.{Carried, carried-right}, Call.taken}}
-use Rattle.own.specs.Own.{Act, Calls, Appends, keepsOf, appendsOf, EachKept, ownLog, ticksKept}
+use Rattle.own.specs.Own.{keepsOf, keepsAlong, ticksKept, ownLog}
 use Rattle.own.proofs.Tick.{margin-kept, right-kept}
 
--- ---- what the appends keep are the accepted ticks, in order
+-- ---- the records of a run, call by call
 
-kept-in-turn : (h : Held) (xs ys : List Given) → keptAlong h (xs ++ ys) ≡ keptAlong h xs ++ keptAlong (afterAll h xs) ys
-unfolding keptAlong afterAll
-kept-in-turn h [] ys = refl
-kept-in-turn h (g ∷ xs) ys = ap (λ (rs : List (List ℕ)). keptBy h g ++ rs) (kept-in-turn (afterOne h g) xs ys) ∙ sym (append-assoc (keptBy h g) (keptAlong (afterOne h g) xs) (keptAlong (afterAll (afterOne h g) xs) ys))
+records-in-turn : (xs ys : List Given) → recordsOf (xs ++ ys) ≡ recordsOf xs ++ recordsOf ys
+unfolding recordsOf
+records-in-turn [] ys = refl
+records-in-turn (g ∷ xs) ys = ap (λ (rs : List (List ℕ)). (g .input ++ g .answer) ∷ rs) (records-in-turn xs ys)
 
-kept-ticks : (image : List ℕ) (h : Held) (acts : List Act) → EachKept image h acts → keptAlong h (appendsOf image acts) ≡ ticksKept image acts
-unfolding appendsOf EachKept ticksKept keptAlong
-kept-ticks image h [] k = refl
-kept-ticks image h (Calls c ∷ acts) k =
-    kept-in-turn h (keepsOf image c) (appendsOf (leftBy image c) acts)
-    ∙ rw (kept-all h (keepsOf image c) (k .0), kept-ticks (leftBy image c) (afterAll h (keepsOf image c)) acts (k .1))
-kept-ticks image h (Appends g ∷ acts) k =
-    let none : keptBy h g ≡ [] = rw (k .0) in
-    ap (λ (rs : List (List ℕ)). rs ++ keptAlong (afterOne h g) (appendsOf image acts)) none ∙ kept-ticks image (afterOne h g) acts (k .1)
+pub next-kept : (image : List ℕ) (c : Call) (calls : List Call) → ticksKept image (c ∷ calls) ≡ recordsOf (keepsOf image c) ++ ticksKept (leftBy image c) calls
+unfolding keepsAlong
+next-kept image c calls = records-in-turn (keepsOf image c) (keepsAlong (leftBy image c) calls)
 
 -- ---- each of them is right by the flag that the shield carries along
 
@@ -64,13 +58,14 @@ module _ (setup : List ℕ) (p : isProfile (word setup SETUP-PROFILE) ≡ true) 
         go true d r = rw d (right-kept setup calls t p d, rw (margin-kept setup calls t p d) (rw d at r))
         go false d r = rw d (rw d at r)
 
-  along : (calls : List Call) (acts : List Act) → let image = imageAfter (start setup) calls in Right (shieldOf image .engaged) (ticksKept image acts)
-  unfolding ticksKept
-  along calls [] = tt
-  along calls (Calls c ∷ acts) =
-      one-right calls c (ticksKept (leftBy (imageAfter (start setup) calls) c) acts)
-      (subst (λ (later : List ℕ). Right (shieldOf later .engaged) (ticksKept later acts)) (after-one (start setup) calls c) (along (calls ++ c ∷ []) acts))
-  along calls (Appends g ∷ acts) = along calls acts
+  along : (before calls : List Call) → let image = imageAfter (start setup) before in Right (shieldOf image .engaged) (ticksKept image calls)
+  unfolding keepsAlong recordsOf
+  along before [] = tt
+  along before (c ∷ calls) =
+      let image = imageAfter (start setup) before in
+      rw (next-kept image c calls)
+      (one-right before c (ticksKept (leftBy image c) calls)
+      (subst (λ (later : List ℕ). Right (shieldOf later .engaged) (ticksKept later calls)) (after-one (start setup) before c) (along (before ++ c ∷ []) calls)))
 
   -- ---- set-up's thresholds are what the check mends
 
@@ -80,23 +75,28 @@ module _ (setup : List ℕ) (p : isProfile (word setup SETUP-PROFILE) ≡ true) 
       let e = decode-encode (setUp (setupAt setup)) (set-up-fits setup) in
       (ap (λ (s : State). s .fixed .enter) e, ap (λ (s : State). s .fixed .exit) e)
 
-  module _ (beyond : List ℕ) (acts : List Act) (k : EachKept (start setup) (atFirst beyond) acts) where
-    -- "Any log of every tick of one run from our own set-up, given with that set-up's enter, exit and profile, is accepted." Of plain and route ticks in any order, with
-    -- exchanges, refused calls and refused appends between, in both profiles.
-    pub own-log-right : verdictOn (ownLog setup beyond acts) (word setup SETUP-PROFILE) (float setup SETUP-ENTER) (float setup SETUP-EXIT) ≡ AllRight
+  -- "Any log of every tick of one run from our own set-up, given with that set-up's enter, exit and profile, is accepted": plain and route ticks in any order, with
+  -- exchanges and refused calls between, in both profiles. Any bytes whose records are these, however they came to be: grown in one buffer, moved to a longer one, copied.
+  module _ (log : List ℕ) (calls : List Call) (e : records log ≡ ticksKept (start setup) calls) where
+    pub any-log-right : verdictOn log (word setup SETUP-PROFILE) (float setup SETUP-ENTER) (float setup SETUP-EXIT) ≡ AllRight
     unfolding verdictOn imageAfter
-    own-log-right =
+    any-log-right =
         let by = profileOf (word setup SETUP-PROFILE) in
         let t = mend (float setup SETUP-ENTER) (float setup SETUP-EXIT) in
-        let rs = ticksKept (start setup) acts in
-        ap (λ (l : List (List ℕ)). verdictOf by (t .enter) (t .exit) l) (records-kept beyond (appendsOf (start setup) acts) ∙ kept-ticks (start setup) (atFirst beyond) acts k)
+        let rs = ticksKept (start setup) calls in
+        ap (λ (l : List (List ℕ)). verdictOf by (t .enter) (t .exit) l) e
         ∙ ap (λ (x : Float). verdictOf by x (t .exit) rs) (sym (thresholds .0))
         ∙ ap (λ (x : Float). verdictOf by (enterOf setup) x rs) (sym (thresholds .1))
-        ∙ carried-right by (enterOf setup) (exitOf setup) (thresholds-in-order setup) rs (subst (λ (b : Bool). Right b rs) (start-engaged setup) (along [] acts))
+        ∙ carried-right by (enterOf setup) (exitOf setup) (thresholds-in-order setup) rs (subst (λ (b : Bool). Right b rs) (start-engaged setup) (along [] calls))
 
     -- and by the call's bytes
-    pub own-log-accepted : (into : List ℕ) → length into ≡ 4
-        → checkCall (ownLog setup beyond acts) (word setup SETUP-PROFILE) (float setup SETUP-ENTER) (float setup SETUP-EXIT) into ≡ left Done (bytesOf (0xffff_ffff ∷ []))
-    own-log-accepted into h =
-        taken (ownLog setup beyond acts) (word setup SETUP-PROFILE) (float setup SETUP-ENTER) (float setup SETUP-EXIT) into h (never-refused beyond (appendsOf (start setup) acts)) p
-        ∙ rw own-log-right
+    pub any-log-accepted : isLog log ≡ true → (into : List ℕ) → length into ≡ 4
+        → checkCall log (word setup SETUP-PROFILE) (float setup SETUP-ENTER) (float setup SETUP-EXIT) into ≡ left Done (bytesOf (0xffff_ffff ∷ []))
+    any-log-accepted l into h = taken log (word setup SETUP-PROFILE) (float setup SETUP-ENTER) (float setup SETUP-EXIT) into h l p ∙ rw any-log-right
+
+  -- so the log that our append makes in one buffer, if it refuses no accepted tick
+  pub own-log-accepted : (beyond : List ℕ) (calls : List Call) → NoneRefused (atFirst beyond) (keepsAlong (start setup) calls) → (into : List ℕ) → length into ≡ 4
+      → checkCall (ownLog setup beyond calls) (word setup SETUP-PROFILE) (float setup SETUP-ENTER) (float setup SETUP-EXIT) into ≡ left Done (bytesOf (0xffff_ffff ∷ []))
+  own-log-accepted beyond calls k =
+      let gs = keepsAlong (start setup) calls in
+      any-log-accepted (ownLog setup beyond calls) calls (records-kept beyond gs ∙ kept-all (atFirst beyond) gs k) (never-refused beyond gs)

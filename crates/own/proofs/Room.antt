@@ -1,5 +1,6 @@
--- Logs of our own exist: a buffer with room for a record of each call keeps every accepted tick. Assumes nothing.
-use Rattle.laws.proofs.Prelude.{_≡_, refl, sym, ap, subst, _∙_, Bool, true, false, List, [], _∷_, map, ℕ, suc, _+_, _-_, _*_, _≤_, arith, le-ltb, ne-eqb, length, length-append, length-sets, no}
+-- Logs of our own exist: a buffer with room for a record of each accepted tick keeps them all. Assumes nothing.
+use Rattle.laws.proofs.Prelude.{_≡_, refl, sym, ap, subst, _∙_, Bool, true, false, List, [], _∷_, _++_, ℕ, suc, _+_, _-_, _*_, _≤_, zero-add, arith, le-ltb, ne-eqb}
+use Rattle.laws.proofs.Prelude.{length, length-append, length-sets, no}
 use Rattle.words.specs.Words.{word, float, bytesOf}
 use Rattle.joint_tick.specs.{Profile.isProfile, Tick.ticked}
 use Rattle.image.{specs.{Layout.{INPUT-BYTES, ANSWER-BYTES, SETUP-ENTER, SETUP-EXIT, SETUP-PROFILE}, Image.stateAt, Inputs.inputAt}, proofs.Answered.answer-length}
@@ -10,7 +11,7 @@ use Rattle.log.specs.Runs.{Held, logIn, Given, appended, afterOne, afterAll, ke
 use Rattle.log.proofs.Reading.{after-appends, records-count, kept-all, never-refused, records-kept}
 use Rattle.runs.{specs.Runs.{Tick, Call, Ticks, Exchanges, tickOf, sourceOn, leftBy, start}, proofs.Shown.{refusalOn, flying-is}}
 use Rattle.audit.specs.Entry.{checkCall}
-use Rattle.own.specs.Own.{Calls, keepsOf, EachKept, ownLog}
+use Rattle.own.specs.Own.{keepsOf, keepsAlong, ownLog}
 use Rattle.own.proofs.{Tick.accepted-right, Own.own-log-accepted}
 
 -- a log, and room for m records more
@@ -66,14 +67,10 @@ answer-whole image t =
     subst P (sym (flying-is (t .course) image (t .input) (t .answer)))
     (either P (refusalOn (t .course) image (length (t .input)) (length (t .answer))) (λ e z. answer-length (ticked source (stateAt image) (inputAt (t .input)) .answer)) (λ e z. no (sym e ∙ z)))
 
--- room for one record more than needed is room enough
-less : (h : Held) (m : ℕ) → Room h (suc m) → Room h m
-less h m r = record { log = r .log; few = omega arith; room = omega arith }
-
--- whatever call it is: its record is kept if it has one, and there is room for one record less
-one-call : (image : List ℕ) (h : Held) (c : Call) (m : ℕ) → Room h (suc m) → NoneRefused h (keepsOf image c) × Room (afterAll h (keepsOf image c)) m
+-- whatever call it is: its record is kept if it has one, and the rest of the room is left
+one-call : (image : List ℕ) (h : Held) (c : Call) (m : ℕ) → Room h (length (keepsOf image c) + m) → NoneRefused h (keepsOf image c) × Room (afterAll h (keepsOf image c)) m
 unfolding keepsOf NoneRefused afterAll
-one-call image h (Exchanges segment) m r = (tt, less h m r)
+one-call image h (Exchanges segment) m r = (tt, subst (Room h) (zero-add m) r)
 one-call image h (Ticks t) m r = go (isDone (tickOf image t .outcome)) refl
   where
     go : (b : Bool) → isDone (tickOf image t .outcome) ≡ b → NoneRefused h (keepsOf image (Ticks t)) × Room (afterAll h (keepsOf image (Ticks t))) m
@@ -81,23 +78,31 @@ one-call image h (Ticks t) m r = go (isDone (tickOf image t .outcome)) refl
         let g : Given = record { input = t .input; answer = tickOf image t .later .answer } in
         let i = accepted-right image t d .0 in
         let a = answer-whole image t d in
-        rw d ((taken h g m r i a, tt), room-after h g m r i a)
-    go false d = rw d (tt, less h m r)
+        let one : Room h (suc m) = let e : 1 + m ≡ suc m = omega arith in subst (Room h) e (rw d at r) in
+        rw d ((taken h g m one i a, tt), room-after h g m one i a)
+    go false d = rw d (tt, subst (Room h) (zero-add m) (rw d at r))
 
 -- ---- any number of them
 
-all-kept : (image : List ℕ) (h : Held) (calls : List Call) → Room h (length calls) → EachKept image h (map Calls calls)
-unfolding EachKept
+in-turn : (h : Held) (xs ys : List Given) → NoneRefused h xs → NoneRefused (afterAll h xs) ys → NoneRefused h (xs ++ ys)
+unfolding NoneRefused afterAll
+in-turn h [] ys n m = m
+in-turn h (g ∷ xs) ys n m = (n .0, in-turn (afterOne h g) xs ys (n .1) m)
+
+all-kept : (image : List ℕ) (h : Held) (calls : List Call) → Room h (length (keepsAlong image calls)) → NoneRefused h (keepsAlong image calls)
+unfolding keepsAlong NoneRefused
 all-kept image h [] r = tt
 all-kept image h (c ∷ calls) r =
-    let o = one-call image h c (length calls) r in
-    (o .0, all-kept (leftBy image c) (afterAll h (keepsOf image c)) calls (o .1))
+    let later = keepsAlong (leftBy image c) calls in
+    let o = one-call image h c (length later) (subst (Room h) (length-append (keepsOf image c) later) r) in
+    in-turn h (keepsOf image c) later (o .0) (all-kept (leftBy image c) (afterAll h (keepsOf image c)) calls (o .1))
 
-module _ (setup beyond : List ℕ) (calls : List Call) (few : length calls ≤ MOST-RECORDS) (room : RECORD-BYTES * length calls ≤ length beyond) where
-  -- A buffer with room for a record of each call keeps every accepted tick, of up to 65,535 calls of any kind.
-  pub kept-with-room : EachKept (start setup) (atFirst beyond) (map Calls calls)
+module _ (setup beyond : List ℕ) (calls : List Call) (few : length (keepsAlong (start setup) calls) ≤ MOST-RECORDS)
+    (room : RECORD-BYTES * length (keepsAlong (start setup) calls) ≤ length beyond) where
+  -- A buffer with room for a record of each accepted tick keeps them all, of up to 65,535; the calls may be any number more.
+  pub accepted-ticks-kept : NoneRefused (atFirst beyond) (keepsAlong (start setup) calls)
   unfolding afterAll keptAlong
-  kept-with-room =
+  accepted-ticks-kept =
       all-kept (start setup) (atFirst beyond) calls record {
         log = never-refused beyond [];
         few = omega (arith, ap length (records-kept beyond []));
@@ -106,5 +111,5 @@ module _ (setup beyond : List ℕ) (calls : List Call) (few : length calls ≤ M
 
   -- so the log of any such run is accepted
   pub run-accepted : isProfile (word setup SETUP-PROFILE) ≡ true → (into : List ℕ) → length into ≡ 4
-      → checkCall (ownLog setup beyond (map Calls calls)) (word setup SETUP-PROFILE) (float setup SETUP-ENTER) (float setup SETUP-EXIT) into ≡ left Done (bytesOf (0xffff_ffff ∷ []))
-  run-accepted p into h = own-log-accepted setup p beyond (map Calls calls) kept-with-room into h
+      → checkCall (ownLog setup beyond calls) (word setup SETUP-PROFILE) (float setup SETUP-ENTER) (float setup SETUP-EXIT) into ≡ left Done (bytesOf (0xffff_ffff ∷ []))
+  run-accepted p = own-log-accepted setup p beyond calls accepted-ticks-kept

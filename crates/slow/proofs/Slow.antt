@@ -70,7 +70,7 @@ module _ (enter exit : Float) (ms : List Float) where
   flags-to-length zero = refl
   flags-to-length (suc n) = length-append (flagsTo enter exit ms n) (lookBack enter exit ms (suc n) ∷ []) ∙ omega (arith, flags-to-length n)
 
-  flag-to : (n k : ℕ) → k < n → getD (flagsTo enter exit ms n) k true ≡ lookBack enter exit ms (suc k)
+  pub flag-to : (n k : ℕ) → k < n → getD (flagsTo enter exit ms n) k true ≡ lookBack enter exit ms (suc k)
   unfolding flagsTo
   flag-to zero k h = absurd (omega arith)
   flag-to (suc n) k h = elim (eq-or-lt-of-le (le-of-suc-le-suc h)) [

@@ -1,4 +1,4 @@
--- Margin and command of a tick are f32 values, so that their words are read again. Assumes nothing.
+-- Margin, command and torque of a tick are f32 values, so that their words are read again. Assumes nothing.
 use Rattle.laws.proofs.Prelude.{Bool, true, false, cond, List, ℕ, Float}
 use lib.Ieee.Fits.{inf-fits}
 use Rattle.words.{specs.Words.vec, proofs.Back.float-fits}
@@ -6,9 +6,10 @@ use Rattle.relay_math.specs.declared.{Vec3.Vec3, BodyRate.BodyRate}
 use Rattle.relay_geo.specs.declared.{vectors.{Mat3.Mat3, Direction.Direction}, attitude.{Attitude.{Attitude, the-variants.{Matrix, Refused}}, Feedforward.Feedforward}, controller.GeoGains.GeoGains}
 use Rattle.relay_geo.specs.{declared.set.RecoverableSet.RecoverableSet, Vectors.sanitise3, Attitude.{quatToRotmat, thrustAxisNed, thrustAttitude, flatnessOmegaFf}, Set.margin}
 use Rattle.relay_geo.specs.Controller.{rateToward, desiredRate}
+use Rattle.relay_adrc.specs.{declared.{axis.AdrcAxis.AdrcAxis, rate.AdrcRate.AdrcRate}, Axis.axisTick}
 use Rattle.joint_tick.specs.declared.{profile.Profile.{Profile, the-variants.{Whole, LostRotor}}, state.{State.State, TickInput.TickInput}, stages.Reference.Reference}
-use Rattle.joint_tick.specs.Tick.{plannerOf, cleaned, desired, ahead, plus, rateError, rateSq, marginOf, guideWhole, rateTowardAxis, tiltRateSq, marginToAxis, guideLostRotor, guide, guidance, ticked}
-use Rattle.joint_tick.proofs.Shielding.{filtered, wantedAt, tick-command}
+use Rattle.joint_tick.specs.Tick.{plannerOf, cleaned, desired, ahead, plus, rateError, rateSq, marginOf, guideWhole, rateTowardAxis, tiltRateSq, marginToAxis, guideLostRotor, guide}
+use Rattle.joint_tick.{specs.Tick.{guidance, follow, ticked}, proofs.Shielding.{filtered, wantedAt, tick-command, tick-torque}}
 use Rattle.image.specs.{Inputs.inputAt, Fits.{F32, FitsVec}}
 use Rattle.image.proofs.Fitting.{fitting}
 use Rattle.relay_geo.specs.declared.vectors.Direction.the-variants as direction
@@ -82,3 +83,17 @@ module _ (source : Float → Reference) (s : State) where
       either : (e : Bool) (v : Vec3) (w : BodyRate) → FitsVec v → FitsVec (w .0) → FitsVec (cond {A = BodyRate} e record { 0 = sanitise3 v } w .0)
       either true v w f g = clean-fits v f
       either false v w f g = g
+
+-- ---- the torque is what ADRC's axes give
+
+axis-torque-fits : (a : AdrcAxis) (m d dt : Float) → F32 (axisTick a m d dt .u)
+unfolding axisTick
+axis-torque-fits a m d dt = search fitting
+
+follow-fits : (p : Profile) (r : AdrcRate) (m d : BodyRate) (dt : Float) → FitsVec (follow p r m d dt .torque .0)
+unfolding follow
+follow-fits Whole r m d dt = search axis-torque-fits
+follow-fits LostRotor r m d dt = search (axis-torque-fits, fitting)
+
+pub torque-fits : (source : Float → Reference) (s : State) (i : TickInput) → FitsVec (ticked source s i .answer .torque .0)
+torque-fits source s i = rw (tick-torque source s i) (follow-fits (s .fixed .profile) _ _ _ _)

@@ -2,7 +2,7 @@
 use Rattle.laws.proofs.Prelude.{_≡_, refl, ap, _∙_, _+_, length}
 use Rattle.words.{specs.Words.{word, float, vec, bits, flag, Holds}, proofs.{Back.{word-back, bits-back, float-back, vec-back, flag-lt}, Written.length-bytesOf}}
 use Rattle.joint_tick.specs.declared.state.Answer.{Answer}
-use Rattle.image.specs.{Layout.{TORQUE, COMMAND, FLAG, MARGIN, ANSWER-BYTES}, Inputs.{wordsOfAnswer, answerOf}, Fits.{F32, FitsVec}}
+use Rattle.image.specs.{Layout.{TORQUE, COMMAND, FLAG, TIME, PSI, MARGIN, ANSWER-BYTES}, Inputs.{wordsOfAnswer, answerOf}, Fits.{F32, FitsVec}}
 
 answer-is : (a : Answer) → Holds (answerOf a) (wordsOfAnswer a)
 unfolding answerOf
@@ -33,3 +33,12 @@ pub command-words : (a : Answer) → FitsVec (a .command .0)
 command-words a f =
     let at = bits-back (answer-is a) in
     (at COMMAND (a .command .0 .0) refl (f .0), at (COMMAND + 1) (a .command .0 .1) refl (f .1 .0), at (COMMAND + 2) (a .command .0 .2) refl (f .1 .1 .0))
+
+pub torque-answered : (a : Answer) → FitsVec (a .torque .0) → vec (answerOf a) TORQUE ≡ a .torque .0
+torque-answered a f = vec-back (answer-is a) TORQUE (a .torque .0) refl f
+
+pub time-answered : (a : Answer) → F32 (a .time) → float (answerOf a) TIME ≡ a .time
+time-answered a f = float-back (answer-is a) TIME (a .time) refl f
+
+pub psi-word : (a : Answer) → F32 (a .psi) → word (answerOf a) PSI ≡ bits (a .psi)
+psi-word a f = bits-back (answer-is a) PSI (a .psi) refl f

@@ -7,3 +7,4 @@ pub mod Exchanged
 pub mod Shams
 pub mod LostRotor
 pub mod Gyro
+pub mod OnBytes

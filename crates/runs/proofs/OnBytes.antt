@@ -1,0 +1,77 @@
+-- What the joint tick's theorems say of an answer, on its bytes: no desired attitude, no thrust axis, and which numbers are finite. Assumes nothing.
+use Rattle.laws.proofs.Prelude.{_≡_, refl, ap, _∙_, not, List, [], _∷_, ℕ, T, Float, isNan, fits, ofBits, toBits}
+use Rattle.words.specs.Words.{word, float, vec, flag, bits}
+use Rattle.relay_math.specs.Exact.{inRange}
+use Rattle.relay_geo.specs.{declared.vectors.Direction.the-variants.Refused, Vectors.Finite3, Attitude.thrustAxisNed, Set.minusInfinity}
+use Rattle.joint_tick.specs.{declared.{profile.Profile.the-variants.Whole, state.{Answer.Answer, State.State, TickInput.TickInput}, stages.Reference.Reference}, Tick.cleaned}
+use Rattle.joint_tick.proofs.{Shielding.{wantedAt, tick-margin}, NoAttitude.{Damped, bad-heading-tick, no-axis-tick}, Answered.answer-finite, Clock.{tick-time, time-never-back}, Kept.good-runs}
+use Rattle.image.specs.{Layout.{PROFILE, YAW, TORQUE, COMMAND, TIME, PSI, MARGIN}, Parts.profileAt, Image.{fixedAt, stateAt}, Inputs.inputAt, Fits.F32}
+use Rattle.image.proofs.{AnswerFits.{margin-fits, command-fits, torque-fits}, Answered.{torque-answered, command-answered, command-words, time-answered, psi-word, margin-answered, margin-word}}
+use Rattle.calls.{specs.Ticks.Accepted, proofs.Going.good-image}
+use Rattle.runs.specs.{Runs.{Tick, tickOf, sourceOn, Right}, DemandThree.{flagOf, commandWords}}
+use Rattle.runs.proofs.{Shown.{done, tick-done, flag-shown}, Kept.lost}
+
+whole : (image : List ℕ) → word image PROFILE ≡ 0 → fixedAt image .profile ≡ Whole
+unfolding fixedAt profileAt
+whole image e = rw e
+
+-- what an answer then shows: flag 1, command words 0, psi a NaN, margin minus infinity
+pub record Unheld (image : List ℕ) (t : Tick) : Type 0 where
+  pub flag : flagOf image t ≡ 1
+  pub command : commandWords (tickOf image t .later .answer) ≡ 0 ∷ 0 ∷ 0 ∷ []
+  pub psi : word (tickOf image t .later .answer) PSI ≡ 0x7fc0_0000
+  pub margin : word (tickOf image t .later .answer) MARGIN ≡ 0xff80_0000
+
+module _ (image : List ℕ) (t : Tick) (a : Accepted image) (r : Right t) where
+  abbrev source : Float → Reference
+  source = sourceOn (t .course) image
+
+  abbrev s : State
+  s = stateAt image
+
+  abbrev i : TickInput
+  i = inputAt (t .input)
+
+  abbrev given : Answer
+  given = done image t .answer
+
+  minus-word : bits minusInfinity ≡ 0xff80_0000
+  unfolding toBits
+  minus-word = refl
+
+  unheld : Damped source s i → Unheld image t
+  unfolding toBits ofBits fits
+  unheld d =
+      let c = command-words given (command-fits source s (t .input)) in
+      record {
+        flag = flag-shown image t a r ∙ ap flag (d .flag);
+        command = rw (tick-done image t a r, c .0, c .1, c .2, d .command);
+        psi = rw (tick-done image t a r) (psi-word given (rw (d .psi) tt) ∙ ap bits (d .psi));
+        margin = rw (tick-done image t a r) (margin-word given (rw (d .margin) tt) ∙ ap bits (d .margin) ∙ minus-word);
+      }
+
+  -- "Headings that aren't numbers": in profile 0, at a heading that is a NaN, infinite or beyond the limit, whatever the past
+  pub bad-heading-on-bytes : word image PROFILE ≡ 0 → T (not (inRange (float (t .input) YAW))) → Unheld image t
+  unfolding inputAt
+  bad-heading-on-bytes p far = unheld (bad-heading-tick source s i (whole image p) far)
+
+  -- in profile 1 the same where the thrust axis refuses
+  pub no-axis-on-bytes : word image PROFILE ≡ 1 → thrustAxisNed (cleaned (wantedAt source s i) .acc) ≡ Refused → Unheld image t
+  no-axis-on-bytes p e = unheld (no-axis-tick source s i (lost image p) e)
+
+  -- ---- "Torque and command are finite whatever comes in; the time and the margin are never NaN; only the psi word can be."
+
+  time-fits : F32 (given .time)
+  time-fits = rw (tick-time source s i) (time-never-back source s i (good-runs (good-image image a)) .1 .holds)
+
+  pub answer-finite-on-bytes : let answer = tickOf image t .later .answer in
+      Finite3 (vec answer TORQUE) × Finite3 (vec answer COMMAND) × T (not (isNan (float answer TIME))) × T (not (isNan (float answer MARGIN)))
+  answer-finite-on-bytes =
+      let n = answer-finite source s i (good-runs (good-image image a)) in
+      rw (
+        tick-done image t a r,
+        torque-answered given (torque-fits source s i),
+        command-answered given (command-fits source s (t .input)),
+        time-answered given time-fits,
+        margin-answered given (rw (tick-margin source s i) (margin-fits source s i)),
+      ) (n .torque, n .command, n .time, n .margin)

@@ -10,3 +10,4 @@ pub mod Call
 pub mod OneAnswer
 pub mod Back
 pub mod Flies
+pub mod From

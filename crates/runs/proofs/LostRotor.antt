@@ -1,5 +1,5 @@
 -- Request Six on bytes: ticks of either kind on an image whose profile's word is 1, and what is refused. Assumes nothing.
-use Rattle.laws.proofs.Prelude.{_≡_, refl, sym, ap, _∙_, Bool, true, false, not, cond, and-false, List, ℕ, _+_, eqb, Float, ofBits, toBits, length}
+use Rattle.laws.proofs.Prelude.{_≡_, refl, sym, ap, _∙_, Bool, true, false, not, cond, and-false, List, ℕ, _+_, eqb, ne-eqb, Float, ofBits, toBits, length}
 use lib.Ieee.Bits.{ofBits-fits}
 use Rattle.words.specs.Words.{word, float, vec, flag, bits}
 use Rattle.relay_math.specs.F32.{0·0}
@@ -83,14 +83,14 @@ ten-exactly input e = rw e (by (isProfile (word input SETUP-PROFILE)) (cond (pas
     by true o = refl
     by false o = refl
 
--- "Old images get 1", and 4 in the new length
-pub old-length-refused : (image : List ℕ) (inputLen answerLen : ℕ) → length image ≡ 380 → tickRefusal image inputLen answerLen ≡ ImageLength
+-- "Old images get 1", and 4 in the new length: by any other length and any other count
+pub other-length-refused : (image : List ℕ) (inputLen answerLen : ℕ) → ¬ (length image ≡ IMAGE-BYTES) → tickRefusal image inputLen answerLen ≡ ImageLength
 unfolding tickRefusal
-old-length-refused image inputLen answerLen e = rw e
+other-length-refused image inputLen answerLen d = rw (ne-eqb (length image) IMAGE-BYTES d)
 
-pub old-count-refused : (image : List ℕ) → length image ≡ IMAGE-BYTES → word image COUNT ≡ 95 → tickRefusal image INPUT-BYTES ANSWER-BYTES ≡ BrokenImage
+pub other-count-refused : (image : List ℕ) → length image ≡ IMAGE-BYTES → ¬ (word image COUNT ≡ IMAGE-WORDS) → tickRefusal image INPUT-BYTES ANSWER-BYTES ≡ BrokenImage
 unfolding tickRefusal unbroken
-old-count-refused image e c = rw (e, c)
+other-count-refused image e d = rw (e, ne-eqb (word image COUNT) IMAGE-WORDS d)
 
 -- "a tick finds a bad word 95 under 4"
 pub bad-profile-refused : (image : List ℕ) → length image ≡ IMAGE-BYTES → isProfile (word image PROFILE) ≡ false → tickRefusal image INPUT-BYTES ANSWER-BYTES ≡ BrokenImage

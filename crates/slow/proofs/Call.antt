@@ -6,8 +6,8 @@ use Rattle.relay_math.specs.F32.{f32, 0·0, isFinite}
 use Rattle.words.specs.Words.{word, float, flag, bytesOf}
 use Rattle.latch.specs.Latch.{FliesAt}
 use Rattle.relay_geo.{specs.{declared.{set.RecoverableSet.RecoverableSet, shield.Thresholds.Thresholds}, Shield.{mend, newShield}}, proofs.SetUp.{enter-finite-positive, enter-below-exit}}
-use Rattle.outcome.specs.{declared.Outcome.the-variants.Done, Outcomes.left}
-use Rattle.slow.specs.{Back.{lookBack, flagsTo, slowFlags}, Entry.{MOST-MARGINS, marginsFrom, marginsOf, flagBytes, flagsCall}, Stepping.{Given, marginsGiven, steppedFlags}}
+use Rattle.outcome.{specs.{declared.Outcome.the-variants.{Done, PassThrough}, Outcomes.{firstOf, left}}, proofs.Tables.never-given}
+use Rattle.slow.specs.{Back.{lookBack, flagsTo, slowFlags}, Entry.{MOST-MARGINS, marginsFrom, marginsOf, flagBytes, flagsTable, flagsCall}, Stepping.{Given, marginsGiven, steppedFlags}}
 use Rattle.slow.proofs.{Slow.{slow-flies-at, slow-is-stepping}, Walk.margins-length}
 
 -- thresholds as set-up mends them are what looking back asks for
@@ -48,3 +48,7 @@ module _ (enter exit : Float) (margins flags : List ℕ) (h : length margins ≡
 pub both-occur : flagsCall (bytesOf (0x3fc0_0000 ∷ 0x3f40_0000 ∷ 0x3e80_0000 ∷ [])) (f32 0x3f00_0000) (f32 0x3f80_0000) (7 ∷ 7 ∷ 7 ∷ []) ≡ left Done (0 ∷ 0 ∷ 1 ∷ [])
 unfolding flagsCall flagBytes flagsTo lookBack marginsFrom float word mend isFinite lt mul ofBits
 both-occur = refl
+
+-- 11 is "at set-up alone" (request Twelve)
+pub no-flags-give-eleven : (marginsLen flagsLen : ℕ) → ¬ (firstOf (flagsTable marginsLen flagsLen) ≡ PassThrough)
+no-flags-give-eleven marginsLen flagsLen = never-given PassThrough refl (flagsTable marginsLen flagsLen) refl

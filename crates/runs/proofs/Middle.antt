@@ -1,7 +1,8 @@
 -- What the third demand says of single ticks of a run: between the thresholds nothing changes hands. Assumes nothing.
-use Rattle.laws.proofs.Prelude.{_≡_, refl, sym, ap, _∙_, subst, Bool, true, false, List, [], _∷_, _++_, ℕ, Float}
+use Rattle.laws.proofs.Prelude.{_≡_, refl, sym, ap, _∙_, subst, _⊎_, inl, inr, Bool, true, false, not, _||_, List, [], _∷_, _++_, ℕ, Float, lt, no, both}
 use Rattle.words.specs.Words.{word, flag}
-use Rattle.latch.specs.Latch.{releases, engages, latch}
+use Rattle.relay_math.specs.F32.{isFinite}
+use Rattle.latch.specs.Latch.{latch}
 use Rattle.relay_geo.proofs.Steps.{released-only-above-exit, above-exit-releases, engaged-by, released-stays-in-band, engaged-stays-in-band}
 use Rattle.joint_tick.{specs.Tick.stateAfter, proofs.Shielding.tick-keeps-flag}
 use Rattle.image.{specs.{Layout.ENGAGED, Image.stateAt, Inputs.inputAt}, proofs.Decoded.engaged-written}
@@ -34,23 +35,28 @@ module _ (setup : List ℕ) where
     before = unbroken-has image (ran setup calls .unbroken) .engaged
 
     -- "A margin above exit is answered with the planner's command in that same tick."
-    pub above-exit-flies-at-once : releases (exitOf setup) m ≡ true → flagOf image t ≡ 0
-    above-exit-flies-at-once e = now ∙ ap flag (above-exit-releases (enterOf setup) (exitOf setup) (shieldOf image .engaged) m (thresholds-in-order setup) e)
+    pub above-exit-flies-at-once : isFinite m ≡ true → lt (exitOf setup) m ≡ true → flagOf image t ≡ 0
+    above-exit-flies-at-once f e = now ∙ ap flag (above-exit-releases (enterOf setup) (exitOf setup) (shieldOf image .engaged) m (thresholds-in-order setup) (rw (f, e)))
 
     -- A margin that is non-finite or below enter is answered with the fallback's.
-    pub below-enter-falls-back-at-once : engages (enterOf setup) m ≡ true → flagOf image t ≡ 1
-    below-enter-falls-back-at-once e = now ∙ ap flag (engaged-by (enterOf setup) (exitOf setup) (shieldOf image .engaged) m (thresholds-in-order setup) e)
+    pub below-enter-falls-back-at-once : (isFinite m ≡ false) ⊎ (lt m (enterOf setup) ≡ true) → flagOf image t ≡ 1
+    below-enter-falls-back-at-once e = now ∙ ap flag (engaged-by (enterOf setup) (exitOf setup) (shieldOf image .engaged) m (thresholds-in-order setup) (either (isFinite m) (lt m (enterOf setup)) e))
+      where
+        either : (f b : Bool) → (f ≡ false) ⊎ (b ≡ true) → (not f || b) ≡ true
+        either false b e = refl
+        either true b (inl e) = no (sym e)
+        either true b (inr e) = e
 
     -- Between the thresholds nothing changes hands: the flag is the image's.
     pub in-band-as-before : InBand (enterOf setup) (exitOf setup) m → flagOf image t ≡ word image ENGAGED
     in-band-as-before i = now ∙ ap flag (in-band (enterOf setup) (exitOf setup) m i (shieldOf image .engaged)) ∙ sym before
 
     -- The planner gets control back by a finite margin above exit, and by nothing else.
-    pub back-only-above-exit : word image ENGAGED ≡ 1 → flagOf image t ≡ 0 → releases (exitOf setup) m ≡ true
+    pub back-only-above-exit : word image ENGAGED ≡ 1 → flagOf image t ≡ 0 → (isFinite m ≡ true) × (lt (exitOf setup) m ≡ true)
     back-only-above-exit e f =
         let b = flag-one (shieldOf image .engaged) (sym before ∙ e) in
         let l = flag-zero (latch (enterOf setup) (exitOf setup) (shieldOf image .engaged) m) (sym now ∙ f) in
-        released-only-above-exit (enterOf setup) (exitOf setup) m (subst (λ (x : Bool). latch (enterOf setup) (exitOf setup) x m ≡ false) b l)
+        both (isFinite m) (lt (exitOf setup) m) (released-only-above-exit (enterOf setup) (exitOf setup) m (subst (λ (x : Bool). latch (enterOf setup) (exitOf setup) x m ≡ false) b l))
 
     -- The image keeps the flag for the next tick.
     pub flag-kept : word (tickOf image t .later .image) ENGAGED ≡ flagOf image t

@@ -9,3 +9,4 @@ pub mod Kept
 pub mod Calls
 pub mod OneAnswer
 pub mod Figures
+pub mod Worked

@@ -3,3 +3,4 @@ pub mod SetUp
 pub mod Tick
 pub mod Inner
 pub mod Figures
+pub mod Worked

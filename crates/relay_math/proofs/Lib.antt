@@ -12,6 +12,7 @@ pub mod Fixed
 pub mod AngleNear
 pub mod AngleReduction
 pub mod AngleBound
+pub mod Limits
 pub mod Arms
 pub mod Finite
 pub mod Sizes

@@ -164,6 +164,9 @@ fn mixed(word: u64) -> u64 {
     word ^ word >> 31
 }
 
+/// What `checksum` adds up to, before request Five and since.
+pub const EARLIER_SUM: u64 = 0x518e_4d2a_e683_a703;
+
 /// Sine and cosine of every f32 up to the earlier limit, of either sign.
 pub fn checksum() -> Checksum {
     sweep("a checksum up to the earlier limit", 0, EARLIER_LIMIT.to_bits(), 1, |x, found: &mut Checksum| {

@@ -29,6 +29,13 @@ fn angles_meet_document_01() {
     none_wrong(numbers::document(STRIDE));
 }
 
+/// Request Five: every f32 up to 128, of either sign. It takes some seconds, and a stride would need another stored number.
+#[test]
+fn no_bit_up_to_128_moved() {
+    let found = numbers::checksum();
+    assert_eq!((found.cases, found.sum), (0x4300_0001, numbers::EARLIER_SUM));
+}
+
 #[test]
 fn roots_are_nearest_by_document_01_s_words() {
     let mut cases = 0;

@@ -70,7 +70,11 @@ fn main() {
     beside("cosine", numbers::apart(1, faces::cosf, relay_math_published::cosf));
     good &= profiles();
     let numbers::Checksum { cases, sum } = numbers::checksum();
-    println!("sine and cosine up to 128: checksum {sum:016x} over {cases} sizes of either sign");
+    println!(
+        "sine and cosine up to 128: checksum {sum:016x} over {cases} sizes of either sign, {:016x} before request Five",
+        numbers::EARLIER_SUM
+    );
+    good &= sum == numbers::EARLIER_SUM;
     if !good {
         std::process::exit(1);
     }

@@ -162,7 +162,7 @@ static inline const char *fosavalo_meaning(uint32_t number) {
     case FOSAVALO_WRONG_PROFILE:
         return "the profile is neither 0 nor 1";
     case FOSAVALO_PASS_THROUGH:
-        return "the gyro would not be filtered: the cut-off fc has to be above 0 and below half of the sample rate fs";
+        return "the gyro would not be filtered: the cut-off fc has to be above 0 and below half of the sample rate fs; one below fs / 25586 would switch the gyro off";
     case FOSAVALO_BROKEN_PATTERN:
         return "the pattern has a tag, a count, a depth or a length that none has";
     case FOSAVALO_NO_RECORD:
@@ -275,7 +275,8 @@ static inline const char *fosavalo_meaning(uint32_t number) {
 /* Writes a fresh image, the state that goes from tick to tick; what stood in it is not read.
  *
  * The input is the words FOSAVALO_SETUP_.. Every bit pattern of a number is taken and mended where it is no use, but for a filter that would be none:
- * fc has to be above 0 and below half of fs. (An image that was set up otherwise by an earlier release goes on ticking.)
+ * fc has to be above 0 and below half of fs. (An image that was set up otherwise by an earlier release goes on ticking.) An fc below fs / 25586 is taken
+ * and switches the gyro off: the filtered rate is 0 for ever. One next to half of fs filters next to nothing.
  *
  * Returns 0, 1, 2, 10 or 11. Unless it is 0 no byte is changed; the input never is. Each pointer has to be good for its length, whatever
  * that is, and the two buffers must not overlap. */

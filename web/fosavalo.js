@@ -27,7 +27,7 @@ const MEANINGS = [
     `the buffer has no room for ${RECORD_BYTES} bytes more, or the log has ${MOST_RECORDS} records; or there is not a flag for each ` +
         `margin, or more than ${MOST_MARGINS} of them; or a pattern's route does not fit its buffer`,
     'the profile is neither 0 nor 1',
-    'the gyro would not be filtered: the cut-off fc has to be above 0 and below half of the sample rate fs',
+    'the gyro would not be filtered: the cut-off fc has to be above 0 and below half of the sample rate fs; one below fs / 25586 would switch the gyro off',
     'the pattern has a tag, a count, a depth or a length that none has',
     'the log has no record at that place',
     `the record is not ${RECORD_BYTES} bytes long`,

@@ -325,6 +325,23 @@ fn a_low_pass_whose_angle_overflows() {
 }
 
 #[test]
+fn a_low_pass_whose_cut_off_is_too_low_answers_zero() {
+    let (fc, fs) = (f(0x3cf5_c28f), f(0x447a_0000));
+    assert_eq!([fc, fs], [0.03, 1000.0]);
+    let (mut ours, mut theirs) = (adrc::biquad_lowpass(fc, fs), rust_adrc::Biquad::lowpass(fc, fs));
+    assert_eq!(([ours.b0, ours.b1, ours.b2], &theirs.words()[..3]), ([0.0; 3], &[0.0; 3][..]));
+    for k in 0..100_000u32 {
+        let x = 20.0 * (k as f32 * 0.01).sin();
+        let filtered = adrc::biquad_filter(ours, x);
+        assert_eq!((filtered.y, theirs.filter(x)), (0.0, 0.0));
+        ours = filtered.biquad;
+    }
+    // the page's bound, fs / 25586: on either side of it
+    let open = |fc: f32| adrc::biquad_lowpass(fc, fs).b0 != 0.0;
+    assert_eq!([open(fs / 25_586.0 * 0.9999), open(fs / 25_586.0 * 1.0001)], [false, true]);
+}
+
+#[test]
 fn bounds_and_fractions_of_what_is_not_finite() {
     for x in [f32::NAN, f32::INFINITY, f32::NEG_INFINITY] {
         both(adrc::clamp_sym(x, 2.0), rust_adrc::private::clamp_sym(x, 2.0), 0);

@@ -111,7 +111,8 @@ fn from_file(path: &Path) -> Result<(String, String, Vec<Pair>), String> {
     let bytes = std::fs::read(path).map_err(|error| format!("{}: {error}", path.display()))?;
     let scenario = Scenario::read(&bytes).map_err(|mistake| format!("{}: {mistake}", path.display()))?;
     let mended: String = scenario.set_up.mended().map(|mended| format!("set-up mended {mended}\n")).collect();
-    say(&mended)?;
+    let doubt = scenario.set_up.filter.doubt().map(|doubt| format!("set-up took the filter, but {doubt}\n"));
+    say(&(mended + &doubt.unwrap_or_default()))?;
     let name = output::name(path);
     let fly = |rule| Flight::of(&scenario.set_up, rule, scenario.route.clone(), &scenario.inputs);
     let pair = Pair::new(name.clone(), fly).map_err(|refusal| refusal.to_string())?;

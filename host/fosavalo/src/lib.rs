@@ -70,7 +70,7 @@ pub use mended::Mended;
 pub use pattern::Pattern;
 pub use refusal::Refusal;
 pub use route::{Leg, Route};
-pub use setup::{AdrcGains, Gains, Governor, GyroFilter, Profile, RecoverableSet, Segment, SetUp};
+pub use setup::{AdrcGains, FilterDoubt, Gains, Governor, GyroFilter, Profile, RecoverableSet, Segment, SetUp};
 pub use slow::looked_back;
 pub use tick::{Answer, BodyRate, Pilot, TickInput, Torque};
 

@@ -56,7 +56,7 @@ impl SetUp {
     }
 
     /// What the core mends of this set-up: what was given, what is kept, and why. A filter that passes everything is not
-    /// mended but refused. A coefficient of the segment that overflows, which becomes 0, is no number of a set-up and not told.
+    /// mended but refused; one that is taken and still no use is told by [`GyroFilter::doubt`](crate::GyroFilter::doubt). A coefficient of the segment that overflows, which becomes 0, is no number of a set-up and not told.
     ///
     /// ```
     /// use fosavalo::{Image, SetUp};

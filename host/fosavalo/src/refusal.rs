@@ -153,7 +153,10 @@ impl fmt::Display for Meaning {
             ),
             Refusal::WrongProfile => f.write_str("the profile is neither 0 nor 1"),
             Refusal::PassThrough => {
-                f.write_str("the gyro would not be filtered: the cut-off fc has to be above 0 and below half of the sample rate fs")
+                f.write_str(
+                    "the gyro would not be filtered: the cut-off fc has to be above 0 and below half of the sample rate fs; one below \
+                     fs / 25586 would switch the gyro off",
+                )
             }
             Refusal::BrokenPattern => f.write_str("the pattern has a tag, a count, a depth or a length that none has"),
             Refusal::NoRecord => f.write_str("the log has no record at that place"),

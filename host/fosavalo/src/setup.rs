@@ -1,5 +1,6 @@
 use crate::words::{Put, Take};
 use crate::{Refusal, SETUP_BYTES};
+use core::fmt;
 
 /// Gains of the attitude controller, axis by axis.
 #[derive(Clone, Copy, Debug, PartialEq)]
@@ -103,6 +104,51 @@ pub struct GyroFilter {
     pub fc: f32,
     /// Ticks a second.
     pub fs: f32,
+}
+
+/// What a filter does that set-up takes and hardly anyone can want. [`GyroFilter::doubt`] tells.
+#[derive(Clone, Copy, Debug, PartialEq, Eq)]
+#[non_exhaustive]
+pub enum FilterDoubt {
+    /// The cut-off is so low that the cosine of its angle rounds to 1: the filter lets nothing through, and the filtered rate is 0 for ever.
+    SwitchesOff,
+    /// The cut-off is above nine tenths of half the sample rate: next to nothing is filtered.
+    HardlyFilters,
+}
+
+impl fmt::Display for FilterDoubt {
+    fn fmt(&self, f: &mut fmt::Formatter<'_>) -> fmt::Result {
+        f.write_str(match self {
+            FilterDoubt::SwitchesOff => "the cut-off fc is below fs / 25586: nothing is let through, and the filtered rate is 0 for ever",
+            FilterDoubt::HardlyFilters => "the cut-off fc is next to half of fs: next to nothing is filtered",
+        })
+    }
+}
+
+impl GyroFilter {
+    /// The largest angle per sample whose cosine, in the core's steps, is 1.
+    const SHUT: f32 = f32::from_bits(0x3980_bf77);
+
+    /// Whether a filter that set-up takes does what hardly anyone can want. One that set-up refuses, or one with an ordinary cut-off, has none.
+    ///
+    /// ```
+    /// use fosavalo::{FilterDoubt, GyroFilter};
+    ///
+    /// assert_eq!(GyroFilter { fc: 80.0, fs: 1000.0 }.doubt(), None);
+    /// assert_eq!(GyroFilter { fc: 0.03, fs: 1000.0 }.doubt(), Some(FilterDoubt::SwitchesOff));
+    /// assert_eq!(GyroFilter { fc: 499.0, fs: 1000.0 }.doubt(), Some(FilterDoubt::HardlyFilters));
+    /// ```
+    pub fn doubt(self) -> Option<FilterDoubt> {
+        let GyroFilter { fc, fs } = self;
+        if !(fc > 0.0 && fs > 0.0 && fc < 0.5 * fs) {
+            return None;
+        }
+        // as `Biquad::lowpass` works it out
+        if 2.0 * core::f32::consts::PI * fc / fs <= Self::SHUT {
+            return Some(FilterDoubt::SwitchesOff);
+        }
+        (fc > 0.45 * fs).then_some(FilterDoubt::HardlyFilters)
+    }
 }
 
 /// What there is to fly with.

@@ -1,6 +1,6 @@
 //! What set-up mends, held to the image that the core makes.
 
-use fosavalo::{calls, GyroFilter, Image, Mended, Refusal, SetUp, IMAGE_BYTES, SETUP_BYTES};
+use fosavalo::{calls, FilterDoubt, GyroFilter, Image, Mended, Refusal, SetUp, IMAGE_BYTES, SETUP_BYTES};
 
 /// Floats on and next to what mending decides by, and any bits.
 fn float(next: &mut impl FnMut() -> u64) -> f32 {
@@ -81,6 +81,31 @@ fn no_filter_is_refused() {
         let set_up = SetUp { filter: GyroFilter { fc, fs: 1000.0 }, ..SetUp::falcon_quad() };
         assert_eq!((Image::set_up(&set_up), set_up.mended().count()), (Err(Refusal::PassThrough), 0));
     }
-    let said = "refused (11): the gyro would not be filtered: the cut-off fc has to be above 0 and below half of the sample rate fs";
+    let said =
+        "refused (11): the gyro would not be filtered: the cut-off fc has to be above 0 and below half of the sample rate fs; one below \
+                fs / 25586 would switch the gyro off";
     assert_eq!(Refusal::PassThrough.to_string(), said);
+}
+
+/// A filter is said to switch the gyro off exactly where all three b that the core stores are 0, whatever the sample rate.
+#[test]
+fn a_filter_that_switches_the_gyro_off() {
+    let (mut off, mut on) = (0, 0);
+    for fs in [1e-3, 50.0, 400.0, 1000.0, 8000.0, 1e30] {
+        // through the bound, fs / 25586, in steps of 2^-20
+        for step in -2000..2000i32 {
+            let fc = fs / 25_586.0 * (1.0 + step as f32 / 1_048_576.0);
+            let filter = GyroFilter { fc, fs };
+            let image = Image::set_up(&SetUp { filter, ..SetUp::falcon_quad() }).expect("it is taken");
+            let bytes = image.as_bytes();
+            let word = |at: usize| u32::from_le_bytes([bytes[4 * at], bytes[4 * at + 1], bytes[4 * at + 2], bytes[4 * at + 3]]);
+            let shut = [68, 69, 70].map(word) == [0; 3];
+            assert_eq!(filter.doubt() == Some(FilterDoubt::SwitchesOff), shut, "{filter:?}");
+            *if shut { &mut off } else { &mut on } += 1;
+        }
+    }
+    assert!(off > 1000 && on > 1000, "{off} {on}");
+    let doubt = |fc| GyroFilter { fc, fs: 1000.0 }.doubt();
+    assert_eq!([0.0, -1.0, 500.0, f32::NAN, 1.0, 80.0, 450.0].map(doubt), [None; 7]);
+    assert_eq!([451.0, 499.0].map(doubt), [Some(FilterDoubt::HardlyFilters); 2]);
 }

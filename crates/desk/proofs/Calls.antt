@@ -1,6 +1,6 @@
 -- What a call on a desk leaves: a refused one leaves all as it was, and an accepted tick is the core's tick of the input that it leaves. Assumes nothing.
 use Rattle.laws.proofs.Prelude.{_≡_, refl, sym, ap, _∙_, Bool, true, false, cond, List, ℕ, length, no}
-use Rattle.outcome.{specs.{declared.Outcome.{Outcome, the-variants.Done}, Outcomes.{isDone, differs, Left, left, lent, Called}}, proofs.Tables.by-test}
+use Rattle.outcome.{specs.{declared.Outcome.{Outcome, the-variants.Done}, Outcomes.{isDone, differs, Left, left, lent}}, proofs.Tables.by-test}
 use Rattle.image.specs.Layout.{INPUT-BYTES, ANSWER-BYTES}
 use Rattle.lent_tick.{specs.{Unbroken.Unbroken, Tick.tickRefusal}, proofs.Flown.unbroken-taken}
 use Rattle.calls.specs.Entry.{tickCall}

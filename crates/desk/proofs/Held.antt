@@ -1,11 +1,10 @@
 -- Each stick's filter after any run of desk calls is the Rust's filter after its steps and resets, and so within its limits. Assumes nothing.
-use Rattle.laws.proofs.Prelude.{_≡_, refl, sym, ap, subst, _∙_, Bool, true, false, List, [], _∷_, _++_, ℕ, Float, length}
+use Rattle.laws.proofs.Prelude.{_≡_, refl, sym, ap, subst, _∙_, Bool, List, [], _∷_, _++_, ℕ, Float, length}
 use Rattle.words.specs.Words.{float, vec}
 use Rattle.image.specs.Layout.{DT}
 use Rattle.outcome.{specs.Outcomes.Left, proofs.Tables.by-test}
-use Rattle.relay_math.specs.declared.Vec3.{Vec3}
 use Rattle.relay_adrc.{specs.{declared.filter.CommandFilter.CommandFilter, Filter.{Event, Step, Reset, filterNew, after, run}}, proofs.Limits.{Limit, Held, fresh-held}}
-use Rattle.desk.specs.{declared.{filters.Desk.Desk, entry.DeskOutcome.DeskOutcome}, Filters.{DESK-BYTES, deskAt, deskOf, newAt, deskSetUp, deskStep, deskCentre}}
+use Rattle.desk.specs.{declared.{filters.Desk.Desk, entry.DeskOutcome.DeskOutcome}, Filters.{DESK-BYTES, deskAt, newAt, deskSetUp, deskStep, deskCentre}}
 use Rattle.desk.specs.Entry.{deskDone, LentToDesk, moved, tickRefusalAt, deskTickCall}
 use Rattle.desk.specs.Runs.{Stick, Heading, Turn, Zoom, place, filterOf, omegaGiven, magLimit, rateLimit, DeskCall, Ticks, Centres, deskBy, deskAfter, deskStart, eventsBy, eventsAlong}
 use Rattle.desk.proofs.{Read.{set-up-fits, stepped-fits, centred-fits, desk-length, read-again}, Calls.centred}

@@ -1,9 +1,9 @@
 -- A desk that was written is read again: what the filters make of f32 values are f32 values. Assumes nothing.
-use Rattle.laws.proofs.Prelude.{_≡_, refl, List, [], _∷_, ℕ, _+_, Float, length, take, drop}
+use Rattle.laws.proofs.Prelude.{_≡_, refl, List, ℕ, _+_, Float, length, take, drop}
 use lib.Ieee.{Fits.{cond-fits, neg-fits, add-fits}, Bits.ofBits-fits}
 use Rattle.words.{specs.Words.{wordsOf, AllFit, Holds}, proofs.{Back.{first-back, floats-back, float-fits}, Written.length-bytesOf}}
 use Rattle.relay_math.specs.declared.Vec3.{Vec3}
-use Rattle.relay_adrc.specs.{declared.filter.CommandFilter.CommandFilter, Filter.{clampSym, filterNew, filterStep, filterReset}}
+use Rattle.relay_adrc.specs.{declared.filter.CommandFilter.CommandFilter, Filter.{clampSym, filterStep, filterReset}}
 use Rattle.image.specs.Fits.{F32}
 use Rattle.desk.specs.{declared.filters.Desk.Desk, Filters.{FILTER-WORDS, DESK-BYTES, filterAt, deskAt, floatsOfFilter, floatsOfDesk, deskOf, newAt, deskSetUp, deskStep, deskCentre}}
 

@@ -1,14 +1,12 @@
 -- The user's third demand over runs by the desk. Assumes nothing.
-use mathlib.Core.{Path.{_≡_, refl, sym, ap, subst, _∙_}, Bool.true, List.{List, [], _∷_, _++_}}
-use Prim.Native.Nat.{ℕ}
-use lib.ListN.{length}
+use Rattle.laws.proofs.Prelude.{_≡_, sym, ap, subst, _∙_, List, [], _∷_, _++_, ℕ, length}
 use Rattle.latch.specs.Latch.{Flies}
 use Rattle.image.specs.Layout.{INPUT-BYTES, ANSWER-BYTES}
-use Rattle.outcome.specs.Outcomes.{isDone, Called}
+use Rattle.outcome.specs.Outcomes.{Called}
 use Rattle.lent_tick.specs.Unbroken.{Unbroken}
-use Rattle.runs.{specs.{Runs.{flying, tickOf, guided, start, imageAfter, marginsAlong, Right}, DemandThree.{enterOf, exitOf, Shows}}, proofs.{Going.ran, DemandThree.demand-three}}
+use Rattle.runs.{specs.{Runs.{flying, tickOf, guided, start, marginsAlong, Right}, DemandThree.{enterOf, exitOf, Shows}}, proofs.{Going.ran, DemandThree.demand-three}}
 use Rattle.desk.{specs.{Filters.{DESK-BYTES, STICKS-BYTES}, Entry.{deskNumber, deskDone}}, proofs.Calls.{tick-accepted, input-length, is-core-tick}}
-use Rattle.desk_runs.specs.Runs.{Held, held, Given, AnyCall, deskTick, heldAfter, flownTick, coreAlong}
+use Rattle.desk_runs.specs.Runs.{held, Given, AnyCall, deskTick, heldAfter, flownTick, coreAlong}
 use Rattle.desk_runs.proofs.Seen.{core-sees, desk-size}
 
 -- Demand 3 as crate `runs` has it, of a tick by the desk: for any desk of the right length, any bytes given to the core's set-up, any calls since (desk ticks, the

@@ -1,6 +1,5 @@
 -- "so that a log keeps what was flown". Assumes nothing.
-use mathlib.Core.{Path.{_≡_, _∙_}, Bool.true, List.{List, [], _∷_, _++_}}
-use Prim.Native.Nat.{ℕ}
+use Rattle.laws.proofs.Prelude.{_≡_, _∙_, true, List, [], _∷_, _++_, ℕ}
 use Rattle.outcome.specs.{declared.Outcome.the-variants.Done, Outcomes.{isDone, Left, left, lent}}
 use Rattle.calls.specs.Entry.{tickCall}
 use Rattle.log.{specs.{Form.isLog, Records.records, Runs.{Held, Given, logIn, appended, afterOne, afterAll, keptAlong}}, proofs.Reading.after-appends}

@@ -1,7 +1,5 @@
 -- A run with a desk is, for the core, a run of its own calls, and for the desk one of the desk's. Assumes nothing.
-use mathlib.Core.{Path.{_≡_, refl, sym, ap, _∙_}, Bool.{Bool, true, false, cond}, List.{List, [], _∷_, _++_}}
-use Prim.Native.Nat.{ℕ}
-use lib.{ListN.length, Ieee.neg}
+use Rattle.laws.proofs.Prelude.{_≡_, refl, sym, ap, _∙_, Bool, true, false, cond, List, [], _∷_, _++_, ℕ, length, neg}
 use Rattle.outcome.specs.Outcomes.{Called}
 use Rattle.runs.specs.Runs.{Call, flying, leftBy, imageAfter, Ticks as CoreTicks}
 use Rattle.relay_math.specs.F32.{Within as Between}

@@ -1,5 +1,5 @@
 -- The state image holds the state: what is written is read again, and what is read is written again in canonical words. Assumes nothing.
-use Rattle.laws.proofs.Prelude.{_≡_, refl, sym, ap, _∙_, List, [], _∷_, _++_, ℕ, _+_, _-_, _<_, add-assoc, eqb, lit<, length, getD, take, drop, Float}
+use Rattle.laws.proofs.Prelude.{_≡_, refl, sym, ap, _∙_, List, _∷_, _++_, ℕ, _+_, _-_, _<_, add-assoc, eqb, lit<, length, getD, take, drop, Float}
 use Rattle.words.specs.Words.{word, float, vec, floatsOfVec, bits, flag, wordsOf, bytesOf, Holds, canons}
 use Rattle.words.proofs.{Back.{word-back, bits-back, float-back, floats-back, first-back, float-fits, flag-back, flag-lt}, Written.length-bytesOf}
 use Rattle.relay_math.specs.declared.Vec3.{Vec3}

@@ -1,5 +1,5 @@
 -- An image over which only what a tick moved is written. Assumes nothing.
-use Rattle.laws.proofs.Prelude.{_≡_, refl, sym, ap, subst, _∙_, List, [], _∷_, ℕ, _+_, _≤_, lit≤, length}
+use Rattle.laws.proofs.Prelude.{_≡_, sym, ap, subst, _∙_, List, [], _∷_, ℕ, _+_, _≤_, lit≤, length}
 use Rattle.words.{specs.Words.{bits, flag, wordsOf, bytesOf, Put, Holds, canons}, proofs.Standing.put-holds}
 use Rattle.joint_tick.specs.declared.state.{Moving.Moving, State.State}
 use Rattle.image.specs.{Layout.{AXIS-WORDS, BIQUAD-WORDS, ENGAGED, GOVERNOR, RATE, LPF, IMAGE-WORDS, IMAGE-BYTES}, Image.{fixedAt, movingAt, stateAt, wordsOfState, imageOf}}

@@ -2,8 +2,8 @@
 use Rattle.laws.proofs.Prelude.{_≡_, refl, _∙_, ap, Bool, true, false, not, cond, T, Float, nan, ofBits}
 use Rattle.relay_math.specs.{F32.{0·0, isFinite}, Exact.inRange, declared.{Vec3.Vec3, BodyRate.BodyRate}}
 use Rattle.relay_geo.specs.{declared.{attitude.{Attitude.the-variants.Refused, Feedforward.Feedforward}, controller.GeoGains.GeoGains, set.RecoverableSet.RecoverableSet}, Vectors.{norm, sanitise3}}
-use Rattle.relay_geo.specs.{Attitude.{thrustForce, thrustAxisNed, thrustAttitude, tooWeak, flatnessOmegaFf}, Inner.{thrustOf, feedforwardOn}, Set.minusInfinity}
-use Rattle.relay_geo.proofs.{Accepts.feedforward-shares, NoAttitude.bad-heading-none}
+use Rattle.relay_geo.{specs.{Attitude.{thrustForce, thrustAxisNed, thrustAttitude, tooWeak, flatnessOmegaFf}, Inner.{thrustOf, feedforwardOn}, Set.minusInfinity}, proofs.Accepts.feedforward-shares}
+use Rattle.relay_geo.proofs.NoAttitude.{bad-heading-none}
 use Rattle.latch.specs.Latch.{latch}
 use Rattle.joint_tick.specs.declared.{profile.Profile.the-variants.{Whole, LostRotor}, state.{State.State, TickInput.TickInput}, stages.{Reference.Reference, Guided.Guided}}
 use Rattle.joint_tick.specs.Tick.{cleaned, desired, plannerOf, guideWhole, guideLostRotor, guide, guidance, ticked}

@@ -2,8 +2,8 @@
 use Rattle.laws.proofs.Prelude.{_≡_, refl, sym, ap, _∙_, Bool, true, false, not, List, ℕ, Float, length, not-false, eq-eqb}
 use Rattle.relay_adrc.specs.{declared.rate.AdrcRate.AdrcRate, Biquad.{biquadFilter, gyroFilter}}
 use Rattle.relay_traj.specs.Governor.{advance}
-use Rattle.joint_tick.specs.declared.{state.{Fixed.Fixed, TickInput.TickInput}, stages.{Prepared.Prepared, Reference.Reference, Ticked.Ticked}}
-use Rattle.joint_tick.{specs.Tick.{prepare, guidePickFollow, ticked, stateAfter}, proofs.Kept.tick-keeps}
+use Rattle.joint_tick.specs.{declared.{state.{Fixed.Fixed, TickInput.TickInput}, stages.{Prepared.Prepared, Reference.Reference, Ticked.Ticked}}, Tick.{prepare, guidePickFollow, ticked, stateAfter}}
+use Rattle.joint_tick.proofs.Kept.{tick-keeps}
 use Rattle.outcome.{specs.{declared.Outcome.{Outcome, the-variants.Done}, Outcomes.{isDone, left, lent}}, proofs.Tables.{done-none, same}}
 use Rattle.image.specs.{Layout.{IMAGE-BYTES, INPUT-BYTES, ANSWER-BYTES}, Image.{fixedAt, movingAt, stateAt}, Inner.{overAxis, OwnWords, Unmoved}, Inputs.inputAt}
 use Rattle.lent_tick.specs.{Unbroken.{unbroken, Unbroken}, Tick.{tickTable, tickRefusal, tickFrom}, Inner.{ReadOf, leftMoving, Leaves}}

@@ -7,8 +7,8 @@ use Rattle.relay_math.specs.F32.{1e-3, isFinite}
 use Rattle.relay_traj.{specs.{Quintic.Lasts, Segment.segment}, proofs.{Clock.starts-at-zero, Leg.segment-lasts}}
 use Rattle.joint_tick.specs.{declared.{state.{Leg.Leg, State.State}, stages.Reference.Reference}, SetUp.{setUp, segmentOf, exchange}, Tick.{ticked, prepare, pick, guidePickFollow, stateAfter}}
 use Rattle.joint_tick.proofs.Clock.{time-never-back}
-use Rattle.image.specs.{Layout.SETUP-ENTER, Parts.{gainsAt, setAt, legAt, adrcGainsAt}, Image.{stateAt, imageOf}, Inputs.{setupAt, inputAt}, Fits.Fits}
-use Rattle.image.proofs.{Decoded.state-fits, Fitting.{new-shield-fits, governor-fits, advance-fits, segment-fits, rate-new-fits, rate-fraction-fits, rate-tick-fits, gyro-new-fits, gyro-filter-fits}}
+use Rattle.image.{specs.{Layout.SETUP-ENTER, Parts.{gainsAt, setAt, legAt, adrcGainsAt}, Image.{stateAt, imageOf}, Inputs.{setupAt, inputAt}, Fits.Fits}, proofs.Decoded.state-fits}
+use Rattle.image.proofs.Fitting.{new-shield-fits, governor-fits, advance-fits, segment-fits, rate-new-fits, rate-fraction-fits, rate-tick-fits, gyro-new-fits, gyro-filter-fits}
 use Rattle.lent_tick.specs.Unbroken.{lasts, allLast, Unbroken}
 use Rattle.lent_tick.proofs.RowFour.{unbroken-has, written-unbroken}
 

@@ -1,13 +1,13 @@
 -- What an unbroken image has, and which states are written as one. Assumes nothing.
-use Rattle.laws.proofs.Prelude.{_≡_, refl, sym, ap, _∙_, Bool, true, false, not, _||_, _&&_, cond, List, ℕ, _+_, T, eqb, eq-eqb, eqb-true, Float, nan, inf, fin, binary32}
-use Rattle.laws.proofs.Prelude.{lt, le, isNan, ofBits, toBits, no, held, both}
+use Rattle.laws.proofs.Prelude.{_≡_, refl, sym, ap, _∙_, Bool, true, false, not, _||_, _&&_, cond, List, ℕ, _+_, eqb, eq-eqb, eqb-true, Float, nan, inf, fin, binary32, lt, le, isNan, ofBits, toBits}
+use Rattle.laws.proofs.Prelude.{no, held, both}
 use lib.Ieee.Bits.{is-true, ofBits-toBits}
-use Rattle.words.specs.Words.{word, float, bits, canon, flag, canons}
+use Rattle.words.specs.Words.{word, bits, canon, flag}
 use Rattle.relay_math.{specs.F32.{0·0, 1e-3, isFinite, finiteAbove}, proofs.Order.le-is-not-above}
 use Rattle.relay_traj.specs.Governor.{Running}
 use Rattle.joint_tick.specs.{declared.{profile.Profile.{Profile, the-variants.{Whole, LostRotor}}, state.State.State}, Profile.{profileWord, isProfile, profileOf}}
-use Rattle.image.specs.Layout.{COUNT, ENTER, EXIT, ENGAGED, GOVERNOR, SEGMENT, PROFILE, PEAKS, IMAGE-WORDS}
-use Rattle.image.specs.{Parts.{governorAt, segmentAt, profileAt}, Image.{fixedAt, movingAt, stateAt, imageOf, peaksOf}, Fits.{FitsSegment, Fits}, Inner.OwnWords}
+use Rattle.image.specs.{Layout.{COUNT, ENGAGED, SEGMENT, PROFILE, PEAKS, IMAGE-WORDS}, Parts.{governorAt, segmentAt, profileAt}, Image.{fixedAt, movingAt, stateAt, imageOf, peaksOf}}
+use Rattle.image.specs.{Fits.{FitsSegment, Fits}, Inner.OwnWords}
 use Rattle.image.proofs.Decoded.{image-length, count-written, engaged-written, profile-written, enter-written, exit-written, time-written, segment-written, peaks-written, same-words, state-fits}
 use Rattle.image.proofs.Fitting.{peaks-fit}
 use Rattle.lent_tick.specs.Unbroken.{lasts, allLast, peaksStand, unbroken, Unbroken}

@@ -1,6 +1,6 @@
 -- Logs of our own exist: a buffer with room for a record of each accepted tick keeps them all. Assumes nothing.
-use Rattle.laws.proofs.Prelude.{_≡_, refl, sym, ap, subst, _∙_, Bool, true, false, List, [], _∷_, _++_, ℕ, suc, _+_, _-_, _*_, _≤_, zero-add, arith, le-ltb, ne-eqb}
-use Rattle.laws.proofs.Prelude.{length, length-append, length-sets, no}
+use Rattle.laws.proofs.Prelude.{_≡_, refl, sym, ap, subst, _∙_, Bool, true, false, List, [], _∷_, _++_, ℕ, suc, _+_, _-_, _*_, _≤_, zero-add, arith, le-ltb, ne-eqb, length, length-append, length-sets}
+use Rattle.laws.proofs.Prelude.{no}
 use Rattle.words.specs.Words.{word, float, bytesOf}
 use Rattle.joint_tick.specs.{Profile.isProfile, Tick.ticked}
 use Rattle.image.{specs.{Layout.{INPUT-BYTES, ANSWER-BYTES, SETUP-ENTER, SETUP-EXIT, SETUP-PROFILE}, Image.stateAt, Inputs.inputAt}, proofs.Answered.answer-length}

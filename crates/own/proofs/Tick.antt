@@ -7,8 +7,8 @@ use Rattle.words.{specs.Words.{word, float, floatOf, bits, flag}, proofs.Back.f
 use Rattle.latch.specs.Latch.{latch}
 use Rattle.relay_geo.{specs.Vectors.Finite3, proofs.Finite.sanitise3-finite}
 use Rattle.joint_tick.{specs.{declared.profile.Profile.{Profile, the-variants.{Whole, LostRotor}}, Profile.{isProfile, profileOf}, Tick.guidance}, proofs.Shielding.tick-fallback}
-use Rattle.image.{specs.{Layout.{INPUT-WORDS, INPUT-BYTES, ANSWER-BYTES, AGILE, COMMAND, FLAG, MARGIN, PROFILE, SETUP-PROFILE}, Image.stateAt, Inputs.inputAt, Passed.{passedOn, plannerWord}, Fits.FitsVec}, proofs.Answered.command-words}
-use Rattle.image.proofs.AnswerFits.{command-fits}
+use Rattle.image.specs.{Layout.{INPUT-WORDS, INPUT-BYTES, ANSWER-BYTES, AGILE, COMMAND, FLAG, MARGIN, PROFILE, SETUP-PROFILE}, Image.stateAt, Inputs.inputAt, Passed.{passedOn, plannerWord}}
+use Rattle.image.{specs.Fits.FitsVec, proofs.{Answered.command-words, AnswerFits.command-fits}}
 use Rattle.outcome.{specs.{declared.Outcome.the-variants.Done, Outcomes.{isDone, Table, firstOf, Called}}, proofs.Tables.{refuses, done-none, done-exactly, same, either}}
 use Rattle.lent_tick.{specs.{Unbroken.Unbroken, Tick.{tickTable, tickFrom}, Steps.shieldOf}, proofs.Flown.taken-unbroken}
 use Rattle.route.specs.{Form.{formTable, formRefusal}, Entry.routeRefusal}

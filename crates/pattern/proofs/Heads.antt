@@ -1,5 +1,5 @@
 -- What an item starts with, test by test. Assumes nothing.
-use Rattle.laws.proofs.Prelude.{_≡_, refl, sym, ap, _∙_, Bool, true, false, cond, List, ℕ, _+_, _-_, _*_, _≤_, _<_, arith, ltb-false, eqb-true, eqb-false, eqb, ltb, length, getD, slice, length-slice}
+use Rattle.laws.proofs.Prelude.{_≡_, refl, sym, ap, _∙_, true, false, List, ℕ, _+_, _-_, _*_, _≤_, _<_, arith, ltb-false, eqb-true, eqb-false, eqb, ltb, length, getD, slice, length-slice}
 use Rattle.outcome.proofs.Tables.{by-test}
 use Rattle.pattern.specs.{declared.form.Head.{Head, the-variants.{Neither, Leg, Repeat}}, Read.{headOf, innerLength, sizeOf}}
 use Rattle.pattern.proofs.Parts.{part-get}

@@ -1,10 +1,10 @@
 -- Every leg that is read has a leg's bytes. Assumes nothing.
-use Rattle.laws.proofs.Prelude.{_≡_, sym, ap, subst, Bool, true, false, cond, inl, inr, List, [], _∷_, _++_, map, append-nil, ℕ, zero, suc, _+_, _≤_, _<_, le-of-suc-le-suc, arith, eqb, length, getD}
-use Rattle.laws.proofs.Prelude.{take, drop, length-drop, length-take-le, take-all, le-or-lt}
+use Rattle.laws.proofs.Prelude.{_≡_, sym, ap, subst, inl, inr, List, [], _∷_, _++_, map, append-nil, ℕ, zero, suc, _+_, _≤_, _<_, le-of-suc-le-suc, arith, eqb, length, getD, take, drop, length-drop}
+use Rattle.laws.proofs.Prelude.{length-take-le, take-all, le-or-lt}
 use Rattle.image.specs.Layout.{LEG-BYTES}
 use Rattle.outcome.proofs.Tables.{by-test}
-use Rattle.pattern.specs.{declared.form.Head.{Head, the-variants.{Neither, Leg, Repeat}}, Tree.{nothing, leg, times, flown}}
-use Rattle.pattern.specs.{Read.{Read, broken, is, headOf, sizeOf, repeated, itemOf, before, itemsOf, read}, Walk.legIn}
+use Rattle.pattern.specs.{declared.form.Head.{Head, the-variants.{Neither, Leg, Repeat}}, Tree.{times, flown}, Read.{Read, broken, is, headOf, sizeOf, repeated, itemOf, before, itemsOf, read}}
+use Rattle.pattern.specs.Walk.{legIn}
 use Rattle.pattern.proofs.{Heads.{Room, head-room}, Trees.flown-append}
 
 abbrev pub AllLong : List (List ℕ) → Type 0

@@ -2,8 +2,7 @@
 use Rattle.laws.proofs.Prelude.{_≡_, refl, sym, _∙_, Bool, true, false, not, _&&_, cond, not-false, Float, nan, inf, fin, lt, isNan, ofBits, both}
 use Rattle.relay_math.{specs.{declared.Vec3.Vec3, F32.{1e-3, isFinite, finiteAbove}}, proofs.Order.{le-is-not-above, lt-trans}}
 use Rattle.relay_geo.specs.{declared.{vectors.Direction.the-variants.Axis, attitude.Attitude.{Attitude, the-variants.{Matrix, Refused}}}, Vectors.{1e-9, norm, long, over, normalize, givesAxis}}
-use Rattle.relay_geo.specs.Attitude.{thrustForce, thrustAxisNed, thrustAttitude, tooWeak, rateFrom, flatnessOmegaFf, givesMatrix, givesRate}
-use Rattle.relay_geo.specs.Inner.{thrustOf, attitudeOn, feedforwardOn}
+use Rattle.relay_geo.specs.{Attitude.{thrustForce, thrustAxisNed, thrustAttitude, tooWeak, rateFrom, flatnessOmegaFf, givesMatrix, givesRate}, Inner.{thrustOf, attitudeOn, feedforwardOn}}
 use Rattle.relay_geo.specs.declared.attitude.Feedforward.the-variants as rate
 
 -- "`normalize` refuses unless the norm is finite and above 1e-9."

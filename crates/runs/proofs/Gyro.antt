@@ -1,5 +1,5 @@
 -- Request Twelve on bytes: what is refused with 11, what stays of images that were set up before, and that what set-up takes is filtered. Assumes nothing.
-use Rattle.laws.proofs.Prelude.{_≡_, refl, sym, ap, _∙_, subst, Bool, true, false, not, _&&_, cond, List, [], _∷_, _++_, ℕ, _+_, _<_, lit<, lt, ofBits, length, no}
+use Rattle.laws.proofs.Prelude.{_≡_, refl, sym, ap, _∙_, subst, Bool, true, false, _&&_, cond, List, [], _∷_, _++_, ℕ, _+_, _<_, lit<, lt, ofBits, length, no}
 use Rattle.words.specs.Words.{word, float, floatOf}
 use Rattle.latch.specs.Latch.{Flies}
 use Rattle.relay_math.specs.F32.{0·0}
@@ -7,7 +7,7 @@ use Rattle.relay_adrc.{specs.{declared.biquad.Biquad.Biquad, Biquad.{filterAt, 
 use Rattle.joint_tick.specs.{declared.state.State.State, Profile.isProfile, SetUp.setUp}
 use Rattle.outcome.specs.{declared.Outcome.{Outcome, the-variants.{Done, BadProfile, PassThrough}}, Outcomes.{isDone, Table, left, leftUnless, Filled}}
 use Rattle.outcome.proofs.Tables.{done-none, never-given, in-turn, either}
-use Rattle.image.{specs.{Layout.{LPF, BIQUAD-WORDS, IMAGE-WORDS, IMAGE-BYTES, SETUP-PROFILE, SETUP-BYTES}, Parts.{biquadAt, lpfAt}, Image.{movingAt, stateAt}, Inputs.setupAt}, proofs.Decoded.decode-encode}
+use Rattle.image.{specs.{Layout.{LPF, BIQUAD-WORDS, IMAGE-WORDS, IMAGE-BYTES, SETUP-PROFILE, SETUP-BYTES}, Parts.{biquadAt, lpfAt}, Image.movingAt, Inputs.setupAt}, proofs.Decoded.decode-encode}
 use Rattle.lent_tick.{specs.{Unbroken.Unbroken, Tick.{tickTable, tickRefusal}}, proofs.Going.set-up-fits}
 use Rattle.calls.specs.Entry.{setUpTable, exchangeTable, setUpRefusal, exchangeRefusal, SetsUp, setUpCall}
 use Rattle.route.specs.{Form.formTable, Entry.routeRefusal}

@@ -1,20 +1,18 @@
 -- What calls keep: ticks of both kinds the clock, which never goes back, and ticks and exchanges the words that they do not write anew. Assumes nothing.
-use Rattle.laws.proofs.Prelude.{_≡_, refl, sym, ap, _∙_, subst, Bool, true, false, not, cond, List, [], _∷_, _++_, map, ℕ, zero, suc, _+_, _<_, add-zero, zero-add, arith, T, eqb, lit<, length, getD, take, drop}
-use Rattle.laws.proofs.Prelude.{Float, binary32, le, isNan, ofBits, toBits, no, not-false}
-use lib.Ieee.Bits.{ofBits-fits, ofBits-toBits}
-use Rattle.words.{specs.Words.{word, float, vec, canon, flag, floatsOfVec, wordsOf, canons}, proofs.Back.{word-back, bits-lt}}
+use Rattle.laws.proofs.Prelude.{_≡_, refl, sym, ap, _∙_, subst, Bool, true, not, cond, List, [], _∷_, _++_, map, ℕ, zero, suc, _+_, _<_, add-zero, zero-add, arith, T, eqb, lit<, length, getD, take}
+use Rattle.laws.proofs.Prelude.{drop, Float, binary32, le, isNan, no, not-false}
+use lib.Ieee.Bits.{ofBits-fits}
+use Rattle.words.{specs.Words.{word, float, canon, wordsOf, canons}, proofs.Back.{word-back, bits-lt}}
 use Rattle.relay_math.proofs.Order.{le-trans, le-refl-of}
 use Rattle.relay_traj.{specs.Governor.advance, proofs.Clock.never-nan}
 use Rattle.relay_adrc.specs.{declared.{gains.AdrcGains.AdrcGains, axis.AdrcAxis.AdrcAxis}, Axis.axisTick, Biquad.{biquadFilter, gyroFilter}}
-use Rattle.joint_tick.specs.declared.{profile.Profile.{Profile, the-variants.{Whole, LostRotor}}, state.{Leg.Leg, State.State, TickInput.TickInput}, stages.Reference.Reference}
-use Rattle.joint_tick.{specs.{Profile.{profileWord, isProfile}, SetUp.{setUp, exchange}, Tick.{prepare, follow, pick, guidePickFollow, ticked, stateAfter}}, proofs.Kept.tick-keeps as gains-kept}
-use Rattle.joint_tick.proofs.LostRotor.{third-stands}
-use Rattle.image.specs.Layout.{IMAGE-BYTES, COUNT, GOVERNOR, PROFILE, IMAGE-WORDS, SETUP-PROFILE}
-use Rattle.image.specs.Parts.{gainsAt, setAt, governorAt, quinticAt, segmentAt, adrcGainsAt, axisAt, rateAt, biquadAt, lpfAt, legAt, profileAt, floatsOfAdrcGains, floatsOfAxis}
-use Rattle.image.{specs.{Image.{fixedAt, movingAt, stateAt, wordsOfState, imageOf, peaksOf}, Inputs.{setupAt, inputAt}}, proofs.{Decoded.{profile-written, decode-encode}, Fitting.peaks-fit}}
+use Rattle.joint_tick.specs.{declared.{profile.Profile.the-variants.LostRotor, state.{Leg.Leg, State.State, TickInput.TickInput}, stages.Reference.Reference}, Profile.isProfile}
+use Rattle.joint_tick.{specs.{SetUp.{setUp, exchange}, Tick.{prepare, follow, pick, guidePickFollow, ticked, stateAfter}}, proofs.{Kept.tick-keeps as gains-kept, LostRotor.third-stands}}
+use Rattle.image.specs.{Layout.{IMAGE-BYTES, COUNT, GOVERNOR, PROFILE, IMAGE-WORDS, SETUP-PROFILE}, Parts.{legAt, profileAt, floatsOfAdrcGains, floatsOfAxis}}
+use Rattle.image.{specs.{Image.{fixedAt, stateAt, wordsOfState, imageOf}, Inputs.{setupAt, inputAt}}, proofs.Decoded.{profile-written, decode-encode}}
 use Rattle.outcome.{specs.Outcomes.{number, isDone, Filled, Called}, proofs.Tables.{done-none, same, either}}
-use Rattle.lent_tick.specs.{Unbroken.{unbroken, Unbroken}, Tick.{tickTable, tickRefusal, tickFrom}}
-use Rattle.lent_tick.proofs.{RowFour.{profile-of-word, own-words}, Going.set-up-fits, Flown.taken-unbroken, Steps.{image-runs, tick-clock}}
+use Rattle.lent_tick.{specs.{Unbroken.{unbroken, Unbroken}, Tick.{tickTable, tickFrom}}, proofs.{RowFour.{profile-of-word, own-words}, Going.set-up-fits, Flown.taken-unbroken}}
+use Rattle.lent_tick.proofs.Steps.{image-runs, tick-clock}
 use Rattle.calls.specs.Entry.{exchangeRefusal, exchangeCall}
 use Rattle.route.specs.{Form.formTable, Entry.routeRefusal}
 use Rattle.runs.specs.Runs.{Course, Segment, Route, Tick, Call, Ticks, Exchanges, tickOf, leftBy, sourceOn, start, imageAfter}
@@ -61,7 +59,6 @@ canons-at b k (suc n) zero h = rw add-zero
 canons-at b k (suc n) (suc i) h =
     let e : k + suc i ≡ suc k + i = omega arith in
     rw e (canons-at b (suc k) n i (omega arith))
-
 
 read-again : (image : List ℕ) → Unbroken image → wordsOfState (stateAt image) ≡ canons image COUNT IMAGE-WORDS
 read-again image a = sym (own-words image a .is)

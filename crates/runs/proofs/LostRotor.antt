@@ -1,5 +1,5 @@
 -- Request Six on bytes: ticks of either kind on an image whose profile's word is 1, and what is refused. Assumes nothing.
-use Rattle.laws.proofs.Prelude.{_≡_, refl, sym, ap, _∙_, Bool, true, false, not, cond, and-false, List, ℕ, _+_, eqb, ne-eqb, Float, ofBits, toBits, length}
+use Rattle.laws.proofs.Prelude.{_≡_, refl, sym, ap, _∙_, Bool, true, false, not, cond, and-false, List, ℕ, _+_, ne-eqb, Float, ofBits, toBits, length}
 use lib.Ieee.Bits.{ofBits-fits}
 use Rattle.words.specs.Words.{word, float, vec, flag, bits}
 use Rattle.relay_math.specs.F32.{0·0}

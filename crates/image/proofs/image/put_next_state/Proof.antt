@@ -1,5 +1,5 @@
 -- Made canonical, the image is its own state's, and read as before. Assumes nothing.
-use Rattle.laws.proofs.Prelude.{needs, _≡_}
+use Rattle.laws.proofs.Prelude.{needs}
 use Rattle.image.proofs.{Moved.made-canonical, image.put_next_state.{Statement.statement, Tie.{Need-put-moved-requires, Need-returns, close, spec}}}
 
 put-moved-requires : Need-put-moved-requires

@@ -1,5 +1,5 @@
 -- A plain word is read as it stands, and any other by `float_of`. Assumes nothing.
-use Rattle.laws.proofs.Prelude.{needs, subst, Bool, true, not, T, binary32}
+use Rattle.laws.proofs.Prelude.{needs, subst, Bool, true, binary32}
 use lib.Ieee.Bits.{nanBits-is}
 use Rattle.words.specs.{Words.float, Inner.Plain}
 use Rattle.words.proofs.read.read_float.{Statement.statement, Tie.{Need-float-from-bits-result, close, spec}}

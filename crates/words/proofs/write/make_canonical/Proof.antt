@@ -1,5 +1,5 @@
 -- `words::write::make_canonical`: plain words stand; else the first k are made after k rounds. Assumes nothing.
-use Rattle.laws.proofs.Prelude.{needs, _≡_, refl, sym, ap, subst, _∙_, Bool, List, ℕ, _-_, _≤_, add-one, arith, length, length-sets}
+use Rattle.laws.proofs.Prelude.{needs, _≡_, refl, ap, subst, _∙_, Bool, List, ℕ, _-_, _≤_, add-one, arith, length, length-sets}
 use native.Mathlib.Nat.{le-antisymm}
 use Rattle.words.specs.{Words.{bytesOf, canons, float, Put}, Inner.Plain}
 use Rattle.words.proofs.{Written.whole, Standing.{all-stand, length-canons, one-more-canonical}, write.make_canonical.Statement.statement}

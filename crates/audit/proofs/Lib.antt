@@ -1,7 +1,7 @@
-pub mod Walk
+pub mod OneTurn
 pub mod Said
 pub mod Carried
-pub mod Call
+pub mod VerdictCall
 pub mod Stepping
-pub mod Figures
+pub mod VerdictFigures
 pub mod OneAnswer

@@ -5,7 +5,7 @@ use mathlib.Core.List.{List, [], _∷_}
 use lib.Ieee.{Float}
 use lib.ListN.{length}
 use Rattle.words.specs.Words.{bytesOf}
-use Rattle.relay_geo.specs.Shield.{mend}
+use Rattle.relay_geo.specs.Shield.{mendThresholds}
 use Rattle.joint_tick.specs.Profile.{isProfile, profileOf}
 use Rattle.outcome.specs.declared.Outcome.the-variants.{InputLength, BrokenLog, BadProfile}
 use Rattle.outcome.specs.Outcomes.{Table, firstOf, differs, leftUnless, Filled}
@@ -16,9 +16,9 @@ use Rattle.audit.specs.Verdict.{verdictFrom, verdictOf, verdictWord}
 
 -- "enter and exit (mended as at set-up)"
 unfoldable pub verdictOn : List ℕ → ℕ → Float → Float → Verdict
-unfolding mend verdictFrom records
+unfolding mendThresholds verdictFrom records
 verdictOn log profile enter exit =
-    let t = mend enter exit in
+    let t = mendThresholds enter exit in
     verdictOf (profileOf profile) (t .enter) (t .exit) (records log)
 
 -- 2 for a verdict's buffer that is no word, as for a count's; "8 as in Two, then 10 for a profile not 0 or 1"

@@ -5,11 +5,11 @@ use Rattle.relay_math.specs.{F32.{f32, 0·0, 0·5, 1·0, 1·75, isFinite, grain
 use Rattle.relay_math.specs.declared.{Vec3.Vec3, BodyRate.BodyRate}
 use Rattle.relay_geo.specs.declared.{attitude.{Attitude.the-variants.Matrix, Feedforward.the-variants.Rate}, vectors.Direction.the-variants.Axis}
 use Rattle.relay_geo.specs.Vectors.{9·81, cross, dot, normalize, identity3, prod3, matmul3, transposedTimes}
-use Rattle.relay_geo.specs.{Attitude.{quatToRotmat, thrustForce, thrustAxisNed, thrustAttitude, bodyRate, flatnessOmegaFf}, Controller.psi, Set.{newSet, margin}, Shield.{mend, newShield}}
-use Rattle.relay_geo.{proofs.Figures.level, specs.declared.shield.SimplexShield.SimplexShield}
+use Rattle.relay_geo.specs.{Attitude.{quatToRotmat, thrustForce, thrustAxisNed, thrustAttitude, bodyRate, flatnessOmegaFf}, Controller.psi, Set.{newSet, margin}, Shield.{mendThresholds, newShield}}
+use Rattle.relay_geo.{proofs.AttitudeFigures.level, specs.declared.shield.SimplexShield.SimplexShield}
 use Rattle.latch.specs.Latch.{latch}
-use Rattle.relay_traj.specs.{Quintic.{quintic, ofMended, eval, sampleAt, timeOn, mend as mend-leg}, Segment.{segment, eval3}, Governor.{advance, gate, gateFactor, clampTo}}
-use Rattle.relay_adrc.specs.Biquad.{filterAt, lowpass, biquadFilter, gyroNew, gyroFilter}
+use Rattle.relay_traj.specs.{Quintic.{quintic, ofMended, eval, sampleAt, timeOn, mendEnds as mend-leg}, Segment.{segment, eval3}, Governor.{advance, gate, gateFactor, clampTo}}
+use Rattle.relay_adrc.specs.Biquad.{lowpassAt, lowpass, biquadFilter, gyroNew, gyroFilter}
 use Rattle.joint_tick.specs.declared.{profile.Profile.the-variants.{Whole, LostRotor}, state.{State.State, TickInput.TickInput}, stages.{Reference.Reference, Guided.Guided}}
 use Rattle.joint_tick.specs.SetUp.{setUp, segmentOf}
 use Rattle.joint_tick.specs.Tick.{prepare, referenceAt, cleaned, commanded, rateError, rateSq, guideWhole, psiToAxis, tiltRateSq, guideLostRotor, guide, guidance, shieldOf, ticked}
@@ -60,7 +60,7 @@ module _ (profile yaw : ℕ) where
   source = referenceAt (s .fixed .segment)
 
   shield-is : shieldOf s ≡ record { set = newSet 1·0 1·0 1·75; engaged = true; enter = 0·5; exit = 1·0 }
-  unfolding setUp setupAt setAt float word newShield mend isFinite lt ofBits
+  unfolding setUp setupAt setAt float word newShield mendThresholds isFinite lt ofBits
   shield-is = refl
 
   no-motion : let w = cleaned (wantedAt source s i) in (w .acc ≡ zeros) × (w .jerk ≡ zeros)
@@ -68,7 +68,7 @@ module _ (profile yaw : ℕ) where
   no-motion = (refl, refl)
 
   no-rate : filtered source s i ≡ record { 0 = zeros }
-  unfolding setUp setupAt inputAt vec float word prepare gyroNew lowpass filterAt gyroFilter biquadFilter sinf cosf sincos cutSquare sinPoly cosPoly toFloat fixed reduceOf turned large isFinite lt le ofBits toBits round add sub mul div neg
+  unfolding setUp setupAt inputAt vec float word prepare gyroNew lowpass lowpassAt gyroFilter biquadFilter sinf cosf sincos cutSquare sinPoly cosPoly toFloat fixed reduceOf turned large isFinite lt le ofBits toBits round add sub mul div neg
   no-rate = refl
 
   level-body : quatToRotmat (i .quat) ≡ identity3

@@ -1,5 +1,5 @@
 pub mod Asked
-pub mod Steps
+pub mod ExchangeSteps
 pub mod Level
 pub mod Shams
 pub mod OneAnswer

@@ -8,7 +8,7 @@ use Rattle.joint_tick.{specs.{declared.{state.State.State, stages.Ticked.Ticked
 use Rattle.outcome.specs.{declared.Outcome.the-variants.Done, Outcomes.{left, Filled, lent, Called}}
 use Rattle.image.specs.{Layout.{COUNT, ENGAGED, SETUP-PROFILE, INPUT-BYTES}, Image.{stateAt, imageOf}, Inputs.{setupAt, inputAt, answerOf}}
 use Rattle.image.proofs.Decoded.{count-written, engaged-written, decode-encode}
-use Rattle.lent_tick.{specs.{Unbroken.Unbroken, Tick.tickFrom}, proofs.{Going.{set-up-fits, set-up-never-refused}, Flown.unbroken-taken}}
+use Rattle.lent_tick.{specs.{Unbroken.Unbroken, Tick.tickFrom}, proofs.{NeverRefused.{set-up-fits, set-up-never-refused}, TickLeaves.unbroken-taken}}
 use Rattle.calls.specs.Entry.{setUpRefusal, SetsUp, onSegment, setUpCall, tickCall}
 use Rattle.calls.specs.Shams.{Program, Keeps, RefusesSetUps, RefusesTicks, LeavesSetUp, LeavesTicked, blankAnswer, blankImage, levelSetUp, levelInput}
 use Rattle.calls.proofs.Level.{planner-first}

@@ -1,7 +1,7 @@
-pub mod Flown
+pub mod DeskTickLeaves
 pub mod Read
-pub mod Calls
+pub mod DeskCalls
 pub mod Held
-pub mod Written
+pub mod HeadingWritten
 pub mod Within
 pub mod OneAnswer

@@ -1,11 +1,11 @@
 -- A desk that was written is read again: what the filters make of f32 values are f32 values. Assumes nothing.
 use Rattle.laws.proofs.Prelude.{_≡_, refl, List, ℕ, _+_, Float, length, take, drop}
 use lib.Ieee.{Fits.{cond-fits, neg-fits, add-fits}, Bits.ofBits-fits}
-use Rattle.words.{specs.Words.{wordsOf, AllFit, Holds}, proofs.{Back.{first-back, floats-back, float-fits}, Written.length-bytesOf}}
+use Rattle.words.{specs.Words.{wordsOf, AllFit, Holds}, proofs.{WordsBack.{first-back, floats-back, float-fits}, Written.length-bytesOf}}
 use Rattle.relay_math.specs.declared.Vec3.{Vec3}
 use Rattle.relay_adrc.specs.{declared.filter.CommandFilter.CommandFilter, Filter.{clampSym, filterStep, filterReset}}
 use Rattle.image.specs.Fits.{F32}
-use Rattle.desk.specs.{declared.filters.Desk.Desk, Filters.{FILTER-WORDS, DESK-BYTES, filterAt, deskAt, floatsOfFilter, floatsOfDesk, deskOf, newAt, deskSetUp, deskStep, deskCentre}}
+use Rattle.desk.specs.{declared.filters.Desk.Desk, Filters.{FILTER-WORDS, DESK-BYTES, stickFilterAt, deskAt, floatsOfFilter, floatsOfDesk, deskOf, newAt, deskSetUp, deskStep, deskCentre}}
 
 abbrev pub FitsFilter : CommandFilter → Type 0
 FitsFilter f = AllFit (floatsOfFilter f)
@@ -30,8 +30,8 @@ step-fits f u dt h = search (fitting, clamped-fits)
 reset-fits : (f : CommandFilter) → FitsFilter f → FitsFilter (filterReset f)
 reset-fits f h = search fitting
 
-filter-fits : (b : List ℕ) (k : ℕ) → FitsFilter (filterAt b k)
-unfolding filterAt
+filter-fits : (b : List ℕ) (k : ℕ) → FitsFilter (stickFilterAt b k)
+unfolding stickFilterAt
 filter-fits b k = search float-fits
 
 -- ---- of every desk that is made
@@ -58,8 +58,8 @@ desk-is : (d : Desk) → Holds (deskOf d) (wordsOf (floatsOfDesk d))
 unfolding deskOf
 desk-is d = record { is = refl }
 
-filter-back : {b ws : List ℕ} → Holds b ws → (k : ℕ) (f : CommandFilter) → take FILTER-WORDS (drop k ws) ≡ wordsOf (floatsOfFilter f) → FitsFilter f → filterAt b k ≡ f
-unfolding filterAt
+filter-back : {b ws : List ℕ} → Holds b ws → (k : ℕ) (f : CommandFilter) → take FILTER-WORDS (drop k ws) ≡ wordsOf (floatsOfFilter f) → FitsFilter f → stickFilterAt b k ≡ f
+unfolding stickFilterAt
 filter-back e k f held h =
     let at = floats-back e k (floatsOfFilter f) held h in
     simp (first-back e k (floatsOfFilter f) held h tt, at 1 tt, at 2 tt, at 3 tt, at 4 tt)

@@ -4,11 +4,11 @@ use Rattle.words.specs.Words.{float}
 use Rattle.image.specs.Layout.{YAW, YAW-RATE, DT}
 use Rattle.outcome.specs.Outcomes.{Left}
 use Rattle.relay_math.specs.F32.{Within}
-use Rattle.relay_adrc.{specs.{declared.filter.CommandFilter.CommandFilter, Filter.{Step, filterNew, after, run}}, proofs.Limits.{Limit, limits-kept, value-within, fresh-within}}
+use Rattle.relay_adrc.{specs.{declared.filter.CommandFilter.CommandFilter, Filter.{Step, filterNew, afterEvent, afterEvents}}, proofs.FilterLimits.{Limit, limits-kept, value-within, fresh-within}}
 use Rattle.calls.proofs.Flown.{sized}
 use Rattle.desk.specs.{declared.entry.DeskOutcome.DeskOutcome, Filters.deskAt, Entry.{deskDone, LentToDesk, moved, tickRefusalAt, deskTickCall}}
 use Rattle.desk.specs.Runs.{Stick, Heading, Turn, place, filterOf, omegaGiven, magLimit, rateLimit, DeskTick, DeskCall, deskAfter, deskStart, eventsAlong}
-use Rattle.desk.proofs.{Calls.{either, done-asked}, Held.{stick-runs, start-length, fresh, stepped-by}, Written.flown-heading}
+use Rattle.desk.proofs.{DeskCalls.{either, done-asked}, Held.{stick-runs, start-length, fresh, stepped-by}, HeadingWritten.flown-heading}
 
 module _ (s : Stick) (setup : List ℕ) (calls : List DeskCall) where
   abbrev filter : CommandFilter
@@ -17,8 +17,8 @@ module _ (s : Stick) (setup : List ℕ) (calls : List DeskCall) where
   abbrev given : CommandFilter
   given = filterNew (omegaGiven s setup) (magLimit s setup) (rateLimit s setup)
 
-  ran : filter ≡ run given (eventsAlong s calls)
-  ran = stick-runs s (deskStart setup) calls (start-length setup) ∙ ap (λ (f : CommandFilter). run f (eventsAlong s calls)) (fresh s setup)
+  ran : filter ≡ afterEvents given (eventsAlong s calls)
+  ran = stick-runs s (deskStart setup) calls (start-length setup) ∙ ap (λ (f : CommandFilter). afterEvents f (eventsAlong s calls)) (fresh s setup)
 
   -- the limits that a stick is held to are set-up's words, after any calls
   pub limits-stay : (filter .«max_mag» ≡ magLimit s setup) × (filter .«max_rate» ≡ rateLimit s setup)
@@ -36,7 +36,7 @@ module _ (s : Stick) (setup : List ℕ) (calls : List DeskCall) where
   stepped sticks input =
       let e = Step (float sticks (place s)) (float input DT) in
       rw (stepped-by s (deskAt (deskAfter (deskStart setup) calls)) sticks (float input DT))
-      (subst (λ (m : Float). Limit m → Within (neg m) m (after filter e .y)) (limits-stay .0) (value-within filter e))
+      (subst (λ (m : Float). Limit m → Within (neg m) m (afterEvent filter e .y)) (limits-stay .0) (value-within filter e))
 
 -- What an accepted tick leaves in the input, after any calls: the heading within the first stick's limit of set-up, its rate within the second's.
 pub flown-within : (setup : List ℕ) (calls : List DeskCall) (t : DeskTick)

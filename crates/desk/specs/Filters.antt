@@ -27,8 +27,8 @@ STICKS-BYTES = 4 * 3
 
 -- ---- read; every bit pattern is taken
 
-unfoldable pub filterAt : List ℕ → ℕ → CommandFilter
-filterAt b k =
+unfoldable pub stickFilterAt : List ℕ → ℕ → CommandFilter
+stickFilterAt b k =
     record {
       «omega_n» = float b k;
       «max_mag» = float b (k + 1);
@@ -38,8 +38,8 @@ filterAt b k =
     }
 
 unfoldable pub deskAt : List ℕ → Desk
-unfolding filterAt
-deskAt b = record { heading = filterAt b 0; turn = filterAt b FILTER-WORDS; zoom = filterAt b (FILTER-WORDS + FILTER-WORDS) }
+unfolding stickFilterAt
+deskAt b = record { heading = stickFilterAt b 0; turn = stickFilterAt b FILTER-WORDS; zoom = stickFilterAt b (FILTER-WORDS + FILTER-WORDS) }
 
 -- ---- written
 

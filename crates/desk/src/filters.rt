@@ -8,7 +8,7 @@ ghost use mathlib.Core.Path.{_≡_};
 ghost use Prim.Native.Nat.{_+_, _*_, _≤_};
 ghost use lib.ListN.{length};
 ghost use Rattle.words.specs.Words.{wordsOf, Put};
-ghost use Rattle.desk.specs.Filters.{DESK-BYTES, DESK-SETUP-BYTES, filterAt, newAt, deskAt, deskSetUp, deskStep, deskCentre, floatsOfFilter, deskOf};
+ghost use Rattle.desk.specs.Filters.{DESK-BYTES, DESK-SETUP-BYTES, stickFilterAt, newAt, deskAt, deskSetUp, deskStep, deskCentre, floatsOfFilter, deskOf};
 
 pub const DESK_BYTES: usize = 60;
 
@@ -29,7 +29,7 @@ pub struct Desk {
 
 fn filter_at(bytes: &[u8], k: usize) -> CommandFilter
     requires { ⌜ 4 * k + 20 ≤ length (now bytes) ⌝ }
-    ensures { λ r. ⌜ r ≡ filterAt (now (bytes .entry)) k ⌝ }
+    ensures { λ r. ⌜ r ≡ stickFilterAt (now (bytes .entry)) k ⌝ }
 {
     CommandFilter {
         omega_n: float_at(bytes, k),

@@ -1,5 +1,5 @@
 pub mod Seen
-pub mod DemandThree
-pub mod Kept
+pub mod DemandThreeByDesk
+pub mod LogKeeps
 pub mod Logged
 pub mod Eleven

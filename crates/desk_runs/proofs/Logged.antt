@@ -8,11 +8,11 @@ use Rattle.log.specs.{Form.isLog, Records.records, Runs.recordsOf}
 use Rattle.runs.specs.Runs.{Call, flying, leftBy, start, Ticks as CoreTicks}
 use Rattle.audit.specs.Entry.{checkCall}
 use Rattle.own.{specs.Own.{keepsOf, keepsAlong, ticksKept}, proofs.Own.{next-kept, any-log-accepted}}
-use Rattle.desk.{specs.Entry.{deskDone, LentToDesk}, proofs.Calls.{is-core-tick, refused-changes-nothing}}
-use Rattle.desk_runs.specs.Runs.{Held, held, Given, AnyCall, ByDesk, Button, OnCore, deskTick, heldBy, flownTick, coreCalls, coreAlong, recordsBy, recordsAlong}
+use Rattle.desk.{specs.Entry.{deskDone, LentToDesk}, proofs.DeskCalls.{is-core-tick, refused-changes-nothing}}
+use Rattle.desk_runs.specs.Runs.{DeskAndImage, deskAndImage, DeskGiven, AnyCall, ByDesk, Button, OnCore, deskTick, heldBy, flownTick, coreCalls, coreAlong, recordsBy, recordsAlong}
 
 -- an accepted desk tick is logged as the core's tick of the input that it left, which leaves the same image
-kept : (h : Held) (g : Given) → deskDone (deskTick h g .outcome) ≡ true
+kept : (h : DeskAndImage) (g : DeskGiven) → deskDone (deskTick h g .outcome) ≡ true
     → (recordsOf (keepsOf (h .image) (CoreTicks (flownTick h g))) ≡ (deskTick h g .later .input ++ deskTick h g .later .answer) ∷ [])
     × (leftBy (h .image) (CoreTicks (flownTick h g)) ≡ deskTick h g .later .image)
 unfolding keepsOf recordsOf leftBy flying
@@ -21,7 +21,7 @@ kept h g e =
     (rw s, ap (λ (c : Called). c .later .image) s)
 
 -- the records are those of the run that the core sees
-records-are : (h : Held) (calls : List AnyCall) → recordsAlong h calls ≡ ticksKept (h .image) (coreAlong h calls)
+records-are : (h : DeskAndImage) (calls : List AnyCall) → recordsAlong h calls ≡ ticksKept (h .image) (coreAlong h calls)
 unfolding coreAlong coreCalls keepsAlong recordsOf recordsAlong recordsBy heldBy
 records-are h [] = refl
 records-are h (Button ∷ calls) = records-are (heldBy h Button) calls
@@ -32,8 +32,8 @@ records-are h (ByDesk g ∷ calls) = go (deskDone (deskTick h g .outcome)) refl 
     later : LentToDesk
     later = deskTick h g .later
 
-    after : Held
-    after = held (later .desk) (later .image)
+    after : DeskAndImage
+    after = deskAndImage (later .desk) (later .image)
 
     rest : List Call
     rest = coreAlong after calls
@@ -50,8 +50,8 @@ records-are h (ByDesk g ∷ calls) = go (deskDone (deskTick h g .outcome)) refl 
 
 -- Request Ten's completeness for the desk: any bytes whose records are those of a run of desk ticks, the button and calls on the core alone, from any desk.
 pub desk-log-accepted : (desk setup : List ℕ) (calls : List AnyCall) → isProfile (word setup SETUP-PROFILE) ≡ true
-    → (log : List ℕ) → isLog log ≡ true → records log ≡ recordsAlong (held desk (start setup)) calls → (into : List ℕ) → length into ≡ 4
+    → (log : List ℕ) → isLog log ≡ true → records log ≡ recordsAlong (deskAndImage desk (start setup)) calls → (into : List ℕ) → length into ≡ 4
     → checkCall log (word setup SETUP-PROFILE) (float setup SETUP-ENTER) (float setup SETUP-EXIT) into ≡ left Done (bytesOf (0xffff_ffff ∷ []))
 desk-log-accepted desk setup calls p log l e =
-    let h = held desk (start setup) in
+    let h = deskAndImage desk (start setup) in
     any-log-accepted setup p log (coreAlong h calls) (e ∙ records-are h calls) l

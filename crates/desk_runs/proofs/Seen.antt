@@ -3,14 +3,14 @@ use Rattle.laws.proofs.Prelude.{_≡_, refl, sym, ap, _∙_, Bool, true, false,
 use Rattle.outcome.specs.Outcomes.{Called}
 use Rattle.runs.specs.Runs.{Call, flying, leftBy, imageAfter, Ticks as CoreTicks}
 use Rattle.relay_math.specs.F32.{Within as Between}
-use Rattle.relay_adrc.proofs.Limits.{Limit, Held as Within}
+use Rattle.relay_adrc.proofs.FilterLimits.{Limit, Held as Within}
 use Rattle.desk.specs.{Entry.{deskDone, LentToDesk}, Filters.{DESK-BYTES, deskAt}, Runs.{Stick, filterOf, magLimit, rateLimit, DeskCall, deskBy, deskAfter, deskStart}}
-use Rattle.desk.proofs.{Calls.{refused-changes-nothing, is-core-tick}, Held.{size-kept, sticks-held}, Within.sticks-within}
-use Rattle.desk_runs.specs.Runs.{Held, held, AnyCall, ByDesk, Button, OnCore, deskTick, heldBy, heldAfter, flownTick, coreCalls, coreAlong, deskCalls, deskAlong}
+use Rattle.desk.proofs.{DeskCalls.{refused-changes-nothing, is-core-tick}, Held.{size-kept, sticks-held}, Within.sticks-within}
+use Rattle.desk_runs.specs.Runs.{DeskAndImage, deskAndImage, AnyCall, ByDesk, Button, OnCore, deskTick, heldBy, heldAfter, flownTick, coreCalls, coreAlong, deskCalls, deskAlong}
 
 -- ---- the core
 
-image-by : (h : Held) (c : AnyCall) → heldBy h c .image ≡ imageAfter (h .image) (coreCalls h c)
+image-by : (h : DeskAndImage) (c : AnyCall) → heldBy h c .image ≡ imageAfter (h .image) (coreCalls h c)
 unfolding heldBy coreCalls imageAfter leftBy flying
 image-by h (OnCore c) = refl
 image-by h Button = refl
@@ -25,7 +25,7 @@ unfolding imageAfter
 after-append image [] b = refl
 after-append image (c ∷ a) b = after-append (leftBy image c) a b
 
-pub core-sees : (h : Held) (calls : List AnyCall) → heldAfter h calls .image ≡ imageAfter (h .image) (coreAlong h calls)
+pub core-sees : (h : DeskAndImage) (calls : List AnyCall) → heldAfter h calls .image ≡ imageAfter (h .image) (coreAlong h calls)
 unfolding heldAfter coreAlong imageAfter
 core-sees h [] = refl
 core-sees h (c ∷ calls) =
@@ -35,7 +35,7 @@ core-sees h (c ∷ calls) =
 
 -- ---- the desk
 
-desk-by : (h : Held) (c : AnyCall) → heldBy h c .desk ≡ deskAfter (h .desk) (deskCalls h c)
+desk-by : (h : DeskAndImage) (c : AnyCall) → heldBy h c .desk ≡ deskAfter (h .desk) (deskCalls h c)
 unfolding heldBy deskCalls deskAfter deskBy
 desk-by h (OnCore c) = refl
 desk-by h Button = refl
@@ -46,7 +46,7 @@ unfolding deskAfter
 desk-append desk [] b = refl
 desk-append desk (c ∷ a) b = desk-append (deskBy desk c) a b
 
-pub desk-sees : (h : Held) (calls : List AnyCall) → heldAfter h calls .desk ≡ deskAfter (h .desk) (deskAlong h calls)
+pub desk-sees : (h : DeskAndImage) (calls : List AnyCall) → heldAfter h calls .desk ≡ deskAfter (h .desk) (deskAlong h calls)
 unfolding heldAfter deskAlong deskAfter
 desk-sees h [] = refl
 desk-sees h (c ∷ calls) =
@@ -54,16 +54,16 @@ desk-sees h (c ∷ calls) =
     ∙ ap (λ (desk : List ℕ). deskAfter desk (deskAlong (heldBy h c) calls)) (desk-by h c)
     ∙ desk-append (h .desk) (deskCalls h c) (deskAlong (heldBy h c) calls)
 
-pub desk-size : (h : Held) (calls : List AnyCall) → length (h .desk) ≡ DESK-BYTES → length (heldAfter h calls .desk) ≡ DESK-BYTES
+pub desk-size : (h : DeskAndImage) (calls : List AnyCall) → length (h .desk) ≡ DESK-BYTES → length (heldAfter h calls .desk) ≡ DESK-BYTES
 desk-size h calls p = ap length (desk-sees h calls) ∙ size-kept (h .desk) (deskAlong h calls) p
 
 -- so the sticks' limits hold over these runs too
 pub sticks-held-along : (s : Stick) (setup image : List ℕ) (calls : List AnyCall) → Limit (magLimit s setup) → Limit (rateLimit s setup)
-    → Within (filterOf s (deskAt (heldAfter (held (deskStart setup) image) calls .desk)))
-sticks-held-along s setup image calls m r = rw (desk-sees (held (deskStart setup) image) calls) (sticks-held s setup (deskAlong (held (deskStart setup) image) calls) m r)
+    → Within (filterOf s (deskAt (heldAfter (deskAndImage (deskStart setup) image) calls .desk)))
+sticks-held-along s setup image calls m r = rw (desk-sees (deskAndImage (deskStart setup) image) calls) (sticks-held s setup (deskAlong (deskAndImage (deskStart setup) image) calls) m r)
 
 -- and by the limits that the desk's set-up was given, each number by its own
 pub sticks-within-along : (s : Stick) (setup image : List ℕ) (calls : List AnyCall)
-    → let f = filterOf s (deskAt (heldAfter (held (deskStart setup) image) calls .desk)) in
+    → let f = filterOf s (deskAt (heldAfter (deskAndImage (deskStart setup) image) calls .desk)) in
     (Limit (magLimit s setup) → Between (neg (magLimit s setup)) (magLimit s setup) (f .y)) × (Limit (rateLimit s setup) → Between (neg (rateLimit s setup)) (rateLimit s setup) (f .yd))
-sticks-within-along s setup image calls = rw (desk-sees (held (deskStart setup) image) calls) (sticks-within s setup (deskAlong (held (deskStart setup) image) calls))
+sticks-within-along s setup image calls = rw (desk-sees (deskAndImage (deskStart setup) image) calls) (sticks-within s setup (deskAlong (deskAndImage (deskStart setup) image) calls))

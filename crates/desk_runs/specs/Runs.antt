@@ -11,73 +11,73 @@ use Rattle.desk.specs.declared.entry.DeskOutcome.{DeskOutcome}
 use Rattle.desk.specs.Entry.{deskDone, centreCall, LentToDesk, deskTickCall}
 use Rattle.desk.specs.Runs.{DeskCall, Ticks, Centres}
 
-pub record Held : Type 0 where
+pub record DeskAndImage : Type 0 where
   pub desk : List ℕ
   pub image : List ℕ
 
-abbrev pub held : List ℕ → List ℕ → Held
-held desk image = record { desk = desk; image = image }
+abbrev pub deskAndImage : List ℕ → List ℕ → DeskAndImage
+deskAndImage desk image = record { desk = desk; image = image }
 
 -- what a desk tick is given beside them: any bytes of any length
-pub record Given : Type 0 where
+pub record DeskGiven : Type 0 where
   pub sticks : List ℕ
   pub input : List ℕ
   pub answer : List ℕ
 
-abbrev pub deskTick : Held → Given → Left DeskOutcome LentToDesk
+abbrev pub deskTick : DeskAndImage → DeskGiven → Left DeskOutcome LentToDesk
 deskTick h g = deskTickCall (h .desk) (g .sticks) (h .image) (g .input) (g .answer)
 
 -- A call: a desk tick, the centre button, or one on the core alone, of any kind that crate `runs` has.
 pub data AnyCall : Type 0 where
-  ByDesk : Given → AnyCall
+  ByDesk : DeskGiven → AnyCall
   Button : AnyCall
   OnCore : Call → AnyCall
 
-unfoldable pub heldBy : Held → AnyCall → Held
-heldBy h (ByDesk g) = let l = deskTick h g .later in held (l .desk) (l .image)
-heldBy h Button = held (centreCall (h .desk) .later) (h .image)
-heldBy h (OnCore c) = held (h .desk) (leftBy (h .image) c)
+unfoldable pub heldBy : DeskAndImage → AnyCall → DeskAndImage
+heldBy h (ByDesk g) = let l = deskTick h g .later in deskAndImage (l .desk) (l .image)
+heldBy h Button = deskAndImage (centreCall (h .desk) .later) (h .image)
+heldBy h (OnCore c) = deskAndImage (h .desk) (leftBy (h .image) c)
 
-unfoldable pub heldAfter : Held → List AnyCall → Held
+unfoldable pub heldAfter : DeskAndImage → List AnyCall → DeskAndImage
 unfolding heldBy
 heldAfter h [] = h
 heldAfter h (c ∷ calls) = heldAfter (heldBy h c) calls
 
 -- ---- what the core sees: an accepted desk tick is a tick on the image's segment, of the input as the desk left it
 
-abbrev pub flownTick : Held → Given → Tick
+abbrev pub flownTick : DeskAndImage → DeskGiven → Tick
 flownTick h g = record { course = Segment; input = deskTick h g .later .input; answer = g .answer }
 
-unfoldable pub coreCalls : Held → AnyCall → List Call
+unfoldable pub coreCalls : DeskAndImage → AnyCall → List Call
 coreCalls h (ByDesk g) = cond (deskDone (deskTick h g .outcome)) (CoreTicks (flownTick h g) ∷ []) []
 coreCalls h Button = []
 coreCalls h (OnCore c) = c ∷ []
 
-unfoldable pub coreAlong : Held → List AnyCall → List Call
+unfoldable pub coreAlong : DeskAndImage → List AnyCall → List Call
 unfolding heldBy coreCalls
 coreAlong h [] = []
 coreAlong h (c ∷ calls) = coreCalls h c ++ coreAlong (heldBy h c) calls
 
 -- ---- what the desk sees
 
-unfoldable pub deskCalls : Held → AnyCall → List DeskCall
+unfoldable pub deskCalls : DeskAndImage → AnyCall → List DeskCall
 deskCalls h (ByDesk g) = Ticks record { sticks = g .sticks; image = h .image; input = g .input; answer = g .answer } ∷ []
 deskCalls h Button = Centres ∷ []
 deskCalls h (OnCore c) = []
 
-unfoldable pub deskAlong : Held → List AnyCall → List DeskCall
+unfoldable pub deskAlong : DeskAndImage → List AnyCall → List DeskCall
 unfolding heldBy deskCalls
 deskAlong h [] = []
 deskAlong h (c ∷ calls) = deskCalls h c ++ deskAlong (heldBy h c) calls
 
 -- ---- "so that a log keeps what was flown": the records that a log of every accepted tick has, of a desk tick the input as the desk left it
 
-unfoldable pub recordsBy : Held → AnyCall → List (List ℕ)
+unfoldable pub recordsBy : DeskAndImage → AnyCall → List (List ℕ)
 recordsBy h (ByDesk g) = let l = deskTick h g in cond (deskDone (l .outcome)) ((l .later .input ++ l .later .answer) ∷ []) []
 recordsBy h Button = []
 recordsBy h (OnCore c) = recordsOf (keepsOf (h .image) c)
 
-unfoldable pub recordsAlong : Held → List AnyCall → List (List ℕ)
+unfoldable pub recordsAlong : DeskAndImage → List AnyCall → List (List ℕ)
 unfolding heldBy recordsBy
 recordsAlong h [] = []
 recordsAlong h (c ∷ calls) = recordsBy h c ++ recordsAlong (heldBy h c) calls

@@ -1,14 +1,14 @@
 -- Margin, command and torque of a tick are f32 values, so that their words are read again. Assumes nothing.
 use Rattle.laws.proofs.Prelude.{Bool, true, false, cond, List, ℕ, Float}
 use lib.Ieee.Fits.{inf-fits}
-use Rattle.words.{specs.Words.vec, proofs.Back.float-fits}
+use Rattle.words.{specs.Words.vec, proofs.WordsBack.float-fits}
 use Rattle.relay_math.specs.declared.{Vec3.Vec3, BodyRate.BodyRate}
 use Rattle.relay_geo.specs.declared.{vectors.{Mat3.Mat3, Direction.Direction}, attitude.{Attitude.{Attitude, the-variants.{Matrix, Refused}}, Feedforward.Feedforward}, controller.GeoGains.GeoGains}
 use Rattle.relay_geo.specs.{declared.set.RecoverableSet.RecoverableSet, Vectors.sanitise3, Attitude.{quatToRotmat, thrustAxisNed, thrustAttitude, flatnessOmegaFf}, Set.margin}
 use Rattle.relay_geo.specs.Controller.{rateToward, desiredRate}
 use Rattle.relay_adrc.specs.{declared.{axis.AdrcAxis.AdrcAxis, rate.AdrcRate.AdrcRate}, Axis.axisTick}
 use Rattle.joint_tick.specs.declared.{profile.Profile.{Profile, the-variants.{Whole, LostRotor}}, state.{State.State, TickInput.TickInput}, stages.Reference.Reference}
-use Rattle.joint_tick.specs.Tick.{plannerOf, cleaned, desired, ahead, plus, rateError, rateSq, marginOf, guideWhole, rateTowardAxis, tiltRateSq, marginToAxis, guideLostRotor, guide, guidance, follow}
+use Rattle.joint_tick.specs.Tick.{plannerOf, cleaned, desiredR, feedforward, withFeedforward, rateError, rateSq, marginOf, guideWhole, rateTowardAxis, tiltRateSq, marginToAxis, guideLostRotor, guide, guidance, follow}
 use Rattle.joint_tick.{specs.Tick.ticked, proofs.Shielding.{filtered, wantedAt, tick-command, tick-torque}}
 use Rattle.image.specs.{Inputs.inputAt, Fits.{F32, FitsVec}}
 use Rattle.image.proofs.Fitting.{fitting}
@@ -33,7 +33,7 @@ rate-toward-fits : (g : GeoGains) (r : Mat3) (a : Attitude) → FitsVec (rateTow
 rate-toward-fits g r (Matrix rd) = search fitting
 rate-toward-fits g r Refused = search fitting
 
-plus-fits : (w : BodyRate) (f : Feedforward) → FitsVec (w .0) → FitsVec (plus w f .0)
+plus-fits : (w : BodyRate) (f : Feedforward) → FitsVec (w .0) → FitsVec (withFeedforward w f .0)
 plus-fits w (rate.Rate f) h = search fitting
 plus-fits w rate.Refused h = h
 
@@ -49,8 +49,8 @@ module _ (gains : GeoGains) (set : RecoverableSet) (w : BodyRate) (wanted : Refe
   unfolding guide guideWhole guideLostRotor
   guide-margin-fits Whole =
       let r = quatToRotmat (i .quat) in
-      let rd = desired wanted i in
-      margin-of-fits set r rd (rateSq (rateError w r (ahead wanted i) rd))
+      let rd = desiredR wanted i in
+      margin-of-fits set r rd (rateSq (rateError w r (feedforward wanted i) rd))
   guide-margin-fits LostRotor = margin-to-axis-fits set (quatToRotmat (i .quat)) (thrustAxisNed (cleaned wanted .acc)) (tiltRateSq w)
 
   guide-fallback-fits : (p : Profile) → FitsVec (guide p gains set w wanted i .fallback .0)

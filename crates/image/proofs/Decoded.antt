@@ -1,7 +1,7 @@
 -- The state image holds the state: what is written is read again, and what is read is written again in canonical words. Assumes nothing.
 use Rattle.laws.proofs.Prelude.{_≡_, refl, sym, ap, _∙_, List, _∷_, _++_, ℕ, _+_, _-_, _<_, add-assoc, eqb, lit<, length, getD, take, drop, Float}
 use Rattle.words.specs.Words.{word, float, vec, floatsOfVec, bits, flag, wordsOf, bytesOf, Holds, canons}
-use Rattle.words.proofs.{Back.{word-back, bits-back, float-back, floats-back, first-back, float-fits, flag-back, flag-lt}, Written.length-bytesOf}
+use Rattle.words.proofs.{WordsBack.{word-back, bits-back, float-back, floats-back, first-back, float-fits, flag-back, flag-lt}, Written.length-bytesOf}
 use Rattle.relay_math.specs.declared.Vec3.{Vec3}
 use Rattle.relay_geo.specs.declared.{controller.GeoGains.GeoGains, set.RecoverableSet.RecoverableSet}
 use Rattle.relay_traj.specs.{declared.{governor.RefGovernor.RefGovernor, quintic.Quintic.Quintic}, Segment.peakAbsJerk3}
@@ -10,7 +10,7 @@ use Rattle.joint_tick.specs.{declared.{profile.Profile.{Profile, the-variants.{
 use Rattle.image.specs.Layout.{QUINTIC-WORDS, AXIS-WORDS, BIQUAD-WORDS, COUNT, GAINS, SET, ENTER, EXIT, ENGAGED, GOVERNOR, SEGMENT, RATE, LPF, PROFILE, PEAKS, IMAGE-WORDS, IMAGE-BYTES}
 use Rattle.image.specs.Parts.{gainsAt, setAt, governorAt, quinticAt, segmentAt, adrcGainsAt, axisAt, rateAt, biquadAt, lpfAt, profileAt, floatsOfGains, floatsOfSet, floatsOfGovernor}
 use Rattle.image.specs.{Parts.{floatsOfQuintic, floatsOfAxis, floatsOfBiquad}, Image.{fixedAt, movingAt, stateAt, wordsOfState, imageOf, peaksOf, canonicalImage}}
-use Rattle.image.specs.Fits.{F32, FitsGains, FitsSet, FitsGovernor, FitsQuintic, FitsSegment, FitsAxis, FitsRate, FitsBiquad, FitsLpf, Fits}
+use Rattle.image.specs.Fits.{F32, FitsGains, FitsSet, FitsGovernor, FitsQuintic, FitsSegment, FitsAxis, FitsRate, FitsBiquad, FitsLpf, StateFits}
 use Rattle.image.proofs.Fitting.{peaks-fit}
 
 -- ---- each part, at any place: words that hold it are read as it
@@ -123,7 +123,7 @@ peaks-written s =
     (at PEAKS (peaks s .0) refl (f .0), at (PEAKS + 1) (peaks s .1) refl (f .1 .0), at (PEAKS + 2) (peaks s .2) refl (f .1 .1 .0))
 
 -- what is written is read again
-pub decode-encode : (s : State) → Fits s → stateAt (imageOf s) ≡ s
+pub decode-encode : (s : State) → StateFits s → stateAt (imageOf s) ≡ s
 unfolding fixedAt movingAt profileAt
 decode-encode s f =
     simp (
@@ -154,7 +154,7 @@ encode-decode b = image-is (stateAt b) .is ∙ ap bytesOf (same-words b)
 
 -- ---- what is read fits
 
-pub state-fits : (b : List ℕ) → Fits (stateAt b)
+pub state-fits : (b : List ℕ) → StateFits (stateAt b)
 unfolding fixedAt movingAt gainsAt vec setAt governorAt segmentAt quinticAt rateAt axisAt adrcGainsAt lpfAt biquadAt
 state-fits b =
     record {

@@ -6,7 +6,7 @@ use Rattle.relay_geo.specs.{declared.set.RecoverableSet.RecoverableSet, Shield.
 use Rattle.relay_traj.specs.{declared.{governor.RefGovernor.RefGovernor, quintic.Quintic.Quintic, segment.Segment3.Segment3}, Governor.{governor, advance}, Quintic.{quintic, peakAbsJerk}}
 use Rattle.relay_traj.specs.Segment.{segment, peakAbsJerk3}
 use Rattle.relay_adrc.specs.declared.{gains.AdrcGains.AdrcGains, axis.AdrcAxis.AdrcAxis, rate.AdrcRate.AdrcRate, biquad.{Biquad.Biquad, GyroLpf.GyroLpf}}
-use Rattle.relay_adrc.specs.{Axis.{axisNew, axisTick, axisSetDeliveredFraction}, Rate.rateNew, Biquad.{passesThrough, passthrough, filterAt, lowpass, biquadFilter, gyroNew, gyroFilter}}
+use Rattle.relay_adrc.specs.{Axis.{axisNew, axisTick, axisSetDeliveredFraction}, Rate.rateNew, Biquad.{passesThrough, passthrough, lowpassAt, lowpass, biquadFilter, gyroNew, gyroFilter}}
 use Rattle.joint_tick.specs.{declared.profile.Profile.{Profile, the-variants.{Whole, LostRotor}}, Tick.{fractionThird, fractions, tickThird, follow}}
 use Rattle.image.specs.Fits.{F32, FitsVec, FitsGovernor, FitsQuintic, FitsSegment, FitsAdrcGains, FitsAxis, FitsRate, FitsBiquad, FitsLpf}
 
@@ -83,8 +83,8 @@ rate-tick-fits p r m d dt f =
 
 -- ---- the filter
 
-lowpass-at-fits : (w : Float) → FitsBiquad (filterAt w)
-unfolding filterAt
+lowpass-at-fits : (w : Float) → FitsBiquad (lowpassAt w)
+unfolding lowpassAt
 lowpass-at-fits w = search fitting
 
 either-fits : (b : Bool) (p q : Biquad) → FitsBiquad p → FitsBiquad q → FitsBiquad (cond b p q)

@@ -1,5 +1,5 @@
 pub mod Decoded
-pub mod Answered
+pub mod AnswerWords
 pub mod Fitting
 pub mod AnswerFits
 pub mod Moved

@@ -3,7 +3,7 @@ use Rattle.laws.proofs.Prelude.{_≡_, sym, ap, subst, _∙_, List, [], _∷_, 
 use Rattle.words.{specs.Words.{bits, flag, wordsOf, bytesOf, Put, Holds, canons}, proofs.Standing.put-holds}
 use Rattle.joint_tick.specs.declared.state.{Moving.Moving, State.State}
 use Rattle.image.specs.{Layout.{AXIS-WORDS, BIQUAD-WORDS, ENGAGED, GOVERNOR, RATE, LPF, IMAGE-WORDS, IMAGE-BYTES}, Image.{fixedAt, movingAt, stateAt, wordsOfState, imageOf}}
-use Rattle.image.specs.Inner.{OwnWords, movedOfAxis, movedOfBiquad, over, Unmoved}
+use Rattle.image.specs.Inner.{OwnWords, movedOfAxis, movedOfBiquad, overMoving, Unmoved}
 use Rattle.image.proofs.Decoded.{image-is, image-length, decode-encode, state-fits}
 
 -- ---- an image made canonical is the image of its own state
@@ -32,4 +32,4 @@ moved {b} e {m} u engaged time roll pitch yaw x y z =
     let clock = put-holds (put-holds stood engaged (lit≤ tt)) time (lit≤ tt) in
     let axes = put-holds (put-holds (put-holds clock roll (lit≤ tt)) pitch (lit≤ tt)) yaw (lit≤ tt) in
     let all = put-holds (put-holds (put-holds axes x (lit≤ tt)) y (lit≤ tt)) z (lit≤ tt) in
-    all .is ∙ sym (image-is record { fixed = fixedAt b; moving = over m (movingAt b) } .is) ∙ ap (λ (m : Moving). imageOf record { fixed = fixedAt b; moving = m }) (sym (u .is))
+    all .is ∙ sym (image-is record { fixed = fixedAt b; moving = overMoving m (movingAt b) } .is) ∙ ap (λ (m : Moving). imageOf record { fixed = fixedAt b; moving = m }) (sym (u .is))

@@ -1,7 +1,7 @@
 -- A word that is passed on, by the float x that it was read as: itself if that is finite, else 0. Assumes nothing.
 use Rattle.laws.proofs.Prelude.{_≡_, true, false, ℕ, _<_, Float, ofBits, toBits, held}
 use Rattle.relay_math.{specs.F32.isFinite, proofs.Order.finite-number}
-use Rattle.words.{specs.Words.floatOf, proofs.Back.canon-itself}
+use Rattle.words.{specs.Words.floatOf, proofs.WordsBack.canon-itself}
 use Rattle.image.specs.Passed.{passedOn}
 
 pub finite-itself : (w : ℕ) {x : Float} → w < 4294967296 → x ≡ floatOf w → isFinite x ≡ true → passedOn w ≡ w

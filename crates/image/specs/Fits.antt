@@ -52,7 +52,7 @@ FitsBiquad f = AllFit (floatsOfBiquad f)
 abbrev pub FitsLpf : GyroLpf → Type 0
 FitsLpf l = FitsBiquad (l .roll) × FitsBiquad (l .pitch) × FitsBiquad (l .yaw)
 
-pub record Fits (s : State) : Type 0 where
+pub record StateFits (s : State) : Type 0 where
   pub gains : FitsGains (s .fixed .gains)
   pub set : FitsSet (s .fixed .set)
   pub enter : F32 (s .fixed .enter)

@@ -31,8 +31,8 @@ overAxis m n = record { z1 = m .z1; z2 = m .z2; «u_prev» = m .«u_prev»; «u_
 abbrev pub overBiquad : Biquad → Biquad → Biquad
 overBiquad m n = record { b0 = n .b0; b1 = n .b1; b2 = n .b2; a1 = n .a1; a2 = n .a2; x1 = m .x1; x2 = m .x2; y1 = m .y1; y2 = m .y2 }
 
-abbrev pub over : Moving → Moving → Moving
-over m n =
+abbrev pub overMoving : Moving → Moving → Moving
+overMoving m n =
     let g = n .governor in
     record {
       engaged = m .engaged;
@@ -45,4 +45,4 @@ over m n =
 
 -- m is that already
 pub record Unmoved (m n : Moving) : Type 0 where
-  pub is : m ≡ over m n
+  pub is : m ≡ overMoving m n

@@ -1,12 +1,12 @@
 pub mod Once
 pub mod Shielding
-pub mod NoAttitude
+pub mod TickNoAttitude
 pub mod Turning
 pub mod LostRotor
-pub mod Clock
-pub mod Answered
-pub mod Kept
-pub mod Calls
+pub mod TickClock
+pub mod AnswerFinite
+pub mod TickKeeps
+pub mod FractionAndSample
 pub mod OneAnswer
 pub mod Figures
 pub mod Worked

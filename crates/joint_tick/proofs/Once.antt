@@ -1,15 +1,15 @@
 -- `guide_whole` builds R and R_d once, and takes the length of g - a once; ADRC's tick is taken in two halves, and follows the command as it was chosen: that is the Rust's own calls, bit for bit. Assumes nothing.
 use Rattle.laws.proofs.Prelude.{_≡_, refl, _∙_, cond, Float}
-use Rattle.relay_math.{specs.{F32.{0·0, isFinite, finiteOr}, declared.{Vec3.Vec3, BodyRate.BodyRate}}, proofs.Finite.{finite-or-keeps, or-zero-finite}}
+use Rattle.relay_math.{specs.{F32.{0·0, isFinite, finiteOr}, declared.{Vec3.Vec3, BodyRate.BodyRate}}, proofs.FiniteOr.{finite-or-keeps, or-zero-finite}}
 use Rattle.relay_geo.specs.declared.{vectors.{Mat3.Mat3, Quat.Quat, Direction.Direction}, attitude.Attitude.{Attitude, the-variants.{Matrix, Refused}}, controller.GeoGains.GeoGains}
 use Rattle.relay_geo.specs.{declared.set.RecoverableSet.RecoverableSet, Vectors.sanitise3, Attitude.{quatToRotmat, thrustAxisNed, thrustAttitude}, Inner.{thrustOf, attitudeOn, feedforwardOn}}
 use Rattle.relay_geo.{specs.{Controller.{rateToward, desiredRate}, Set.margin, Shield.step}, proofs.Accepts.{shared-attitude, shared-feedforward}}
-use Rattle.relay_geo.proofs.Finite.{sanitise3-finite, sanitise3-keeps, sanitised-after}
+use Rattle.relay_geo.proofs.Sanitised.{sanitise3-finite, sanitise3-keeps, sanitised-after}
 use Rattle.joint_tick.specs.declared.{profile.Profile.{Profile, the-variants.{Whole, LostRotor}}, state.{Fixed.Fixed, TickInput.TickInput}, stages.{Reference.Reference, Prepared.Prepared}}
 use Rattle.joint_tick.specs.declared.stages.{Guided.Guided, Observed3.Observed3}
-use Rattle.joint_tick.specs.Tick.{cleaned, plus, rateError, rateSq, psiOf, marginOf, guideWhole, rateTowardAxis, psiToAxis, tiltRateSq, marginToAxis, guideLostRotor, picked, tickThird, follow}
+use Rattle.joint_tick.specs.Tick.{cleaned, withFeedforward, rateError, rateSq, psiOf, marginOf, guideWhole, rateTowardAxis, psiToAxis, tiltRateSq, marginToAxis, guideLostRotor, shielded, tickThird, follow}
 use Rattle.joint_tick.specs.{Tick.pick, Inner.{observeThird, observe, actThird, followOn, pickOn}}
-use Rattle.relay_adrc.{specs.{declared.{axis.{AdrcAxis.AdrcAxis, Observed.Observed}, rate.AdrcRate.AdrcRate}, Inner.axisAct}, proofs.Tick.tick-in-halves}
+use Rattle.relay_adrc.{specs.{declared.{axis.{AdrcAxis.AdrcAxis, Observed.Observed}, rate.AdrcRate.AdrcRate}, Inner.axisAct}, proofs.AxisTick.tick-in-halves}
 use Rattle.relay_geo.specs.declared.vectors.Direction.the-variants as direction
 
 -- `desired_rate` cleans its acceleration, which is clean already: its R_d is the tick's
@@ -29,7 +29,7 @@ pub guided-once : (gains : GeoGains) (set : RecoverableSet) (w : BodyRate) (want
     let rd = attitudeOn t (i .yaw) in
     let ff = feedforwardOn t (cleaned wanted .jerk) (i .«yaw_rate») rd in
     _≡_ {A = Guided} record {
-      fallback = plus (rateToward gains r rd) ff;
+      fallback = withFeedforward (rateToward gains r rd) ff;
       psi = psiOf r rd;
       margin = margin set (psiOf r rd) (rateSq (rateError w r ff rd));
       planner = record { 0 = sanitise3 (i .agile .0) };
@@ -70,7 +70,7 @@ follow-in-halves p r m w dt = rw (tick-in-halves (r .roll) (m .0 .0) (w .0 .0) d
 
 pub pick-in-halves : (f : Fixed) (p : Prepared) (g : Guided) (dt : Float) → pickOn f p (observe (f .profile) (p .moving .rate) (p .rate) dt) g ≡ pick f p g dt
 unfolding pickOn pick
-pick-in-halves f p g dt = rw (follow-in-halves (f .profile) (p .moving .rate) (p .rate) (picked f p g .command) dt)
+pick-in-halves f p g dt = rw (follow-in-halves (f .profile) (p .moving .rate) (p .rate) (shielded f p g .command) dt)
 
 -- ---- ADRC makes its wanted rate finite itself, so it may follow the command as it was chosen
 
@@ -86,8 +86,8 @@ follow-cleans : (p : Profile) (r : AdrcRate) (o : Observed3) (w : BodyRate) → 
 unfolding followOn
 follow-cleans p r o w = rw (act-cleans (r .roll) (o .roll) (w .0 .0), act-cleans (r .pitch) (o .pitch) (w .0 .1), third-cleans p (r .yaw) (o .yaw) (w .0 .2))
 
-pub acts-on-the-choice : (f : Fixed) (p : Prepared) (o : Observed3) (g : Guided) → followOn (f .profile) (p .moving .rate) o (cond (picked f p g .fallback) (g .fallback) (g .planner)) ≡ followOn (f .profile) (p .moving .rate) o (picked f p g .command)
+pub acts-on-the-choice : (f : Fixed) (p : Prepared) (o : Observed3) (g : Guided) → followOn (f .profile) (p .moving .rate) o (cond (shielded f p g .fallback) (g .fallback) (g .planner)) ≡ followOn (f .profile) (p .moving .rate) o (shielded f p g .command)
 unfolding step
 acts-on-the-choice f p o g =
-    let engaged = picked f p g .fallback in
+    let engaged = shielded f p g .fallback in
     follow-cleans (f .profile) (p .moving .rate) o (cond engaged (g .fallback) (g .planner)) ∙ rw (sanitised-after engaged (g .planner) (g .fallback))

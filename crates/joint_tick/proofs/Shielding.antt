@@ -1,7 +1,7 @@
 -- The flag, the latch and the command of a tick, from any source of references: Assumes nothing.
 use Rattle.laws.proofs.Prelude.{_≡_, refl, sym, subst, _∙_, ap, Bool, true, false, cond, Float, ofBits}
 use Rattle.relay_math.specs.{F32.isFinite, declared.{Vec3.Vec3, BodyRate.BodyRate}}
-use Rattle.relay_geo.{specs.{Vectors.{sanitise3, Finite3}, Shield.step}, proofs.{Finite.{sanitise3-finite, sanitise3-keeps}, Steps.{step-latches, planner-passed-on, fallback-passed-on}}}
+use Rattle.relay_geo.{specs.{Vectors.{sanitise3, Finite3}, Shield.step}, proofs.{Sanitised.{sanitise3-finite, sanitise3-keeps}, ShieldStep.{step-latches, planner-passed-on, fallback-passed-on}}}
 use Rattle.latch.specs.Latch.{latch}
 use Rattle.joint_tick.specs.declared.{profile.Profile.{Profile, the-variants.{Whole, LostRotor}}, state.{State.State, TickInput.TickInput}, stages.Reference.Reference}
 use Rattle.joint_tick.specs.Tick.{shieldOf, plannerOf, fractions, prepare, guideWhole, guideLostRotor, guide, follow, pick, guidePickFollow, guidance, ticked}

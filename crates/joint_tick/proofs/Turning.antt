@@ -7,7 +7,7 @@ use Rattle.relay_math.proofs.Zeros.{IsZero, none, is-zero, times, plus, minus}
 use Rattle.relay_adrc.specs.{declared.biquad.Biquad.Biquad, Biquad.{biquadFilter, gyroFilter}}
 use Rattle.relay_geo.specs.{declared.{vectors.Mat3.Mat3, attitude.Attitude.the-variants.Matrix}, Vectors.{dot, transpose3, matmul3, Finite3}, Attitude.quatToRotmat}
 use Rattle.joint_tick.specs.declared.{profile.Profile.the-variants.Whole, state.{State.State, TickInput.TickInput}, stages.{Reference.Reference, Guided.Guided}}
-use Rattle.joint_tick.specs.Tick.{prepare, desired, ahead, commanded, rateSq, marginOf, guideWhole, guide, ticked}
+use Rattle.joint_tick.specs.Tick.{prepare, desiredR, feedforward, commanded, rateSq, marginOf, guideWhole, guide, ticked}
 use Rattle.joint_tick.proofs.Shielding.{filtered, wantedAt, by-profile, tick-margin}
 use Rattle.relay_geo.specs.declared.attitude.Feedforward.the-variants as rate
 
@@ -84,19 +84,19 @@ module _ (source : Float → Reference) (s : State) (i : TickInput) (p : s .fixe
 
   -- document 01's margin: of the squared length of the filtered rate
   abbrev pub before : Float
-  before = marginOf (s .fixed .set) (quatToRotmat (i .quat)) (desired wanted i) (rateSq (filtered source s i))
+  before = marginOf (s .fixed .set) (quatToRotmat (i .quat)) (desiredR wanted i) (rateSq (filtered source s i))
 
   margin-is : ticked source s i .answer .margin ≡ guideWhole (s .fixed .gains) (s .fixed .set) (filtered source s i) wanted i .margin
   unfolding guide
   margin-is = tick-margin source s i ∙ ap (λ (g : Guided). g .margin) (by-profile source s i p)
 
   -- "where the feedforward refuses, the old rule holds"
-  pub refused-as-before : ahead wanted i ≡ rate.Refused → ticked source s i .answer .margin ≡ before
+  pub refused-as-before : feedforward wanted i ≡ rate.Refused → ticked source s i .answer .margin ≡ before
   unfolding guideWhole
   refused-as-before e = margin-is ∙ rw e
 
   -- and where it is three zeros, unless they meet what is not finite
-  pub zeros-as-before : (rd : Mat3) (f : BodyRate) → desired wanted i ≡ Matrix rd → ahead wanted i ≡ rate.Rate f → Zeros3 (f .0) → Entries (matmul3 (transpose3 (quatToRotmat (i .quat))) rd)
+  pub zeros-as-before : (rd : Mat3) (f : BodyRate) → desiredR wanted i ≡ Matrix rd → feedforward wanted i ≡ rate.Rate f → Zeros3 (f .0) → Entries (matmul3 (transpose3 (quatToRotmat (i .quat))) rd)
       → ticked source s i .answer .margin ≡ before
   unfolding guideWhole commanded rateSq dot prepare gyroFilter
   zeros-as-before rd f d a z n =

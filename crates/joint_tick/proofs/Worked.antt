@@ -3,7 +3,7 @@ use Rattle.laws.proofs.Prelude.{_≡_, refl, ofBits, add, sub, mul, div, neg, l
 use Rattle.relay_math.specs.{declared.BodyRate.BodyRate, F32.{0·0, 1·0, 2·0, isFinite, grains}, Sqrt.sqrtf}
 use Rattle.relay_geo.specs.declared.{vectors.Direction.the-variants.Axis, attitude.{Attitude.the-variants.Matrix, Feedforward.the-variants.Rate}}
 use Rattle.relay_geo.specs.{Vectors.{identity3, cross, dot, normalize, prod3, matmul3, transposedTimes}, Controller.{psi, attitudeError, desiredRate}, Set.margin}
-use Rattle.relay_geo.{specs.Attitude.{quatToRotmat, thrustForce, thrustAxisNed, thrustAttitude, bodyRate, flatnessOmegaFf}, proofs.Figures.level}
+use Rattle.relay_geo.{specs.Attitude.{quatToRotmat, thrustForce, thrustAxisNed, thrustAttitude, bodyRate, flatnessOmegaFf}, proofs.AttitudeFigures.level}
 use Rattle.relay_traj.specs.Quintic.{4·0}
 use Rattle.joint_tick.specs.{Tick.{commanded, rateSq, guideWhole, guideLostRotor, guide}, Worked.{8·0, curve, aside, WorkedFigures}}
 

@@ -83,8 +83,8 @@ first = axisTick (axisNew (withTau 4·0 2·0 2·0 0·0)) 1·0 0·0 0·0625
 abbrev second : AxisTick
 second = axisTick (axisSetDeliveredFraction (first .axis) 0·5) 1·0 0·0 0·0625
 
-abbrev filter : CommandFilter
-filter = filterNew 2·0 1·0 0·125
+abbrev figureFilter : CommandFilter
+figureFilter = filterNew 2·0 1·0 0·125
 
 -- ---- the table: the document's line, and under it a row for each of its numbers
 
@@ -117,7 +117,7 @@ pub record StarredFigures : Type 0 where
   pub second-z2 : second .axis .z2 ≡ 1·5
   pub second-u : second .u ≡ -1·5
   -- "`CommandFilter` 2, 1, rate limit 0.125, input 1, dt 0.0625: 0.0078125."
-  pub filtered : filterStep filter 1·0 0·0625 .y ≡ 0·0078125
+  pub filtered : filterStep figureFilter 1·0 0·0625 .y ≡ 0·0078125
   -- "`clamp_sym` of 5: limit +infinity 5, limit -1 0."
   pub clamped-by-infinity : clampSym 5·0 ∞ ≡ 5·0
   pub clamped-by-minus-1 : clampSym 5·0 -1·0 ≡ 0·0

@@ -15,7 +15,7 @@ use Rattle.joint_tick.specs.declared.stages.Prepared.{Prepared}
 use Rattle.joint_tick.specs.declared.stages.Guided.{Guided}
 use Rattle.joint_tick.specs.declared.stages.Observed3.{Observed3}
 use Rattle.joint_tick.specs.declared.stages.Ticked.{Ticked}
-use Rattle.joint_tick.specs.Tick.{picked, together}
+use Rattle.joint_tick.specs.Tick.{shielded, tickedOf}
 
 -- ---- the pick with ADRC's tick in its two halves, of which the first needs no pick: `pick-in-halves` of proofs/Once.antt
 
@@ -47,5 +47,5 @@ followOn profile r o wanted =
 
 unfoldable pub pickOn : Fixed → Prepared → Observed3 → Guided → Ticked
 pickOn f p o g =
-    let shielded = picked f p g in
-    together p g shielded (followOn (f .profile) (p .moving .rate) o (shielded .command))
+    let shielded = shielded f p g in
+    tickedOf p g shielded (followOn (f .profile) (p .moving .rate) o (shielded .command))

@@ -93,17 +93,17 @@ plannerOf Whole agile = record { 0 = sanitise3 (agile .0) }
 plannerOf LostRotor agile = let v = sanitise3 (agile .0) in record { 0 = (v .0, v .1, 0·0) }
 
 -- R_d
-abbrev pub desired : Reference → TickInput → Attitude
-desired wanted i = thrustAttitude (cleaned wanted .acc) (i .yaw)
+abbrev pub desiredR : Reference → TickInput → Attitude
+desiredR wanted i = thrustAttitude (cleaned wanted .acc) (i .yaw)
 
 -- the feedforward
-abbrev pub ahead : Reference → TickInput → Feedforward
-ahead wanted i = flatnessOmegaFf (cleaned wanted .acc) (cleaned wanted .jerk) (i .yaw) (i .«yaw_rate»)
+abbrev pub feedforward : Reference → TickInput → Feedforward
+feedforward wanted i = flatnessOmegaFf (cleaned wanted .acc) (cleaned wanted .jerk) (i .yaw) (i .«yaw_rate»)
 
 -- "`desired_rate` plus `flatness_omega_ff`, without the sum where the latter refuses". Without the sum isn't plus zero: a -0.0 stays.
-abbrev pub plus : BodyRate → Feedforward → BodyRate
-plus w (rate.Rate f) = record { 0 = (w .0 .0 ⊕ f .0 .0, w .0 .1 ⊕ f .0 .1, w .0 .2 ⊕ f .0 .2) }
-plus w rate.Refused = w
+abbrev pub withFeedforward : BodyRate → Feedforward → BodyRate
+withFeedforward w (rate.Rate f) = record { 0 = (w .0 .0 ⊕ f .0 .0, w .0 .1 ⊕ f .0 .1, w .0 .2 ⊕ f .0 .2) }
+withFeedforward w rate.Refused = w
 
 -- the commanded rate, from R_d's axes to R's: the product of the matrices, then its rows with f, which start from no 0.0
 unfoldable pub commanded : Mat3 → Mat3 → Vec3 → Vec3
@@ -134,10 +134,10 @@ marginOf set r Refused wSq = minusInfinity
 unfoldable pub guideWhole : GeoGains → RecoverableSet → BodyRate → Reference → TickInput → Guided
 guideWhole gains set w wanted i =
     let r = quatToRotmat (i .quat) in
-    let rd = desired wanted i in
-    let ff = ahead wanted i in
+    let rd = desiredR wanted i in
+    let ff = feedforward wanted i in
     record {
-      fallback = plus (desiredRate gains (i .quat) (cleaned wanted .acc) (i .yaw)) ff;
+      fallback = withFeedforward (desiredRate gains (i .quat) (cleaned wanted .acc) (i .yaw)) ff;
       psi = psiOf r rd;
       margin = marginOf set r rd (rateSq (rateError w r ff rd));
       planner = plannerOf Whole (i .agile);
@@ -185,8 +185,8 @@ guide LostRotor gains set w wanted i = guideLostRotor gains set w wanted i
 
 -- ---- pick: "The shield picks, non-finite numbers of the pick made +0.0; ADRC ticks on the filtered gyro, the pick and dt."
 
-abbrev pub picked : Fixed → Prepared → Guided → Shielded
-picked f p g = step (shieldOf record { fixed = f; moving = p .moving }) (g .margin) (g .planner) (g .fallback)
+abbrev pub shielded : Fixed → Prepared → Guided → Shielded
+shielded f p g = step (shieldOf record { fixed = f; moving = p .moving }) (g .margin) (g .planner) (g .fallback)
 
 abbrev pub tickThird : Profile → AdrcAxis → Float → Float → Float → AxisTick
 tickThird Whole axis measured wanted dt = axisTick axis measured wanted dt
@@ -203,8 +203,8 @@ follow profile r measured wanted dt =
       torque = record { 0 = (roll .u, pitch .u, yaw .u) };
     }
 
-abbrev pub together : Prepared → Guided → Shielded → RateTick → Ticked
-together p g shielded followed =
+abbrev pub tickedOf : Prepared → Guided → Shielded → RateTick → Ticked
+tickedOf p g shielded followed =
     record {
       engaged = shielded .shield .engaged;
       rate = followed .rate;
@@ -214,8 +214,8 @@ together p g shielded followed =
 
 unfoldable pub pick : Fixed → Prepared → Guided → Float → Ticked
 pick f p g dt =
-    let shielded = picked f p g in
-    together p g shielded (follow (f .profile) (p .moving .rate) (p .rate) (shielded .command) dt)
+    let shielded = shielded f p g in
+    tickedOf p g shielded (follow (f .profile) (p .moving .rate) (p .rate) (shielded .command) dt)
 
 -- ---- the tick, from any source of references, by the time
 

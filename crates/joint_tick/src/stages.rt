@@ -32,7 +32,7 @@ use relay_math::Vec3;
 use relay_traj::Segment3;
 ghost use mathlib.Core.Path.{_≡_};
 ghost use mathlib.Core.Bool.{cond};
-ghost use Rattle.joint_tick.specs.Tick.{fractionThird, fractions, prepare, sampleTime, referenceAt, cleaned, plus, commanded, rateError, rateSq, psiOf, guideWhole, rateTowardAxis, psiToAxis, tiltRateSq, guideLostRotor, guide, guidePickFollow};
+ghost use Rattle.joint_tick.specs.Tick.{fractionThird, fractions, prepare, sampleTime, referenceAt, cleaned, withFeedforward, commanded, rateError, rateSq, psiOf, guideWhole, rateTowardAxis, psiToAxis, tiltRateSq, guideLostRotor, guide, guidePickFollow};
 ghost use Rattle.joint_tick.specs.Inner.{observeThird, observe, actThird, followOn, pickOn};
 
 // What moves, with its fractions, filters and clock moved on, the filtered rate and the governor's time.
@@ -155,7 +155,7 @@ fn clean(wanted: Reference) -> Reference
 
 // The sum, and w itself where there is no feedforward: adding +0.0 would turn a -0.0.
 fn plus(w: BodyRate, feedforward: Feedforward) -> BodyRate
-    ensures { λ r. ⌜ r ≡ plus w feedforward ⌝ }
+    ensures { λ r. ⌜ r ≡ withFeedforward w feedforward ⌝ }
 {
     let Feedforward::Rate(f) = feedforward else {
         return w;

@@ -1,5 +1,5 @@
 pub mod RowFour
-pub mod Going
-pub mod Flown
-pub mod Steps
+pub mod NeverRefused
+pub mod TickLeaves
+pub mod TickSteps
 pub mod OneAnswer

@@ -7,7 +7,7 @@ use Rattle.relay_math.{specs.F32.{0·0, 1e-3, isFinite, finiteAbove}, proofs.Or
 use Rattle.relay_traj.specs.Governor.{Running}
 use Rattle.joint_tick.specs.{declared.{profile.Profile.{Profile, the-variants.{Whole, LostRotor}}, state.State.State}, Profile.{profileWord, isProfile, profileOf}}
 use Rattle.image.specs.{Layout.{COUNT, ENGAGED, SEGMENT, PROFILE, PEAKS, IMAGE-WORDS}, Parts.{governorAt, segmentAt, profileAt}, Image.{fixedAt, movingAt, stateAt, imageOf, peaksOf}}
-use Rattle.image.specs.{Fits.{FitsSegment, Fits}, Inner.OwnWords}
+use Rattle.image.specs.{Fits.{FitsSegment, StateFits}, Inner.OwnWords}
 use Rattle.image.proofs.Decoded.{image-length, count-written, engaged-written, profile-written, enter-written, exit-written, time-written, segment-written, peaks-written, same-words, state-fits}
 use Rattle.image.proofs.Fitting.{peaks-fit}
 use Rattle.lent_tick.specs.Unbroken.{lasts, allLast, peaksStand, unbroken, Unbroken}
@@ -133,7 +133,7 @@ peaks-stand s f =
     itself : (x : ℕ) → eqb x x ≡ true
     itself x = eq-eqb x x refl
 
-pub written-unbroken : (s : State) → Fits s → UnbrokenState s → Unbroken (imageOf s)
+pub written-unbroken : (s : State) → StateFits s → UnbrokenState s → Unbroken (imageOf s)
 unfolding unbroken
 written-unbroken s f n =
     record {

@@ -16,8 +16,8 @@ abbrev pub marginsIf : Called → Float → List Float
 marginsIf c margin = cond (isDone (c .outcome)) (margin ∷ []) []
 
 -- the shield of an image, and a shield after it was stepped by margins
-abbrev pub shieldOf : List ℕ → SimplexShield
-shieldOf image = shieldOfState (stateAt image)
+abbrev pub shieldAt : List ℕ → SimplexShield
+shieldAt image = shieldOfState (stateAt image)
 
 abbrev pub stepped : SimplexShield → List Float → SimplexShield
 stepped h ms = record { set = h .set; engaged = after (h .enter) (h .exit) (h .engaged) ms; enter = h .enter; exit = h .exit }
@@ -25,4 +25,4 @@ stepped h ms = record { set = h .set; engaged = after (h .enter) (h .exit) (h .e
 -- A call that was handed the image and left `later` stepped the shield by those margins and did nothing else to it; what it left is unbroken.
 pub record Steps (ms : List Float) (image later : List ℕ) : Type 0 where
   pub unbroken : Unbroken later
-  pub shield : shieldOf later ≡ stepped (shieldOf image) ms
+  pub shield : shieldAt later ≡ stepped (shieldAt image) ms

@@ -1,4 +1,4 @@
-pub mod Taken
+pub mod LogForm
 pub mod Apart
 pub mod Made
 pub mod Reading

@@ -2,20 +2,20 @@
 use Rattle.laws.proofs.Prelude.{_≡_, refl, sym, ap, _∙_, true, List, [], _∷_, _++_, append-assoc, ℕ, zero, suc, _+_, _-_, _*_, _≤_, add-zero, mod-eq-of-lt, add-one, arith, le-leb, eq-eqb, length}
 use Rattle.laws.proofs.Prelude.{take, drop, length-append, length-drop, take-append-drop, sets-eq, length-take-le, take-take, take-at, drop-at}
 use lib.Seq.{take-append-le, drop-append-le}
-use Rattle.words.{specs.Words.{fourBytes, word}, proofs.Back.{word-bytesOf, four-after}}
-use Rattle.log.specs.{Form.{RECORD-BYTES, TRAILER-BYTES, MOST-RECORDS, trailerWords, trailer, fromEnd, countOf, isLog}, Records.{bytesAt, recordsFrom, records}, Entry.withRecord}
-use Rattle.log.proofs.Taken.{Taken}
+use Rattle.words.{specs.Words.{fourBytes, word}, proofs.WordsBack.{word-bytesOf, four-after}}
+use Rattle.log.specs.{Form.{RECORD-BYTES, LOG-TRAILER-BYTES, MOST-RECORDS, trailerWords, trailer, fromEnd, recordCount, isLog}, Records.{bytesAt, recordsFrom, records}, Entry.withRecord}
+use Rattle.log.proofs.LogForm.{Taken}
 
 -- ---- the trailer is read as it was written, whatever stands before it
 
-from-end-after : (body : List ℕ) (n : ℕ) (back : ℕ) → back ≤ TRAILER-BYTES → fromEnd (body ++ trailer n) back ≡ fourBytes (trailer n) (TRAILER-BYTES - back)
+from-end-after : (body : List ℕ) (n : ℕ) (back : ℕ) → back ≤ LOG-TRAILER-BYTES → fromEnd (body ++ trailer n) back ≡ fourBytes (trailer n) (LOG-TRAILER-BYTES - back)
 unfolding fromEnd
 from-end-after body n back h =
-    let e : length (body ++ trailer n) - back ≡ length body + (TRAILER-BYTES - back) = omega (arith, length-append body (trailer n)) in
-    rw e (four-after body (trailer n) (TRAILER-BYTES - back))
+    let e : length (body ++ trailer n) - back ≡ length body + (LOG-TRAILER-BYTES - back) = omega (arith, length-append body (trailer n)) in
+    rw e (four-after body (trailer n) (LOG-TRAILER-BYTES - back))
 
 module _ (body : List ℕ) (n : ℕ) (few : n ≤ MOST-RECORDS) where
-  count-made : countOf (body ++ trailer n) ≡ n
+  count-made : recordCount (body ++ trailer n) ≡ n
   unfolding word
   count-made = from-end-after body n 12 (omega arith) ∙ word-bytesOf (trailerWords n) 0 ∙ mod-eq-of-lt (omega arith)
 
@@ -31,8 +31,8 @@ module _ (body : List ℕ) (n : ℕ) (few : n ≤ MOST-RECORDS) where
   unfolding isLog
   is-log-made h =
       let l = length (body ++ trailer n) in
-      let e : l ≡ RECORD-BYTES * n + TRAILER-BYTES = omega (arith, length-append body (trailer n)) in
-      rw (count-made, back-made, size-made, le-leb TRAILER-BYTES l (omega arith), le-leb n MOST-RECORDS few, eq-eqb (RECORD-BYTES * n) (RECORD-BYTES * n) refl, eq-eqb l (RECORD-BYTES * n + TRAILER-BYTES) e)
+      let e : l ≡ RECORD-BYTES * n + LOG-TRAILER-BYTES = omega (arith, length-append body (trailer n)) in
+      rw (count-made, back-made, size-made, le-leb LOG-TRAILER-BYTES l (omega arith), le-leb n MOST-RECORDS few, eq-eqb (RECORD-BYTES * n) (RECORD-BYTES * n) refl, eq-eqb l (RECORD-BYTES * n + LOG-TRAILER-BYTES) e)
 
 -- ---- records by their place
 
@@ -49,7 +49,7 @@ one-last : (b : List ℕ) (n i : ℕ) → recordsFrom b (suc n) i ≡ recordsFro
 one-last b zero i = rw (add-zero i)
 one-last b (suc n) i = let e : i + suc n ≡ suc i + n = omega arith in rw (one-last b n (suc i), e)
 
-pub records-of : (b : List ℕ) → isLog b ≡ true → records b ≡ recordsFrom b (countOf b) 0
+pub records-of : (b : List ℕ) → isLog b ≡ true → records b ≡ recordsFrom b (recordCount b) 0
 unfolding records
 records-of b e = rw e
 
@@ -57,16 +57,16 @@ records-of b e = rw e
 
 module _ (buffer : List ℕ) (len : ℕ) (input answer : List ℕ) (t : Taken buffer len (length input) (length answer)) where
   abbrev n : ℕ
-  n = countOf (take len buffer)
+  n = recordCount (take len buffer)
 
   abbrev at : ℕ
-  at = len - TRAILER-BYTES
+  at = len - LOG-TRAILER-BYTES
 
   -- the log as append leaves it: the old one's records, the new record, the trailer
   made : take (len + RECORD-BYTES) (withRecord buffer at (n + 1) input answer) ≡ take at buffer ++ (input ++ answer) ++ trailer (n + 1)
   made =
       let vs = input ++ answer ++ trailer (n + 1) in
-      let l : length vs ≡ RECORD-BYTES + TRAILER-BYTES = omega (arith, length-append (input ++ answer) (trailer (n + 1)), length-append input answer, t .input-length, t .answer-length) in
+      let l : length vs ≡ RECORD-BYTES + LOG-TRAILER-BYTES = omega (arith, length-append (input ++ answer) (trailer (n + 1)), length-append input answer, t .input-length, t .answer-length) in
       let f : length (take at buffer) ≡ at = length-take-le at buffer (omega (arith, t .within)) in
       let e : length (take at buffer ++ vs) ≡ len + RECORD-BYTES = omega (arith, length-append (take at buffer) vs, t .len-is) in
       ap (take (len + RECORD-BYTES)) (sets-eq vs buffer at (omega (arith, t .room, t .len-is))) ∙ take-at (take at buffer ++ vs) (drop (at + length vs) buffer) (len + RECORD-BYTES) e ∙ sym (append-assoc (take at buffer) (input ++ answer) (trailer (n + 1)))

@@ -2,9 +2,9 @@
 use Rattle.laws.proofs.Prelude.{_≡_, refl, sym, ap, _∙_, true, false, cond, List, [], _∷_, _++_, append-assoc, append-nil, ℕ, zero, suc, _+_, _<_, zero-add, add-zero, add-one, arith, lt-ltb, le-ltb}
 use Rattle.laws.proofs.Prelude.{length, take, getD, replicate}
 use Rattle.outcome.{specs.Outcomes.{isDone, Filled}, proofs.Tables.either}
-use Rattle.log.specs.{Form.{RECORD-BYTES, emptyLog, fromEnd, countOf, isLog}, Records.{bytesAt, recordsFrom, records, hasRecord, recordAt, placeAfter, handedOut}}
-use Rattle.log.specs.{Entry.{appendRefusal, appendCall}, Runs.{Held, logIn, Given, afterOne, keptBy, afterAll, keptAlong, NoneRefused, recordsOf, atFirst}}
-use Rattle.log.proofs.{Taken.taken, Made.{records-of, one-more-record}}
+use Rattle.log.specs.{Form.{RECORD-BYTES, emptyLog, fromEnd, recordCount, isLog}, Records.{bytesAt, recordsFrom, records, hasRecord, recordAt, placeAfter, handedOut}}
+use Rattle.log.specs.{Entry.{appendRefusal, appendCall}, Runs.{LogBuffer, logIn, ToAppend, afterOne, keptBy, afterAll, keptAlong, NoneRefused, recordsOf, atFirst}}
+use Rattle.log.proofs.{LogForm.taken, Made.{records-of, one-more-record}}
 
 -- ---- one append, accepted or refused, and any number of them
 
@@ -12,7 +12,7 @@ use Rattle.log.proofs.{Taken.taken, Made.{records-of, one-more-record}}
 abbrev Keeps : List ℕ → List (List ℕ) → Type 0
 Keeps log rs = (isLog log ≡ true) × (records log ≡ rs)
 
-one : (h : Held) (g : Given) → isLog (logIn h) ≡ true → Keeps (logIn (afterOne h g)) (records (logIn h) ++ keptBy h g)
+one : (h : LogBuffer) (g : ToAppend) → isLog (logIn h) ≡ true → Keeps (logIn (afterOne h g)) (records (logIn h) ++ keptBy h g)
 unfolding appendCall
 one h g e =
     either
@@ -22,7 +22,7 @@ one h g e =
     (λ d. rw d (e, sym (append-nil (records (logIn h)))))
 
 -- after any appends on a log: a log, with the old records and then those kept
-pub after-appends : (h : Held) (appends : List Given) → isLog (logIn h) ≡ true → Keeps (logIn (afterAll h appends)) (records (logIn h) ++ keptAlong h appends)
+pub after-appends : (h : LogBuffer) (appends : List ToAppend) → isLog (logIn h) ≡ true → Keeps (logIn (afterAll h appends)) (records (logIn h) ++ keptAlong h appends)
 unfolding afterAll keptAlong
 after-appends h [] e = (e, sym (append-nil (records (logIn h))))
 after-appends h (g ∷ more) e =
@@ -33,23 +33,23 @@ after-appends h (g ∷ more) e =
 -- ---- reading a log
 
 -- from a place on, with m records left: these, and then none for ever
-from-here : (b : List ℕ) (k m i : ℕ) → isLog b ≡ true → countOf b ≡ i + m → handedOut b i (m + k) ≡ recordsFrom b m i ++ replicate k []
+from-here : (b : List ℕ) (k m i : ℕ) → isLog b ≡ true → recordCount b ≡ i + m → handedOut b i (m + k) ≡ recordsFrom b m i ++ replicate k []
 unfolding handedOut recordAt placeAfter hasRecord
 from-here b k zero i l e = rw (zero-add k) (none k)
   where
     none : (k : ℕ) → handedOut b i k ≡ replicate k []
     none zero = refl
-    none (suc k) = rw (l, le-ltb i (countOf b) (omega arith), none k)
+    none (suc k) = rw (l, le-ltb i (recordCount b) (omega arith), none k)
 from-here b k (suc m) i l e =
     let s : suc m + k ≡ suc (m + k) = omega arith in
-    rw (s, l, lt-ltb i (countOf b) (omega arith), add-one i, from-here b k m (suc i) l (omega arith))
+    rw (s, l, lt-ltb i (recordCount b) (omega arith), add-one i, from-here b k m (suc i) l (omega arith))
 
 length-from : (b : List ℕ) (n i : ℕ) → length (recordsFrom b n i) ≡ n
 length-from b zero i = refl
 length-from b (suc n) i = ap suc (length-from b n (suc i))
 
-pub records-count : (b : List ℕ) → isLog b ≡ true → length (records b) ≡ countOf b
-records-count b l = rw (records-of b l) (length-from b (countOf b) 0)
+pub records-count : (b : List ℕ) → isLog b ≡ true → length (records b) ≡ recordCount b
+records-count b l = rw (records-of b l) (length-from b (recordCount b) 0)
 
 -- the record at a place is the list's
 at-from : (b : List ℕ) (n i j : ℕ) → j < n → getD (recordsFrom b n i) j [] ≡ bytesAt b (i + j)
@@ -57,14 +57,14 @@ at-from b zero i j h = absurd (omega (arith, h))
 at-from b (suc n) i zero h = rw (add-zero i)
 at-from b (suc n) i (suc j) h = let e : i + suc j ≡ suc i + j = omega arith in rw e (at-from b n (suc i) j (omega arith))
 
-pub record-is : (b : List ℕ) (i : ℕ) → isLog b ≡ true → i < countOf b → recordAt b i ≡ getD (records b) i []
+pub record-is : (b : List ℕ) (i : ℕ) → isLog b ≡ true → i < recordCount b → recordAt b i ≡ getD (records b) i []
 unfolding recordAt hasRecord
-record-is b i l h = rw (l, lt-ltb i (countOf b) h, records-of b l, at-from b (countOf b) 0 i h, zero-add i)
+record-is b i l h = rw (l, lt-ltb i (recordCount b) h, records-of b l, at-from b (recordCount b) 0 i h, zero-add i)
 
 -- "handing out one record at a time .. and then says that there is none": all records in order, and then none for ever
 pub reader-hands-out : (b : List ℕ) → isLog b ≡ true → (k : ℕ) → handedOut b 0 (length (records b) + k) ≡ records b ++ replicate k []
 reader-hands-out b l k =
-    let n = countOf b in
+    let n = recordCount b in
     rw (records-count b l, records-of b l) (from-here b k n 0 l (sym (zero-add n)))
 
 -- a reader made on what is no log hands out nothing
@@ -79,7 +79,7 @@ empty-is : (isLog emptyLog ≡ true) × (records emptyLog ≡ [])
 unfolding isLog fromEnd records
 empty-is = (refl, refl)
 
-module _ (beyond : List ℕ) (appends : List Given) where
+module _ (beyond : List ℕ) (appends : List ToAppend) where
   abbrev log : List ℕ
   log = logIn (afterAll (atFirst beyond) appends)
 
@@ -100,12 +100,12 @@ module _ (beyond : List ℕ) (appends : List Given) where
   pub reading-back : (k : ℕ) → handedOut log 0 (length kept + k) ≡ kept ++ replicate k []
   reading-back k = rw records-kept at (reader-hands-out log (made .0) k)
 
-pub kept-all : (h : Held) (appends : List Given) → NoneRefused h appends → keptAlong h appends ≡ recordsOf appends
+pub kept-all : (h : LogBuffer) (appends : List ToAppend) → NoneRefused h appends → keptAlong h appends ≡ recordsOf appends
 unfolding NoneRefused keptAlong recordsOf
 kept-all h [] a = refl
 kept-all h (g ∷ more) a = rw (kept-all (afterOne h g) more (a .1), a .0)
 
 -- and if none was: all that was given
-pub reading-back-all : (beyond : List ℕ) (appends : List Given) → NoneRefused (atFirst beyond) appends → (k : ℕ)
+pub reading-back-all : (beyond : List ℕ) (appends : List ToAppend) → NoneRefused (atFirst beyond) appends → (k : ℕ)
     → let rs = recordsOf appends in handedOut (logIn (afterAll (atFirst beyond) appends)) 0 (length rs + k) ≡ rs ++ replicate k []
 reading-back-all beyond appends a k = rw (kept-all (atFirst beyond) appends a) at (reading-back beyond appends k)

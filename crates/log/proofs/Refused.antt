@@ -6,8 +6,8 @@ use Rattle.words.{specs.Words.bytesOf, proofs.Written.sets-other}
 use Rattle.image.specs.Layout.{INPUT-BYTES, ANSWER-BYTES}
 use Rattle.outcome.specs.{declared.Outcome.{Outcome, the-variants.{BrokenLog, NoRoom, PassThrough}}, Outcomes.{number, isDone, firstOf, left, Filled}}
 use Rattle.outcome.proofs.Tables.{never-given, refused-keeps, either}
-use Rattle.log.specs.{Form.{RECORD-BYTES, TRAILER-BYTES, MOST-RECORDS, trailer, emptyLog, fromEnd, countOf, isLog}, Entry.{appendTable, appendRefusal, appendCall, countTable, recordTable}}
-use Rattle.log.proofs.Taken.{Taken, taken}
+use Rattle.log.specs.{Form.{RECORD-BYTES, LOG-TRAILER-BYTES, MOST-RECORDS, trailer, emptyLog, fromEnd, recordCount, isLog}, Entry.{appendTable, appendRefusal, appendCall, countTable, recordTable}}
+use Rattle.log.proofs.LogForm.{Taken, taken}
 
 -- ---- "The reader, on a whole slice, gives 8 alike."
 
@@ -35,7 +35,7 @@ same-refusal buffer len input answer h k =
     let log = take len buffer in
     let u = ltb (length buffer) len in
     let x = ltb (length buffer - len) RECORD-BYTES in
-    let y = eqb (countOf log) MOST-RECORDS in
+    let y = eqb (recordCount log) MOST-RECORDS in
     rw (h, k) (
       λ e. elim (broken u (isLog log) x y e) [ inl l ↦ inl (ltb-true (length buffer) len l) | inr r ↦ inr r ],
       λ o. breaks u (isLog log) x y (elim o [ inl l ↦ inl (lt-ltb (length buffer) len l) | inr r ↦ inr r ]),
@@ -76,16 +76,16 @@ refused-changes-nothing buffer len input answer e = refused-keeps (appendRefusal
 module _ (buffer : List ℕ) (len : ℕ) (input answer : List ℕ) where
   -- what is written from the old trailer's place on
   abbrev vs : List ℕ
-  vs = input ++ answer ++ trailer (countOf (take len buffer) + 1)
+  vs = input ++ answer ++ trailer (recordCount (take len buffer) + 1)
 
-  run-ends : Taken buffer len (length input) (length answer) → len - TRAILER-BYTES + length vs ≡ len + RECORD-BYTES
-  run-ends t = omega (arith, length-append (input ++ answer) (trailer (countOf (take len buffer) + 1)), length-append input answer, t .input-length, t .answer-length, t .len-is)
+  run-ends : Taken buffer len (length input) (length answer) → len - LOG-TRAILER-BYTES + length vs ≡ len + RECORD-BYTES
+  run-ends t = omega (arith, length-append (input ++ answer) (trailer (recordCount (take len buffer) + 1)), length-append input answer, t .input-length, t .answer-length, t .len-is)
 
-  pub no-other-byte : (i : ℕ) → (i < len - TRAILER-BYTES) ⊎ (len + RECORD-BYTES ≤ i) → getD (appendCall buffer len input answer .later) i 0 ≡ getD buffer i 0
+  pub no-other-byte : (i : ℕ) → (i < len - LOG-TRAILER-BYTES) ⊎ (len + RECORD-BYTES ≤ i) → getD (appendCall buffer len input answer .later) i 0 ≡ getD buffer i 0
   unfolding appendCall
   no-other-byte i h =
       either (λ (l : Filled). getD (l .later) i 0 ≡ getD buffer i 0) (appendRefusal buffer len (length input) (length answer))
-      (λ d. sets-other vs buffer (len - TRAILER-BYTES) i (rw (run-ends (taken buffer len (length input) (length answer) d)) h)) (λ d. refl)
+      (λ d. sets-other vs buffer (len - LOG-TRAILER-BYTES) i (rw (run-ends (taken buffer len (length input) (length answer) d)) h)) (λ d. refl)
 
 -- ---- "11 .. at set-up alone" (request Twelve)
 

@@ -10,7 +10,7 @@ use Rattle.image.specs.Layout.{INPUT-BYTES, ANSWER-BYTES}
 use Rattle.outcome.specs.declared.Outcome.{Outcome}
 use Rattle.outcome.specs.declared.Outcome.the-variants.{InputLength, AnswerLength, BrokenLog, NoRoom, NoRecord, RecordLength}
 use Rattle.outcome.specs.Outcomes.{Table, firstOf, differs, leftUnless, Filled}
-use Rattle.log.specs.Form.{RECORD-BYTES, TRAILER-BYTES, MOST-RECORDS, trailer, countOf, isLog}
+use Rattle.log.specs.Form.{RECORD-BYTES, LOG-TRAILER-BYTES, MOST-RECORDS, trailer, recordCount, isLog}
 use Rattle.log.specs.Records.{hasRecord, recordAt}
 
 -- "2 and 3 for a wrong input or answer length; then 8 if the log's length exceeds the buffer" or the bytes of that length are no log; "then 9 if the
@@ -22,7 +22,7 @@ appendTable buffer len inputLen answerLen =
     ∷ (ltb (length buffer) len, BrokenLog)
     ∷ (not (isLog (take len buffer)), BrokenLog)
     ∷ (ltb (length buffer - len) RECORD-BYTES, NoRoom)
-    ∷ (eqb (countOf (take len buffer)) MOST-RECORDS, NoRoom)
+    ∷ (eqb (recordCount (take len buffer)) MOST-RECORDS, NoRoom)
     ∷ []
 
 unfoldable pub appendRefusal : List ℕ → ℕ → ℕ → ℕ → Outcome
@@ -35,14 +35,14 @@ withRecord buffer at n input answer = sets buffer at (input ++ answer ++ trailer
 -- "It overwrites the old trailer with the record, writes a new one after it and changes no other byte."
 unfoldable pub appendCall : List ℕ → ℕ → List ℕ → List ℕ → Filled
 appendCall buffer len input answer =
-    leftUnless (appendRefusal buffer len (length input) (length answer)) (withRecord buffer (len - TRAILER-BYTES) (countOf (take len buffer) + 1) input answer) buffer
+    leftUnless (appendRefusal buffer len (length input) (length answer)) (withRecord buffer (len - LOG-TRAILER-BYTES) (recordCount (take len buffer) + 1) input answer) buffer
 
 -- the count as a word, into 4 bytes
 abbrev pub countTable : List ℕ → ℕ → Table
 countTable log countLen = (differs countLen 4, InputLength) ∷ (not (isLog log), BrokenLog) ∷ []
 
 unfoldable pub countCall : List ℕ → List ℕ → Filled
-countCall log count = leftUnless (firstOf (countTable log (length count))) (bytesOf (countOf log ∷ [])) count
+countCall log count = leftUnless (firstOf (countTable log (length count))) (bytesOf (recordCount log ∷ [])) count
 
 -- the record at a place, into as many bytes
 abbrev pub recordTable : List ℕ → ℕ → ℕ → Table

@@ -11,8 +11,8 @@ use Rattle.image.specs.Layout.{INPUT-BYTES, ANSWER-BYTES}
 abbrev pub RECORD-BYTES : ℕ
 RECORD-BYTES = INPUT-BYTES + ANSWER-BYTES
 
-abbrev pub TRAILER-BYTES : ℕ
-TRAILER-BYTES = 12
+abbrev pub LOG-TRAILER-BYTES : ℕ
+LOG-TRAILER-BYTES = 12
 
 abbrev pub MOST-RECORDS : ℕ
 MOST-RECORDS = 65535
@@ -34,14 +34,14 @@ emptyLog = trailer 0
 unfoldable pub fromEnd : List ℕ → ℕ → ℕ
 fromEnd b back = fourBytes b (length b - back)
 
-abbrev pub countOf : List ℕ → ℕ
-countOf b = fromEnd b TRAILER-BYTES
+abbrev pub recordCount : List ℕ → ℕ
+recordCount b = fromEnd b LOG-TRAILER-BYTES
 
 -- ---- "8 if the log's length .. is below 12, the last word isn't 108, the count is above 65,535, the distance back isn't 108 times it, or the length
 -- isn't 12 more"
 
 unfoldable pub isLog : List ℕ → Bool
 isLog b =
-    let n = countOf b in
-    leb TRAILER-BYTES (length b) && eqb (fromEnd b 4) RECORD-BYTES && leb n MOST-RECORDS && eqb (fromEnd b 8) (RECORD-BYTES * n)
-    && eqb (length b) (RECORD-BYTES * n + TRAILER-BYTES)
+    let n = recordCount b in
+    leb LOG-TRAILER-BYTES (length b) && eqb (fromEnd b 4) RECORD-BYTES && leb n MOST-RECORDS && eqb (fromEnd b 8) (RECORD-BYTES * n)
+    && eqb (length b) (RECORD-BYTES * n + LOG-TRAILER-BYTES)

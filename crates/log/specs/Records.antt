@@ -4,7 +4,7 @@ use mathlib.Core.Bool.{Bool, _&&_, cond}
 use mathlib.Core.List.{List, [], _∷_}
 use lib.Dec.{ltb}
 use lib.ListN.{take, drop}
-use Rattle.log.specs.Form.{RECORD-BYTES, countOf, isLog}
+use Rattle.log.specs.Form.{RECORD-BYTES, recordCount, isLog}
 
 -- the bytes of record number i, counted from 0
 abbrev pub bytesAt : List ℕ → ℕ → List ℕ
@@ -17,12 +17,12 @@ recordsFrom b (suc n) i = bytesAt b i ∷ recordsFrom b n (suc i)
 
 -- all of a log's; bytes that are no log have none
 unfoldable pub records : List ℕ → List (List ℕ)
-records b = cond (isLog b) (recordsFrom b (countOf b) 0) []
+records b = cond (isLog b) (recordsFrom b (recordCount b) 0) []
 
 -- ---- the reader
 
 unfoldable pub hasRecord : List ℕ → ℕ → Bool
-hasRecord b i = isLog b && ltb i (countOf b)
+hasRecord b i = isLog b && ltb i (recordCount b)
 
 -- what is handed out at a place: the record, or no byte where there is none
 unfoldable pub recordAt : List ℕ → ℕ → List ℕ

@@ -16,7 +16,7 @@ ghost use lib.ListN.{length};
 ghost use Rattle.words.specs.Words.{Put};
 ghost use Rattle.image.specs.Layout.{INPUT-BYTES, ANSWER-BYTES};
 ghost use Rattle.outcome.specs.Outcomes.{left};
-ghost use Rattle.log.specs.Form.{RECORD-BYTES, TRAILER-BYTES, MOST-RECORDS, trailerWords};
+ghost use Rattle.log.specs.Form.{RECORD-BYTES, LOG-TRAILER-BYTES, MOST-RECORDS, trailerWords};
 ghost use Rattle.log.specs.Entry.{appendRefusal, withRecord, appendCall};
 
 // What an append would be refused for.
@@ -47,7 +47,7 @@ fn append_refusal(buffer: &[u8], log_len: usize, input_len: usize, answer_len: u
 
 // The trailer of so many records, from word k on.
 fn put_trailer(buffer: &mut [u8], k: usize, count: usize)
-    requires { ⌜ (4 * k + TRAILER-BYTES ≤ length (now buffer)) × (count ≤ MOST-RECORDS) ⌝ }
+    requires { ⌜ (4 * k + LOG-TRAILER-BYTES ≤ length (now buffer)) × (count ≤ MOST-RECORDS) ⌝ }
     ensures { λ _. ⌜ Put (now (buffer .entry)) k (trailerWords count) (now (buffer .exit)) ⌝ }
 {
     put_word(buffer, k, count as u32);
@@ -58,7 +58,7 @@ fn put_trailer(buffer: &mut [u8], k: usize, count: usize)
 // The record of an input and an answer after so many others, and the trailer after it. Bytes are copied as they stand.
 fn put_record(buffer: &mut [u8], count: usize, input: &[u8], answer: &[u8])
     requires { ⌜ (length (now input) ≡ INPUT-BYTES) × (length (now answer) ≡ ANSWER-BYTES) ⌝ }
-    requires { ⌜ (RECORD-BYTES * count + RECORD-BYTES + TRAILER-BYTES ≤ length (now buffer)) × (count < MOST-RECORDS) ⌝ }
+    requires { ⌜ (RECORD-BYTES * count + RECORD-BYTES + LOG-TRAILER-BYTES ≤ length (now buffer)) × (count < MOST-RECORDS) ⌝ }
     ensures { λ _. ⌜ now (buffer .exit) ≡ withRecord (now (buffer .entry)) (RECORD-BYTES * count) (count + 1) (now (input .entry)) (now (answer .entry)) ⌝ }
 {
     let at = RECORD_BYTES * count;

@@ -6,7 +6,7 @@ use words::four_bytes;
 ghost use mathlib.Core.Path.{_≡_};
 ghost use Prim.Native.Nat.{_≤_};
 ghost use lib.ListN.{length};
-ghost use Rattle.log.specs.Form.{TRAILER-BYTES, fromEnd, countOf, isLog};
+ghost use Rattle.log.specs.Form.{LOG-TRAILER-BYTES, fromEnd, recordCount, isLog};
 
 pub const RECORD_BYTES: usize = INPUT_BYTES + ANSWER_BYTES;
 
@@ -23,8 +23,8 @@ fn from_end(log: &[u8], back: usize) -> usize
 }
 
 pub(crate) fn record_count(log: &[u8]) -> usize
-    requires { ⌜ TRAILER-BYTES ≤ length (now log) ⌝ }
-    ensures { λ r. ⌜ r ≡ countOf (now (log .entry)) ⌝ }
+    requires { ⌜ LOG-TRAILER-BYTES ≤ length (now log) ⌝ }
+    ensures { λ r. ⌜ r ≡ recordCount (now (log .entry)) ⌝ }
 {
     from_end(log, TRAILER_BYTES)
 }

@@ -1,3 +1,3 @@
-pub mod Tick
+pub mod RecordRight
 pub mod Own
 pub mod Room

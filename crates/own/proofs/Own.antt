@@ -2,21 +2,21 @@
 use Rattle.laws.proofs.Prelude.{_≡_, refl, sym, ap, subst, _∙_, Bool, true, false, List, [], _∷_, _++_, ℕ, Float, length}
 use Rattle.words.specs.Words.{word, float, bytesOf}
 use Rattle.latch.specs.Latch.{after}
-use Rattle.relay_geo.specs.{declared.shield.SimplexShield.SimplexShield, Shield.{mend, newShield}}
+use Rattle.relay_geo.specs.{declared.shield.SimplexShield.SimplexShield, Shield.{mendThresholds, newShield}}
 use Rattle.joint_tick.specs.{declared.state.State.State, Profile.{isProfile, profileOf}, SetUp.setUp}
 use Rattle.image.{specs.{Layout.{SETUP-ENTER, SETUP-EXIT, SETUP-PROFILE}, Image.fixedAt, Inputs.setupAt}, proofs.Decoded.decode-encode}
 use Rattle.outcome.specs.{declared.Outcome.the-variants.Done, Outcomes.{isDone, left}}
-use Rattle.lent_tick.{specs.Steps.shieldOf, proofs.Going.set-up-fits}
-use Rattle.log.{specs.{Form.isLog, Records.records, Runs.{Given, NoneRefused, recordsOf, atFirst}}, proofs.Reading.{kept-all, records-kept, never-refused}}
-use Rattle.runs.specs.{Runs.{Call, Ticks, Exchanges, tickOf, leftBy, marginsOf, start, imageAfter}, DemandThree.{enterOf, exitOf}}
-use Rattle.runs.proofs.Going.{call-steps, start-engaged, thresholds-in-order, thresholds-kept, ran}
-use Rattle.audit.{specs.{declared.Verdict.the-variants.AllRight, Verdict.verdictOf, Entry.{verdictOn, checkCall}}, proofs.{Carried.{Carried, carried-right}, Call.taken}}
+use Rattle.lent_tick.{specs.Steps.shieldAt, proofs.NeverRefused.set-up-fits}
+use Rattle.log.{specs.{Form.isLog, Records.records, Runs.{ToAppend, NoneRefused, recordsOf, atFirst}}, proofs.Reading.{kept-all, records-kept, never-refused}}
+use Rattle.runs.specs.{Runs.{Call, Ticks, Exchanges, tickOf, leftBy, marginsBy, start, imageAfter}, DemandThree.{enterOf, exitOf}}
+use Rattle.runs.proofs.Induction.{call-steps, start-engaged, thresholds-in-order, thresholds-kept, ran}
+use Rattle.audit.{specs.{declared.Verdict.the-variants.AllRight, Verdict.verdictOf, Entry.{verdictOn, checkCall}}, proofs.{Carried.{Carried, carried-right}, VerdictCall.taken}}
 use Rattle.own.specs.Own.{keepsOf, keepsAlong, ticksKept, ownLog}
-use Rattle.own.proofs.Tick.{margin-kept, right-kept}
+use Rattle.own.proofs.RecordRight.{margin-kept, right-kept}
 
 -- ---- the records of a run, call by call
 
-records-in-turn : (xs ys : List Given) → recordsOf (xs ++ ys) ≡ recordsOf xs ++ recordsOf ys
+records-in-turn : (xs ys : List ToAppend) → recordsOf (xs ++ ys) ≡ recordsOf xs ++ recordsOf ys
 unfolding recordsOf
 records-in-turn [] ys = refl
 records-in-turn (g ∷ xs) ys = ap (λ (rs : List (List ℕ)). (g .input ++ g .answer) ∷ rs) (records-in-turn xs ys)
@@ -41,35 +41,35 @@ module _ (setup : List ℕ) (p : isProfile (word setup SETUP-PROFILE) ≡ true) 
     image = imageAfter (start setup) calls
 
     -- the flag that a call leaves
-    engaged-after : (c : Call) → shieldOf (leftBy image c) .engaged ≡ after (enterOf setup) (exitOf setup) (shieldOf image .engaged) (marginsOf image c)
+    engaged-after : (c : Call) → shieldAt (leftBy image c) .engaged ≡ after (enterOf setup) (exitOf setup) (shieldAt image .engaged) (marginsBy image c)
     unfolding fixedAt
     engaged-after c =
         ap (λ (h : SimplexShield). h .engaged) (call-steps image c (ran setup calls .unbroken) .shield)
         ∙ rw (thresholds-kept setup calls .0, thresholds-kept setup calls .1)
 
     -- the record of a call, if it has one, and what follows
-    one-right : (c : Call) (rs : List (List ℕ)) → Right (shieldOf (leftBy image c) .engaged) rs → Right (shieldOf image .engaged) (recordsOf (keepsOf image c) ++ rs)
-    unfolding keepsOf recordsOf marginsOf after
+    one-right : (c : Call) (rs : List (List ℕ)) → Right (shieldAt (leftBy image c) .engaged) rs → Right (shieldAt image .engaged) (recordsOf (keepsOf image c) ++ rs)
+    unfolding keepsOf recordsOf marginsBy after
     one-right (Exchanges segment) rs r = subst (λ (b : Bool). Right b rs) (engaged-after (Exchanges segment)) r
     one-right (Ticks t) rs r = go (isDone (tickOf image t .outcome)) refl (subst (λ (b : Bool). Right b rs) (engaged-after (Ticks t)) r)
       where
-        go : (b : Bool) → isDone (tickOf image t .outcome) ≡ b → Right (after (enterOf setup) (exitOf setup) (shieldOf image .engaged) (marginsOf image (Ticks t))) rs
-            → Right (shieldOf image .engaged) (recordsOf (keepsOf image (Ticks t)) ++ rs)
+        go : (b : Bool) → isDone (tickOf image t .outcome) ≡ b → Right (after (enterOf setup) (exitOf setup) (shieldAt image .engaged) (marginsBy image (Ticks t))) rs
+            → Right (shieldAt image .engaged) (recordsOf (keepsOf image (Ticks t)) ++ rs)
         go true d r = rw d (right-kept setup calls t p d, rw (margin-kept setup calls t p d) (rw d at r))
         go false d r = rw d (rw d at r)
 
-  along : (before calls : List Call) → let image = imageAfter (start setup) before in Right (shieldOf image .engaged) (ticksKept image calls)
+  along : (before calls : List Call) → let image = imageAfter (start setup) before in Right (shieldAt image .engaged) (ticksKept image calls)
   unfolding keepsAlong recordsOf
   along before [] = tt
   along before (c ∷ calls) =
       let image = imageAfter (start setup) before in
       rw (next-kept image c calls)
       (one-right before c (ticksKept (leftBy image c) calls)
-      (subst (λ (later : List ℕ). Right (shieldOf later .engaged) (ticksKept later calls)) (after-one (start setup) before c) (along (before ++ c ∷ []) calls)))
+      (subst (λ (later : List ℕ). Right (shieldAt later .engaged) (ticksKept later calls)) (after-one (start setup) before c) (along (before ++ c ∷ []) calls)))
 
   -- ---- set-up's thresholds are what the check mends
 
-  thresholds : (enterOf setup ≡ mend (float setup SETUP-ENTER) (float setup SETUP-EXIT) .enter) × (exitOf setup ≡ mend (float setup SETUP-ENTER) (float setup SETUP-EXIT) .exit)
+  thresholds : (enterOf setup ≡ mendThresholds (float setup SETUP-ENTER) (float setup SETUP-EXIT) .enter) × (exitOf setup ≡ mendThresholds (float setup SETUP-ENTER) (float setup SETUP-EXIT) .exit)
   unfolding start setUp setupAt newShield fixedAt
   thresholds =
       let e = decode-encode (setUp (setupAt setup)) (set-up-fits setup) in
@@ -82,7 +82,7 @@ module _ (setup : List ℕ) (p : isProfile (word setup SETUP-PROFILE) ≡ true) 
     unfolding verdictOn imageAfter
     any-log-right =
         let by = profileOf (word setup SETUP-PROFILE) in
-        let t = mend (float setup SETUP-ENTER) (float setup SETUP-EXIT) in
+        let t = mendThresholds (float setup SETUP-ENTER) (float setup SETUP-EXIT) in
         let rs = ticksKept (start setup) calls in
         ap (λ (l : List (List ℕ)). verdictOf by (t .enter) (t .exit) l) e
         ∙ ap (λ (x : Float). verdictOf by x (t .exit) rs) (sym (thresholds .0))

@@ -3,19 +3,19 @@ use Rattle.laws.proofs.Prelude.{_≡_, refl, sym, ap, subst, _∙_, Bool, true,
 use Rattle.laws.proofs.Prelude.{no}
 use Rattle.words.specs.Words.{word, float, bytesOf}
 use Rattle.joint_tick.specs.{Profile.isProfile, Tick.ticked}
-use Rattle.image.{specs.{Layout.{INPUT-BYTES, ANSWER-BYTES, SETUP-ENTER, SETUP-EXIT, SETUP-PROFILE}, Image.stateAt, Inputs.inputAt}, proofs.Answered.answer-length}
+use Rattle.image.{specs.{Layout.{INPUT-BYTES, ANSWER-BYTES, SETUP-ENTER, SETUP-EXIT, SETUP-PROFILE}, Image.stateAt, Inputs.inputAt}, proofs.AnswerWords.answer-length}
 use Rattle.outcome.{specs.{declared.Outcome.the-variants.Done, Outcomes.{isDone, left, Filled, Called}}, proofs.Tables.either}
 use Rattle.lent_tick.specs.Tick.{tickFrom}
-use Rattle.log.specs.{Form.{RECORD-BYTES, MOST-RECORDS, emptyLog, countOf, isLog}, Records.records, Entry.{appendRefusal, appendCall}}
-use Rattle.log.specs.Runs.{Held, logIn, Given, appended, afterOne, afterAll, keptAlong, NoneRefused, recordsOf, atFirst}
+use Rattle.log.specs.{Form.{RECORD-BYTES, MOST-RECORDS, emptyLog, recordCount, isLog}, Records.records, Entry.{appendRefusal, appendCall}}
+use Rattle.log.specs.Runs.{LogBuffer, logIn, ToAppend, appended, afterOne, afterAll, keptAlong, NoneRefused, recordsOf, atFirst}
 use Rattle.log.proofs.Reading.{after-appends, records-count, kept-all, never-refused, records-kept}
 use Rattle.runs.{specs.Runs.{Tick, Call, Ticks, Exchanges, tickOf, sourceOn, leftBy, start}, proofs.Shown.{refusalOn, flying-is}}
 use Rattle.audit.specs.Entry.{checkCall}
 use Rattle.own.specs.Own.{keepsOf, keepsAlong, ownLog}
-use Rattle.own.proofs.{Tick.accepted-right, Own.own-log-accepted}
+use Rattle.own.proofs.{RecordRight.accepted-right, Own.own-log-accepted}
 
 -- a log, and room for m records more
-record Room (h : Held) (m : ℕ) : Type 0 where
+record Room (h : LogBuffer) (m : ℕ) : Type 0 where
   log : isLog (logIn h) ≡ true
   few : length (records (logIn h)) + m ≤ MOST-RECORDS
   room : h .len + RECORD-BYTES * m ≤ length (h .buffer)
@@ -23,13 +23,13 @@ record Room (h : Held) (m : ℕ) : Type 0 where
 -- ---- one append
 
 -- taken or refused, it keeps the buffer's length
-as-long : (h : Held) (g : Given) → length (appended h g .later) ≡ length (h .buffer)
+as-long : (h : LogBuffer) (g : ToAppend) → length (appended h g .later) ≡ length (h .buffer)
 unfolding appendCall
 as-long h g =
     either (λ (l : Filled). length (l .later) ≡ length (h .buffer)) (appendRefusal (h .buffer) (h .len) (length (g .input)) (length (g .answer)))
     (λ d. simp length-sets) (λ d. refl)
 
-module _ (h : Held) (g : Given) (m : ℕ) (r : Room h (suc m)) (i : length (g .input) ≡ INPUT-BYTES) (a : length (g .answer) ≡ ANSWER-BYTES) where
+module _ (h : LogBuffer) (g : ToAppend) (m : ℕ) (r : Room h (suc m)) (i : length (g .input) ≡ INPUT-BYTES) (a : length (g .answer) ≡ ANSWER-BYTES) where
   -- where there is room, nothing is refused
   taken : isDone (appended h g .outcome) ≡ true
   unfolding appendCall appendRefusal
@@ -41,7 +41,7 @@ module _ (h : Held) (g : Given) (m : ℕ) (r : Room h (suc m)) (i : length (g .i
         le-ltb n (h .len) (omega arith),
         r .log,
         le-ltb (n - h .len) RECORD-BYTES (omega arith),
-        ne-eqb (countOf (logIn h)) MOST-RECORDS (λ e. omega (arith, records-count (logIn h) (r .log))),
+        ne-eqb (recordCount (logIn h)) MOST-RECORDS (λ e. omega (arith, records-count (logIn h) (r .log))),
       )
 
   -- and it leaves room for one record less
@@ -68,14 +68,14 @@ answer-whole image t =
     (either P (refusalOn (t .course) image (length (t .input)) (length (t .answer))) (λ e z. answer-length (ticked source (stateAt image) (inputAt (t .input)) .answer)) (λ e z. no (sym e ∙ z)))
 
 -- whatever call it is: its record is kept if it has one, and the rest of the room is left
-one-call : (image : List ℕ) (h : Held) (c : Call) (m : ℕ) → Room h (length (keepsOf image c) + m) → NoneRefused h (keepsOf image c) × Room (afterAll h (keepsOf image c)) m
+one-call : (image : List ℕ) (h : LogBuffer) (c : Call) (m : ℕ) → Room h (length (keepsOf image c) + m) → NoneRefused h (keepsOf image c) × Room (afterAll h (keepsOf image c)) m
 unfolding keepsOf NoneRefused afterAll
 one-call image h (Exchanges segment) m r = (tt, subst (Room h) (zero-add m) r)
 one-call image h (Ticks t) m r = go (isDone (tickOf image t .outcome)) refl
   where
     go : (b : Bool) → isDone (tickOf image t .outcome) ≡ b → NoneRefused h (keepsOf image (Ticks t)) × Room (afterAll h (keepsOf image (Ticks t))) m
     go true d =
-        let g : Given = record { input = t .input; answer = tickOf image t .later .answer } in
+        let g : ToAppend = record { input = t .input; answer = tickOf image t .later .answer } in
         let i = accepted-right image t d .0 in
         let a = answer-whole image t d in
         let one : Room h (suc m) = let e : 1 + m ≡ suc m = omega arith in subst (Room h) e (rw d at r) in
@@ -84,12 +84,12 @@ one-call image h (Ticks t) m r = go (isDone (tickOf image t .outcome)) refl
 
 -- ---- any number of them
 
-in-turn : (h : Held) (xs ys : List Given) → NoneRefused h xs → NoneRefused (afterAll h xs) ys → NoneRefused h (xs ++ ys)
+in-turn : (h : LogBuffer) (xs ys : List ToAppend) → NoneRefused h xs → NoneRefused (afterAll h xs) ys → NoneRefused h (xs ++ ys)
 unfolding NoneRefused afterAll
 in-turn h [] ys n m = m
 in-turn h (g ∷ xs) ys n m = (n .0, in-turn (afterOne h g) xs ys (n .1) m)
 
-all-kept : (image : List ℕ) (h : Held) (calls : List Call) → Room h (length (keepsAlong image calls)) → NoneRefused h (keepsAlong image calls)
+all-kept : (image : List ℕ) (h : LogBuffer) (calls : List Call) → Room h (length (keepsAlong image calls)) → NoneRefused h (keepsAlong image calls)
 unfolding keepsAlong NoneRefused
 all-kept image h [] r = tt
 all-kept image h (c ∷ calls) r =

@@ -2,13 +2,13 @@
 use Rattle.laws.proofs.Prelude.{_≡_, refl, sym, ap, subst, _∙_, true, false, List, [], _∷_, _++_, append-assoc, ℕ, zero, suc, _+_, _-_, _*_, _≤_, _<_, add-assoc, mod-eq-of-lt, le-of-suc-le-suc}
 use Rattle.laws.proofs.Prelude.{add-one, arith, le-ltb, eq-eqb, ne-eqb, ltb-false, eqb-false, not-false, length, getD, take, drop, length-append, List·getD-append, sets, sets-eq, drop-at}
 use Rattle.laws.proofs.Prelude.{getD-append-add, no, both}
-use Rattle.words.{specs.Words.{fourBytes, word, float, floatOf, vec, bytesOf as wordBytes}, proofs.Back.{four-after, word-bytesOf}}
+use Rattle.words.{specs.Words.{fourBytes, word, float, floatOf, vec, bytesOf as wordBytes}, proofs.WordsBack.{four-after, word-bytesOf}}
 use Rattle.image.specs.{Layout.LEG-BYTES, Parts.legAt}
 use Rattle.outcome.{specs.{declared.Outcome.the-variants.Done, Outcomes.{isDone, left}}, proofs.Tables.{done-none, refused-keeps, either}}
-use Rattle.route.{specs.Form.{TRAILER-BYTES, MOST-LEGS, countOf, backOf, legOf, legsMeet, formRefusal, allMeet as routeMeets}, proofs.Joins.joins-say}
-use Rattle.pattern.specs.{Tree.{Pattern, flown, times, repeat, bytesOf, Fits}, Read.{Read, broken, is, read}}
-use Rattle.pattern.specs.Entry.{DEEPEST, joined, routeLength, routeOf, allMeet, legsRead, legsOf, expandTable, expandRefusal, buffers, Expanded, withRoute, expandCall, routeCall}
-use Rattle.pattern.proofs.{Runs.run-slice, Long.{AllLong, Long, long-read}, Call.expanded, Back.reads-back}
+use Rattle.route.{specs.Form.{ROUTE-TRAILER-BYTES, MOST-LEGS, legCount, backOf, legOf, legsMeet, formRefusal, allMeet as routeMeets}, proofs.Joins.joins-say}
+use Rattle.pattern.specs.{Tree.{Pattern, flownLegs, times, repeat, patternBytes, WithinLimits}, Read.{Read, broken, is, read}}
+use Rattle.pattern.specs.Entry.{DEEPEST, joined, routeLength, routeOf, flownMeet, legsRead, legsOf, expandTable, expandRefusal, buffers, Expanded, withRoute, expandCall, expandedCall}
+use Rattle.pattern.proofs.{Runs.run-slice, Long.{AllLong, Long, long-read}, ExpandCall.expanded, ReadBack.reads-back}
 
 -- ---- the trailer
 
@@ -26,10 +26,10 @@ module _ (ls : List (List ℕ)) (a : AllLong ls) where
   route-length = omega (arith, length-append (joined ls) (wordBytes trailer), joined-length ls a)
 
   module _ (few : length ls ≤ MOST-LEGS) where
-    count-back : countOf (routeOf ls) ≡ length ls
-    unfolding countOf routeOf word
+    count-back : legCount (routeOf ls) ≡ length ls
+    unfolding legCount routeOf word
     count-back =
-        let at : length (routeOf ls) - TRAILER-BYTES ≡ length (joined ls) + 0 = omega (arith, length-append (joined ls) (wordBytes trailer)) in
+        let at : length (routeOf ls) - ROUTE-TRAILER-BYTES ≡ length (joined ls) + 0 = omega (arith, length-append (joined ls) (wordBytes trailer)) in
         ap (fourBytes (routeOf ls)) at ∙ four-after (joined ls) (wordBytes trailer) 0 ∙ word-bytesOf trailer 0 ∙ mod-eq-of-lt (omega arith)
 
     back-back : backOf (routeOf ls) ≡ LEG-BYTES * length ls
@@ -91,14 +91,14 @@ leg-of-route ls i a h =
     ap (λ (j : ℕ). getD (routeOf ls) j 0) e ∙ leg-byte ls (wordBytes (length ls ∷ LEG-BYTES * length ls ∷ [])) i m a h l)
 
 -- "the legs must meet": each leg and the one that is flown after it
-pub meet-each : (ls : List (List ℕ)) → allMeet ls ≡ true → (i : ℕ) → suc i < length ls → legsMeet (legAt (getD ls i []) 0) (legAt (getD ls (suc i) []) 0) ≡ true
-unfolding allMeet
+pub meet-each : (ls : List (List ℕ)) → flownMeet ls ≡ true → (i : ℕ) → suc i < length ls → legsMeet (legAt (getD ls i []) 0) (legAt (getD ls (suc i) []) 0) ≡ true
+unfolding flownMeet
 meet-each [] e i h = absurd (omega arith)
 meet-each (l ∷ []) e i h = absurd (omega arith)
-meet-each (l ∷ m ∷ ls) e zero h = both (legsMeet (legAt l 0) (legAt m 0)) (allMeet (m ∷ ls)) e .0
-meet-each (l ∷ m ∷ ls) e (suc i) h = meet-each (m ∷ ls) (both (legsMeet (legAt l 0) (legAt m 0)) (allMeet (m ∷ ls)) e .1) i (le-of-suc-le-suc h)
+meet-each (l ∷ m ∷ ls) e zero h = both (legsMeet (legAt l 0) (legAt m 0)) (flownMeet (m ∷ ls)) e .0
+meet-each (l ∷ m ∷ ls) e (suc i) h = meet-each (m ∷ ls) (both (legsMeet (legAt l 0) (legAt m 0)) (flownMeet (m ∷ ls)) e .1) i (le-of-suc-le-suc h)
 
-meet-in-route : (ls : List (List ℕ)) → AllLong ls → allMeet ls ≡ true → routeMeets (routeOf ls) (length ls) ≡ true
+meet-in-route : (ls : List (List ℕ)) → AllLong ls → flownMeet ls ≡ true → routeMeets (routeOf ls) (length ls) ≡ true
 meet-in-route ls a e = joins-say (routeOf ls) (length ls) .1 (λ i h.
     let n = add-one i in
     let l : suc i < length ls = subst (λ (j : ℕ). j < length ls) n h in
@@ -106,7 +106,7 @@ meet-in-route ls a e = joins-say (routeOf ls) (length ls) .1 (λ i h.
 
 -- ---- a route of 1 to 32 legs that meet is taken
 
-pub route-taken : (ls : List (List ℕ)) → AllLong ls → 1 ≤ length ls → length ls ≤ MOST-LEGS → allMeet ls ≡ true → formRefusal (routeOf ls) ≡ Done
+pub route-taken : (ls : List (List ℕ)) → AllLong ls → 1 ≤ length ls → length ls ≤ MOST-LEGS → flownMeet ls ≡ true → formRefusal (routeOf ls) ≡ Done
 unfolding formRefusal
 route-taken ls a some few e =
     let n = length ls in
@@ -115,7 +115,7 @@ route-taken ls a some few e =
       back-back ls a few,
       meet-in-route ls a e,
       route-length ls a,
-      le-ltb (routeLength n) TRAILER-BYTES (omega arith),
+      le-ltb (routeLength n) ROUTE-TRAILER-BYTES (omega arith),
       ne-eqb n 0 (λ z. omega arith),
       le-ltb MOST-LEGS n few,
       eq-eqb (LEG-BYTES * n) (LEG-BYTES * n) refl,
@@ -133,7 +133,7 @@ pub record Taken (b : List ℕ) (routeLen : ℕ) : Type 0 where
   pub some : 1 ≤ length (legsOf b)
   pub few : length (legsOf b) ≤ MOST-LEGS
   pub room : routeLength (length (legsOf b)) ≤ routeLen
-  pub meet : allMeet (legsOf b) ≡ true
+  pub meet : flownMeet (legsOf b) ≡ true
   pub long : AllLong (legsOf b)
 
 pub taken : (b : List ℕ) (routeLen writtenLen : ℕ) → isDone (expandRefusal b routeLen writtenLen) ≡ true → Taken b routeLen
@@ -145,7 +145,7 @@ taken b routeLen writtenLen e =
       some = pos n (eqb-false n 0 (t 2));
       few = ltb-false MOST-LEGS n (t 3);
       room = ltb-false routeLen (routeLength n) (t 4);
-      meet = not-false (allMeet (legsOf b)) (t 5);
+      meet = not-false (flownMeet (legsOf b)) (t 5);
       long = long-legs (read DEEPEST b) (long-read DEEPEST b);
     }
   where
@@ -187,16 +187,16 @@ unfolding expandCall
 refused-writes-nothing b route written e = refused-keeps (expandRefusal b (length route) (length written)) _ _ e
 
 -- "expanding equals the legs in flown order": of every pattern at most four deep that has bytes
-pub expands : (p : Pattern) (route written : List ℕ) → Fits DEEPEST p → length written ≡ 4 → 1 ≤ length (flown p) → length (flown p) ≤ MOST-LEGS
-    → routeLength (length (flown p)) ≤ length route → allMeet (flown p) ≡ true → expandCall (bytesOf p) route written ≡ left Done (withRoute (flown p) route)
-unfolding routeCall
+pub expands : (p : Pattern) (route written : List ℕ) → WithinLimits DEEPEST p → length written ≡ 4 → 1 ≤ length (flownLegs p) → length (flownLegs p) ≤ MOST-LEGS
+    → routeLength (length (flownLegs p)) ≤ length route → flownMeet (flownLegs p) ≡ true → expandCall (patternBytes p) route written ≡ left Done (withRoute (flownLegs p) route)
+unfolding expandedCall
 expands p route written f k some few room e =
-    sym (expanded (bytesOf p) route written k p (reads-back DEEPEST p f) some few) ∙ rw (le-ltb (length route) (routeLength (length (flown p))) room, e)
+    sym (expanded (patternBytes p) route written k p (reads-back DEEPEST p f) some few) ∙ rw (le-ltb (length route) (routeLength (length (flownLegs p))) room, e)
 
 -- ---- "the legs must meet across repeats"
 
 -- the last leg of a round and the first of the next, whatever is flown before and after
-pub rounds-meet : (xs ms ys : List (List ℕ)) (n : ℕ) → 1 ≤ length ms → allMeet (xs ++ (times (suc (suc n)) ms ++ ys)) ≡ true
+pub rounds-meet : (xs ms ys : List (List ℕ)) (n : ℕ) → 1 ≤ length ms → flownMeet (xs ++ (times (suc (suc n)) ms ++ ys)) ≡ true
     → legsMeet (legAt (getD ms (length ms - 1) []) 0) (legAt (getD ms 0 []) 0) ≡ true
 unfolding times
 rounds-meet xs ms ys n h e =
@@ -223,6 +223,6 @@ no-rounds zero = refl
 no-rounds (suc n) = no-rounds n
 
 -- a repeat that holds no leg stands between no two legs
-pub empty-repeat : (n : ℕ) (inner more : Pattern) → flown inner ≡ [] → flown (repeat n inner more) ≡ flown more
-unfolding flown times
-empty-repeat n inner more e = ap (λ (l : List (List ℕ)). times n l ++ flown more) e ∙ ap (λ (l : List (List ℕ)). l ++ flown more) (no-rounds n)
+pub empty-repeat : (n : ℕ) (inner more : Pattern) → flownLegs inner ≡ [] → flownLegs (repeat n inner more) ≡ flownLegs more
+unfolding flownLegs times
+empty-repeat n inner more e = ap (λ (l : List (List ℕ)). times n l ++ flownLegs more) e ∙ ap (λ (l : List (List ℕ)). l ++ flownLegs more) (no-rounds n)

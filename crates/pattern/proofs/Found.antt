@@ -5,7 +5,7 @@ use lib.{ListN.List·getD-map, Seq.{take-suc, drop-cons}}
 use Rattle.words.proofs.Written.{sets-append}
 use Rattle.image.specs.{Layout.LEG-BYTES, Parts.legAt}
 use Rattle.route.specs.Form.{legsMeet}
-use Rattle.pattern.specs.{Walk.{legIn, Places}, Entry.{allMeet, joined}}
+use Rattle.pattern.specs.{Walk.{legIn, Places}, Entry.{flownMeet, joined}}
 
 pub leg-length : (b : List ℕ) (place : ℕ) → place + LEG-BYTES ≤ length b → length (legIn b place) ≡ LEG-BYTES
 leg-length b place h = length-take-le LEG-BYTES (drop place b) (omega (arith, length-drop place b))
@@ -14,8 +14,8 @@ leg-length b place h = length-take-le LEG-BYTES (drop place b) (omega (arith, le
 abbrev pub legsAt : List ℕ → List ℕ → ℕ → List (List ℕ)
 legsAt b places n = map (legIn b) (take n places)
 
-short-meets : (ls : List (List ℕ)) → length ls ≤ 1 → allMeet ls ≡ true
-unfolding allMeet
+short-meets : (ls : List (List ℕ)) → length ls ≤ 1 → flownMeet ls ≡ true
+unfolding flownMeet
 short-meets [] h = refl
 short-meets (l ∷ []) h = refl
 short-meets (l ∷ m ∷ ls) h = absurd (omega arith)
@@ -40,22 +40,22 @@ module _ (b places : List ℕ) (n : ℕ) (few : n ≤ length places) where
   -- ---- the joins from leg i on
 
   module _ (i : ℕ) (first : 1 ≤ i) where
-    meets-here : i < n → allMeet (drop (i - 1) (legsAt b places n))
-        ≡ (legsMeet (legAt (legIn b (getD places (i - 1) 0)) 0) (legAt (legIn b (getD places i 0)) 0) && allMeet (drop i (legsAt b places n)))
-    unfolding allMeet
+    meets-here : i < n → flownMeet (drop (i - 1) (legsAt b places n))
+        ≡ (legsMeet (legAt (legIn b (getD places (i - 1) 0)) 0) (legAt (legIn b (getD places i 0)) 0) && flownMeet (drop i (legsAt b places n)))
+    unfolding flownMeet
     meets-here h =
         let e : suc (i - 1) ≡ i = omega arith in
-        ap allMeet (from-leg (i - 1) (omega arith)) ∙ rw (e, from-leg i h)
+        ap flownMeet (from-leg (i - 1) (omega arith)) ∙ rw (e, from-leg i h)
 
     pub meet-on : i < n → legsMeet (legAt (legIn b (getD places (i - 1) 0)) 0) (legAt (legIn b (getD places i 0)) 0) ≡ true
-        → allMeet (drop (i + 1 - 1) (legsAt b places n)) ≡ allMeet (drop (i - 1) (legsAt b places n))
+        → flownMeet (drop (i + 1 - 1) (legsAt b places n)) ≡ flownMeet (drop (i - 1) (legsAt b places n))
     meet-on h e = let f : i + 1 - 1 ≡ i = omega arith in rw f (sym (meets-here h ∙ rw e))
 
     pub meet-stops : i < n → legsMeet (legAt (legIn b (getD places (i - 1) 0)) 0) (legAt (legIn b (getD places i 0)) 0) ≡ false
-        → allMeet (drop (i - 1) (legsAt b places n)) ≡ false
+        → flownMeet (drop (i - 1) (legsAt b places n)) ≡ false
     meet-stops h e = meets-here h ∙ rw e
 
-    pub meet-ends : n ≤ i → allMeet (drop (i - 1) (legsAt b places n)) ≡ true
+    pub meet-ends : n ≤ i → flownMeet (drop (i - 1) (legsAt b places n)) ≡ true
     meet-ends h = short-meets (drop (i - 1) (legsAt b places n)) (omega (arith, length-drop (i - 1) (legsAt b places n), how-many))
 
   -- ---- one leg more

@@ -3,8 +3,8 @@ use Rattle.laws.proofs.Prelude.{_≡_, refl, sym, subst, _∙_, Bool, true, fal
 use Rattle.image.specs.Parts.{legAt}
 use Rattle.outcome.{specs.{declared.Outcome.{Outcome, the-variants.{Done, PassThrough, LegsApart}}, Outcomes.{isDone, Table, firstOf, left}}, proofs.Tables.{never-given, either}}
 use Rattle.route.specs.Form.{legsMeet}
-use Rattle.pattern.specs.{Tree.{Pattern, flown}, Read.{Read, broken, is, read}, Entry.{DEEPEST, allMeet, legsRead, legsOf, expandTable, expandRefusal, Expanded, withRoute, expandCall}}
-use Rattle.pattern.proofs.{Back.{Bytes, Written, writes-back}, Flies.taken}
+use Rattle.pattern.specs.{Tree.{Pattern, flownLegs}, Read.{Read, broken, is, read}, Entry.{DEEPEST, flownMeet, legsRead, legsOf, expandTable, expandRefusal, Expanded, withRoute, expandCall}}
+use Rattle.pattern.proofs.{ReadBack.{Bytes, Written, writes-back}, Flies.taken}
 
 -- ---- done
 
@@ -12,7 +12,7 @@ use Rattle.pattern.proofs.{Back.{Bytes, Written, writes-back}, Flies.ta
 pub record From (b route : List ℕ) (later : Expanded) : Type 0 where
   pub pattern : Pattern
   pub written : Written DEEPEST b pattern
-  pub legs : later ≡ left Done (withRoute (flown pattern) route)
+  pub legs : later ≡ left Done (withRoute (flownLegs pattern) route)
 
 pub accepted-from : (b route written : List ℕ) → Bytes b → isDone (expandCall b route written .outcome) ≡ true → From b route (expandCall b route written)
 unfolding expandCall legsRead
@@ -33,11 +33,11 @@ pub record Apart (ls : List (List ℕ)) : Type 0 where
   pub within : suc i < length ls
   pub apart : legsMeet (legAt (getD ls i []) 0) (legAt (getD ls (suc i) []) 0) ≡ false
 
-find-apart : (ls : List (List ℕ)) → allMeet ls ≡ false → Apart ls
-unfolding allMeet
+find-apart : (ls : List (List ℕ)) → flownMeet ls ≡ false → Apart ls
+unfolding flownMeet
 find-apart [] e = no (sym e)
 find-apart (l ∷ []) e = no (sym e)
-find-apart (l ∷ m ∷ ls) e = here (legsMeet (legAt l 0) (legAt m 0)) (allMeet (m ∷ ls)) refl e (find-apart (m ∷ ls))
+find-apart (l ∷ m ∷ ls) e = here (legsMeet (legAt l 0) (legAt m 0)) (flownMeet (m ∷ ls)) refl e (find-apart (m ∷ ls))
   where
     here : (a b : Bool) → legsMeet (legAt l 0) (legAt m 0) ≡ a → (a && b) ≡ false → (b ≡ false → Apart (m ∷ ls)) → Apart (l ∷ m ∷ ls)
     here false b p q r = record { i = 0; within = suc-le-suc (zero-lt-suc (length ls)); apart = p }
@@ -56,12 +56,12 @@ idle ((false, x) ∷ rows) o = idle rows o
 -- 7 is given only if two neighbours do not meet
 pub seven-apart : (b : List ℕ) (routeLen writtenLen : ℕ) → expandRefusal b routeLen writtenLen ≡ LegsApart → Apart (legsOf b)
 unfolding expandRefusal
-seven-apart b routeLen writtenLen e = go (allMeet (legsOf b)) refl
+seven-apart b routeLen writtenLen e = go (flownMeet (legsOf b)) refl
   where
     rows : Table
     rows = earlier b routeLen writtenLen
 
-    go : (t : Bool) → allMeet (legsOf b) ≡ t → Apart (legsOf b)
+    go : (t : Bool) → flownMeet (legsOf b) ≡ t → Apart (legsOf b)
     go false p = find-apart (legsOf b) p
     go true p = absurd (never-given LegsApart refl rows refl (sym (idle rows LegsApart) ∙ subst (λ (t : Bool). firstOf (rows ++ (not t, LegsApart) ∷ []) ≡ LegsApart) p e))
 

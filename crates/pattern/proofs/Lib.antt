@@ -2,12 +2,12 @@ pub mod Parts
 pub mod Runs
 pub mod Heads
 pub mod Trees
-pub mod Walks
+pub mod Rounds
 pub mod Found
-pub mod Going
+pub mod ItemByItem
 pub mod Long
-pub mod Call
+pub mod ExpandCall
 pub mod OneAnswer
-pub mod Back
+pub mod ReadBack
 pub mod Flies
 pub mod From

@@ -3,7 +3,7 @@ use Rattle.laws.proofs.Prelude.{_≡_, sym, ap, subst, inl, inr, List, [], _∷
 use Rattle.laws.proofs.Prelude.{length-take-le, take-all, le-or-lt}
 use Rattle.image.specs.Layout.{LEG-BYTES}
 use Rattle.outcome.proofs.Tables.{by-test}
-use Rattle.pattern.specs.{declared.form.Head.{Head, the-variants.{Neither, Leg, Repeat}}, Tree.{times, flown}, Read.{Read, broken, is, headOf, sizeOf, repeated, itemOf, before, itemsOf, read}}
+use Rattle.pattern.specs.{declared.form.Head.{Head, the-variants.{Neither, Leg, Repeat}}, Tree.{times, flownLegs}, Read.{Read, broken, is, headOf, sizeOf, repeated, itemOf, before, itemsOf, read}}
 use Rattle.pattern.specs.Walk.{legIn}
 use Rattle.pattern.proofs.{Heads.{Room, head-room}, Trees.flown-append}
 
@@ -22,28 +22,28 @@ long-times (suc n) ls a = long-append ls (times n ls) a (long-times n ls a)
 
 abbrev pub Long : Read → Type 0
 Long broken = Unit
-Long (is p) = AllLong (flown p)
+Long (is p) = AllLong (flownLegs p)
 
 long-before : (r s : Read) → Long r → Long s → Long (before r s)
 unfolding before
 long-before broken s a b = tt
 long-before (is p) broken a b = tt
-long-before (is p) (is q) a b = subst AllLong (sym (flown-append p q)) (long-append (flown p) (flown q) a b)
+long-before (is p) (is q) a b = subst AllLong (sym (flown-append p q)) (long-append (flownLegs p) (flownLegs q) a b)
 
 long-repeated : (n : ℕ) (r : Read) → Long r → Long (repeated n r)
-unfolding repeated flown
+unfolding repeated flownLegs
 long-repeated n broken a = tt
-long-repeated n (is p) a = subst AllLong (sym (append-nil (times n (flown p)))) (long-times n (flown p) a)
+long-repeated n (is p) a = subst AllLong (sym (append-nil (times n (flownLegs p)))) (long-times n (flownLegs p) a)
 
 module _ (inside : List ℕ → Read) (f : (b : List ℕ) → Long (inside b)) where
   long-item : (b : List ℕ) (h : Head) → Room (length b) h → Long (itemOf inside b h)
-  unfolding itemOf flown
+  unfolding itemOf flownLegs
   long-item b Neither r = tt
   long-item b Leg r = (length-take-le LEG-BYTES (drop 1 b) (omega (arith, r, length-drop 1 b)), tt)
   long-item b (Repeat n len) r = long-repeated n (inside (take len (drop 4 b))) (f (take len (drop 4 b)))
 
   long-items : (n : ℕ) (b : List ℕ) → Long (itemsOf inside n b)
-  unfolding itemsOf flown
+  unfolding itemsOf flownLegs
   long-items zero b = tt
   long-items (suc n) b =
       let item = itemOf inside b (headOf b) in

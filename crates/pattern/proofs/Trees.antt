@@ -1,6 +1,6 @@
 -- Laws of reading: items one after another, and how many turns are enough. Assumes nothing.
 use Rattle.laws.proofs.Prelude.{_≡_, refl, sym, ap, _∙_, inl, inr, List, _∷_, _++_, append-assoc, ℕ, zero, suc, _-_, _≤_, _<_, arith, eq-eqb, ne-eqb, length, drop, length-drop, le-or-lt}
-use Rattle.pattern.specs.{Tree.{Pattern, nothing, leg, repeat, times, flown}, Read.{Read, broken, is, headOf, sizeOf, itemOf, append, before, itemsOf, read, insideOf, itemWithin}}
+use Rattle.pattern.specs.{Tree.{Pattern, nothing, leg, repeat, times, flownLegs}, Read.{Read, broken, is, headOf, sizeOf, itemOf, append, before, itemsOf, read, insideOf, itemWithin}}
 use Rattle.pattern.proofs.Heads.{size-some}
 
 -- ---- patterns one after another
@@ -18,12 +18,12 @@ append-again (leg l p) q r = ap (leg l) (append-again p q r)
 append-again (repeat n i p) q r = ap (repeat n i) (append-again p q r)
 
 -- "flown order" is that of the items
-pub flown-append : (p q : Pattern) → flown (append p q) ≡ flown p ++ flown q
-unfolding append flown
+pub flown-append : (p q : Pattern) → flownLegs (append p q) ≡ flownLegs p ++ flownLegs q
+unfolding append flownLegs
 flown-append nothing q = refl
 flown-append (leg l p) q = ap (λ (r : List (List ℕ)). l ∷ r) (flown-append p q)
 flown-append (repeat n i p) q =
-    ap (λ (r : List (List ℕ)). times n (flown i) ++ r) (flown-append p q) ∙ sym (append-assoc (times n (flown i)) (flown p) (flown q))
+    ap (λ (r : List (List ℕ)). times n (flownLegs i) ++ r) (flown-append p q) ∙ sym (append-assoc (times n (flownLegs i)) (flownLegs p) (flownLegs q))
 
 pub before-first : (r : Read) → before (is nothing) r ≡ r
 unfolding before append

@@ -11,8 +11,8 @@ use Rattle.image.specs.Parts.{legAt}
 use Rattle.outcome.specs.declared.Outcome.{Outcome}
 use Rattle.outcome.specs.declared.Outcome.the-variants.{InputLength, BadPattern, LegCount, NoRoom, LegsApart}
 use Rattle.outcome.specs.Outcomes.{Table, firstOf, differs, Left, leftUnless}
-use Rattle.route.specs.Form.{TRAILER-BYTES, MOST-LEGS, legsMeet}
-use Rattle.pattern.specs.Tree.{flown}
+use Rattle.route.specs.Form.{ROUTE-TRAILER-BYTES, MOST-LEGS, legsMeet}
+use Rattle.pattern.specs.Tree.{flownLegs}
 use Rattle.pattern.specs.Read.{Read, broken, is, read}
 
 -- "repeats may stand inside repeats four deep"
@@ -26,17 +26,17 @@ joined [] = []
 joined (l ∷ ls) = l ++ joined ls
 
 abbrev pub routeLength : ℕ → ℕ
-routeLength n = LEG-BYTES * n + TRAILER-BYTES
+routeLength n = LEG-BYTES * n + ROUTE-TRAILER-BYTES
 
 unfoldable pub routeOf : List (List ℕ) → List ℕ
 unfolding joined
 routeOf ls = joined ls ++ bytesOf (length ls ∷ LEG-BYTES * length ls ∷ [])
 
 -- "the legs must meet across repeats": each leg and the one that is flown after it
-unfoldable pub allMeet : List (List ℕ) → Bool
-allMeet [] = true
-allMeet (l ∷ []) = true
-allMeet (l ∷ m ∷ ls) = legsMeet (legAt l 0) (legAt m 0) && allMeet (m ∷ ls)
+unfoldable pub flownMeet : List (List ℕ) → Bool
+flownMeet [] = true
+flownMeet (l ∷ []) = true
+flownMeet (l ∷ m ∷ ls) = legsMeet (legAt l 0) (legAt m 0) && flownMeet (m ∷ ls)
 
 -- ---- "Refusals: 12 a bad tag, count, depth or length, then 5 for no legs or more than 32, 9 if the route doesn't fit its buffer, 7", and before
 -- them 2, for a wrong buffer of the answer
@@ -47,7 +47,7 @@ isBroken (is p) = false
 
 unfoldable pub legsRead : Read → List (List ℕ)
 legsRead broken = []
-legsRead (is p) = flown p
+legsRead (is p) = flownLegs p
 
 -- the legs that a pattern's bytes fly, in order
 abbrev pub legsOf : List ℕ → List (List ℕ)
@@ -55,7 +55,7 @@ legsOf b = legsRead (read DEEPEST b)
 
 -- of 1 to 32 legs
 abbrev pub routeTable : List (List ℕ) → ℕ → Table
-routeTable ls routeLen = (ltb routeLen (routeLength (length ls)), NoRoom) ∷ (not (allMeet ls), LegsApart) ∷ []
+routeTable ls routeLen = (ltb routeLen (routeLength (length ls)), NoRoom) ∷ (not (flownMeet ls), LegsApart) ∷ []
 
 abbrev pub expandTable : List ℕ → ℕ → ℕ → Table
 expandTable b routeLen writtenLen =
@@ -88,6 +88,6 @@ unfolding routeOf expandRefusal
 expandCall b route written = leftUnless (expandRefusal b (length route) (length written)) (withRoute (legsOf b) route) (buffers route written)
 
 -- the same once the legs are known and are 1 to 32
-unfoldable pub routeCall : List (List ℕ) → List ℕ → List ℕ → Expanded
+unfoldable pub expandedCall : List (List ℕ) → List ℕ → List ℕ → Expanded
 unfolding routeOf
-routeCall ls route written = leftUnless (firstOf (routeTable ls (length route))) (withRoute ls route) (buffers route written)
+expandedCall ls route written = leftUnless (firstOf (routeTable ls (length route))) (withRoute ls route) (buffers route written)

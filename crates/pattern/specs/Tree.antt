@@ -13,10 +13,10 @@ pub data Pattern : Type 0 where
   repeat : ℕ → Pattern → Pattern → Pattern
 
 -- "a tag byte, 0 for a leg and its 76 bytes, 1 for a repeat with a count byte and a two-byte little-endian length of its inner bytes"
-unfoldable pub bytesOf : Pattern → List ℕ
-bytesOf nothing = []
-bytesOf (leg l more) = 0 ∷ l ++ bytesOf more
-bytesOf (repeat n inner more) = 1 ∷ n ∷ length (bytesOf inner) % 256 ∷ length (bytesOf inner) / 256 ∷ bytesOf inner ++ bytesOf more
+unfoldable pub patternBytes : Pattern → List ℕ
+patternBytes nothing = []
+patternBytes (leg l more) = 0 ∷ l ++ patternBytes more
+patternBytes (repeat n inner more) = 1 ∷ n ∷ length (patternBytes inner) % 256 ∷ length (patternBytes inner) / 256 ∷ patternBytes inner ++ patternBytes more
 
 -- a list so many times, one after another
 unfoldable pub times : {A : Type 0} → ℕ → List A → List A
@@ -24,16 +24,16 @@ times zero l = []
 times (suc n) l = l ++ times n l
 
 -- "the legs in flown order"
-unfoldable pub flown : Pattern → List (List ℕ)
+unfoldable pub flownLegs : Pattern → List (List ℕ)
 unfolding times
-flown nothing = []
-flown (leg l more) = l ∷ flown more
-flown (repeat n inner more) = times n (flown inner) ++ flown more
+flownLegs nothing = []
+flownLegs (leg l more) = l ∷ flownLegs more
+flownLegs (repeat n inner more) = times n (flownLegs inner) ++ flownLegs more
 
 -- "repeats may stand inside repeats four deep": a pattern that has bytes, with repeats at most so deep
-unfoldable pub Fits : ℕ → Pattern → Type 0
-unfolding bytesOf
-Fits depth nothing = Unit
-Fits depth (leg l more) = (length l ≡ LEG-BYTES) × Fits depth more
-Fits zero (repeat n inner more) = ⊥
-Fits (suc depth) (repeat n inner more) = (1 ≤ n) × (n ≤ 9) × (length (bytesOf inner) ≤ 65535) × Fits depth inner × Fits (suc depth) more
+unfoldable pub WithinLimits : ℕ → Pattern → Type 0
+unfolding patternBytes
+WithinLimits depth nothing = Unit
+WithinLimits depth (leg l more) = (length l ≡ LEG-BYTES) × WithinLimits depth more
+WithinLimits zero (repeat n inner more) = ⊥
+WithinLimits (suc depth) (repeat n inner more) = (1 ≤ n) × (n ≤ 9) × (length (patternBytes inner) ≤ 65535) × WithinLimits depth inner × WithinLimits (suc depth) more

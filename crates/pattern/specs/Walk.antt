@@ -10,7 +10,7 @@ use Rattle.image.specs.Layout.{LEG-BYTES}
 use Rattle.route.specs.Form.{MOST-LEGS}
 use Rattle.pattern.specs.declared.walk.Walked.{Walked}
 use Rattle.pattern.specs.declared.walk.Walked.the-variants.{Broken, Past}
-use Rattle.pattern.specs.Tree.{Pattern, times, flown}
+use Rattle.pattern.specs.Tree.{Pattern, times, flownLegs}
 use Rattle.pattern.specs.Read.{Read, broken, is}
 
 -- the leg that stands at a place
@@ -30,12 +30,12 @@ pub record Found (b : List ℕ) (ls : List (List ℕ)) (n : ℕ) (old new : List
 unfoldable pub walkedTo : ℕ → ℕ → Read → Walked
 unfolding capped
 walkedTo next n broken = Broken
-walkedTo next n (is p) = Past next (capped (n + length (flown p)))
+walkedTo next n (is p) = Past next (capped (n + length (flownLegs p)))
 
 -- a walk over what was read, up to a place, after n legs
 pub record Walk (b : List ℕ) (r : Read) (next n : ℕ) (old : List ℕ) (answer : Walked) (new : List ℕ) : Type 0 where
   pub counted : answer ≡ walkedTo next n r
-  pub found : (p : Pattern) → r ≡ is p → n + length (flown p) ≤ MOST-LEGS → Found b (flown p) n old new
+  pub found : (p : Pattern) → r ≡ is p → n + length (flownLegs p) ≤ MOST-LEGS → Found b (flownLegs p) n old new
 
 -- one place more, where there is room
 pub record OneMore (n place : ℕ) (old : List ℕ) (r : ℕ) (new : List ℕ) : Type 0 where

@@ -14,9 +14,9 @@ ghost use lib.Seq.{sets};
 ghost use Rattle.words.specs.Words.{Put};
 ghost use Rattle.outcome.specs.Outcomes.{left};
 ghost use Rattle.image.specs.Layout.{LEG-BYTES};
-ghost use Rattle.route.specs.Form.{TRAILER-BYTES, MOST-LEGS};
+ghost use Rattle.route.specs.Form.{ROUTE-TRAILER-BYTES, MOST-LEGS};
 ghost use Rattle.pattern.specs.Walk.{legIn, Places};
-ghost use Rattle.pattern.specs.Entry.{allMeet, joined, buffers, routeCall};
+ghost use Rattle.pattern.specs.Entry.{flownMeet, joined, buffers, expandedCall};
 
 // A part of the pattern: the bytes of a leg.
 fn leg_in(b: &[u8], place: usize) -> &[u8]
@@ -30,7 +30,7 @@ fn leg_in(b: &[u8], place: usize) -> &[u8]
 // Whether each leg meets the one that is flown after it.
 fn all_meet(b: &[u8], places: &[usize], count: usize) -> bool
     requires { ⌜ Places (now b) (now places) count ⌝ }
-    ensures { λ r. ⌜ r ≡ allMeet (map (legIn (now (b .entry))) (take count (now (places .entry)))) ⌝ }
+    ensures { λ r. ⌜ r ≡ flownMeet (map (legIn (now (b .entry))) (take count (now (places .entry)))) ⌝ }
 {
     let mut i = 1;
     while i < count {
@@ -58,7 +58,7 @@ fn put_legs(b: &[u8], places: &[usize], count: usize, route: &mut [u8])
 
 // The count, and how many bytes back the first leg starts.
 fn put_trailer(route: &mut [u8], count: usize)
-    requires { ⌜ (LEG-BYTES * count + TRAILER-BYTES ≤ length (now route)) × (count ≤ MOST-LEGS) ⌝ }
+    requires { ⌜ (LEG-BYTES * count + ROUTE-TRAILER-BYTES ≤ length (now route)) × (count ≤ MOST-LEGS) ⌝ }
     ensures { λ _. ⌜ Put (now (route .entry)) (19 * count) (count ∷ LEG-BYTES * count ∷ []) (now (route .exit)) ⌝ }
 {
     let k = LEG_WORDS * count;
@@ -76,7 +76,7 @@ pub(crate) fn put_route(
 ) -> Outcome
     requires { ⌜ Places (now b) (now places) count ⌝ }
     requires { ⌜ (count ≤ MOST-LEGS) × (length (now written) ≡ 4) ⌝ }
-    ensures { λ r. ⌜ left r (buffers (now (route .exit)) (now (written .exit))) ≡ routeCall (map (legIn (now (b .entry))) (take count (now (places .entry)))) (now (route .entry)) (now (written .entry)) ⌝ }
+    ensures { λ r. ⌜ left r (buffers (now (route .exit)) (now (written .exit))) ≡ expandedCall (map (legIn (now (b .entry))) (take count (now (places .entry)))) (now (route .entry)) (now (written .entry)) ⌝ }
 {
     let length = LEG_BYTES * count + TRAILER_BYTES;
     if route.len() < length {

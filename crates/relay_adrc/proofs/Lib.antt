@@ -1,7 +1,7 @@
 pub mod Mended
-pub mod Tick
+pub mod AxisTick
 pub mod Lowpass
 pub mod Shut
-pub mod Limits
+pub mod FilterLimits
 pub mod Three
 pub mod OneAnswer

@@ -1,8 +1,8 @@
 -- The biquad. Assumes nothing.
 use Rattle.laws.proofs.Prelude.{_≡_, refl, sym, ap, _∙_, Bool, true, false, cond, not, _&&_, _||_, T, _*_, Float, nan, inf, fin, lt, le, neg, add, sub, mul, div, up, down, isNan, ofBits, no}
 use Rattle.relay_math.{specs.{F32.{_⊗_, _⊘_, f32, 0·0, 0·5, 1·0, 2·0, isFinite}, Steps.{sinf, cosf, sincos}}, proofs.{Signs.{not-nan, of-rounded}, Order.{Number, le-is-not-above}}}
-use Rattle.relay_math.proofs.Finite.{or-zero-finite}
-use Rattle.relay_adrc.specs.{declared.biquad.Biquad.Biquad, Biquad.{PI, passesThrough, passthrough, filterAt, lowpass, biquadFilter}}
+use Rattle.relay_math.proofs.FiniteOr.{or-zero-finite}
+use Rattle.relay_adrc.specs.{declared.biquad.Biquad.Biquad, Biquad.{PI, passesThrough, passthrough, lowpassAt, lowpass, biquadFilter}}
 
 -- the output is finite for all bits of everything
 pub output-finite : (f : Biquad) (x : Float) → T (isFinite (biquadFilter f x .y))
@@ -14,15 +14,15 @@ pub passes : (fc fs : Float) → passesThrough fc fs ≡ true → lowpass fc fs 
 unfolding lowpass
 passes fc fs e = rw e
 
-pub filters : (fc fs : Float) → passesThrough fc fs ≡ false → lowpass fc fs ≡ filterAt (2·0 ⊗ PI ⊗ fc ⊘ fs)
+pub filters : (fc fs : Float) → passesThrough fc fs ≡ false → lowpass fc fs ≡ lowpassAt (2·0 ⊗ PI ⊗ fc ⊘ fs)
 unfolding lowpass
 filters fc fs e = rw e
 
 pub only-then : (fc fs : Float) → lowpass fc fs ≡ passthrough → passesThrough fc fs ≡ true
-unfolding lowpass filterAt lt ofBits
+unfolding lowpass lowpassAt lt ofBits
 only-then fc fs q = by (passesThrough fc fs) q
   where
-    by : (t : Bool) → cond t passthrough (filterAt (2·0 ⊗ PI ⊗ fc ⊘ fs)) ≡ passthrough → t ≡ true
+    by : (t : Bool) → cond t passthrough (lowpassAt (2·0 ⊗ PI ⊗ fc ⊘ fs)) ≡ passthrough → t ≡ true
     by true q = refl
     by false q = no (ap (lt 0·0) (sym (ap (λ (b : Biquad). b .b2) q) ∙ ap (λ (b : Biquad). b .b0) q))
 
@@ -48,5 +48,5 @@ passes-unless fc fs = by (lt 0·0 fc) (lt 0·0 fs) refl refl
 pub overflow :
     lowpass (f32 0x7e96_7699) (f32 0x7f61_b1e6) ≡
     record { b0 = 0·5; b1 = 1·0; b2 = 0·5; a1 = f32 0x8000_0000; a2 = 1·0; x1 = 0·0; x2 = 0·0; y1 = 0·0; y2 = 0·0 }
-unfolding lowpass filterAt sinf cosf sincos ofBits neg add sub mul div lt le
+unfolding lowpass lowpassAt sinf cosf sincos ofBits neg add sub mul div lt le
 overflow = refl

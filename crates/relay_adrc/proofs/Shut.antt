@@ -1,7 +1,7 @@
 -- A filter whose b are all zero, at rest: it lets nothing through, for ever. `lowpass` makes it of a cut-off that is too low for its cosine to differ from 1. Assumes nothing.
 use Rattle.laws.proofs.Prelude.{List, [], _∷_, T, Float, nan, inf, fin, eq, lt, le, neg, add, sub, mul, div, ofBits}
-use Rattle.relay_math.{specs.{F32.{_⊖_, _⊗_, f32, 0·0, isFinite, finiteOr}, Steps.{sinf, cosf, sincos}}, proofs.{Zeros.{IsZero, none, equal, times, by, plus, minus}, Finite.or-zero-finite}}
-use Rattle.relay_adrc.specs.{declared.biquad.Biquad.Biquad, Biquad.{filterAt, lowpass, biquadFilter}}
+use Rattle.relay_math.{specs.{F32.{_⊖_, _⊗_, f32, 0·0, isFinite, finiteOr}, Steps.{sinf, cosf, sincos}}, proofs.{Zeros.{IsZero, none, equal, times, by, plus, minus}, FiniteOr.or-zero-finite}}
+use Rattle.relay_adrc.specs.{declared.biquad.Biquad.Biquad, Biquad.{lowpassAt, lowpass, biquadFilter}}
 
 -- zeros of either sign; what came in before was finite, as `filter` keeps it
 pub record Shut (f : Biquad) : Type 0 where
@@ -44,5 +44,5 @@ shut-for-ever f (z ∷ xs) x s = shut-for-ever (biquadFilter f z .biquad) xs x (
 
 -- such a filter is made: 0.03 Hz at 1000 Hz (fc 3cf5c28f, fs 447a0000)
 pub too-low-is-shut : Shut (lowpass (f32 0x3cf5_c28f) (f32 0x447a_0000))
-unfolding lowpass filterAt sinf cosf sincos ofBits neg add sub mul div lt le isFinite
+unfolding lowpass lowpassAt sinf cosf sincos ofBits neg add sub mul div lt le isFinite
 too-low-is-shut = record { b = (none _ _, none _ _, none _ _); x = (tt, tt); y = (none _ _, none _ _) }

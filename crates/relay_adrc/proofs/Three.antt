@@ -2,7 +2,7 @@
 use Rattle.laws.proofs.Prelude.{T, Float}
 use Rattle.relay_math.specs.{F32.isFinite, declared.{Vec3.Vec3, BodyRate.BodyRate}}
 use Rattle.relay_adrc.specs.{declared.{rate.AdrcRate.AdrcRate, biquad.GyroLpf.GyroLpf}, Biquad.gyroFilter, Rate.rateTick}
-use Rattle.relay_adrc.proofs.{Tick.tick-finite, Lowpass.output-finite}
+use Rattle.relay_adrc.proofs.{AxisTick.tick-finite, Lowpass.output-finite}
 
 abbrev AllFinite : Vec3 → Type 0
 AllFinite v = T (isFinite (v .0)) × T (isFinite (v .1)) × T (isFinite (v .2))

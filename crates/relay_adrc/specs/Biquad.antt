@@ -23,8 +23,8 @@ passthrough =
     record { b0 = 1·0; b1 = 0·0; b2 = 0·0; a1 = 0·0; a2 = 0·0; x1 = 0·0; x2 = 0·0; y1 = 0·0; y2 = 0·0 }
 
 -- the filter of an angle per sample
-unfoldable pub filterAt : Float → Biquad
-filterAt w0 =
+unfoldable pub lowpassAt : Float → Biquad
+lowpassAt w0 =
     let sw = sinf w0 in
     let cw = cosf w0 in
     let q = FRAC-1-SQRT-2 in
@@ -43,8 +43,8 @@ filterAt w0 =
     }
 
 unfoldable pub lowpass : Float → Float → Biquad
-unfolding filterAt
-lowpass fc fs = cond (passesThrough fc fs) passthrough (filterAt (2·0 ⊗ PI ⊗ fc ⊘ fs))
+unfolding lowpassAt
+lowpass fc fs = cond (passesThrough fc fs) passthrough (lowpassAt (2·0 ⊗ PI ⊗ fc ⊘ fs))
 
 unfoldable pub biquadFilter : Biquad → Float → Filtered
 biquadFilter f xGiven =

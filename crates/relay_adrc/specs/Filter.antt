@@ -58,17 +58,17 @@ filter3Step f u dt =
 abbrev pub filter3Reset : CommandFilter3 → CommandFilter3
 filter3Reset f = record { roll = filterReset (f .roll); pitch = filterReset (f .pitch); yaw = filterReset (f .yaw) }
 
--- What can happen to a filter: a step by any input and dt, or a reset. `run` is the filter after a list of these, the first first.
+-- What can happen to a filter: a step by any input and dt, or a reset. `afterEvents` is the filter after a list of these, the first first.
 pub data Event : Type 0 where
   Step : Float → Float → Event
   Reset : Event
 
-unfoldable pub after : CommandFilter → Event → CommandFilter
+unfoldable pub afterEvent : CommandFilter → Event → CommandFilter
 unfolding filterStep
-after f (Step u dt) = filterStep f u dt .filter
-after f Reset = filterReset f
+afterEvent f (Step u dt) = filterStep f u dt .filter
+afterEvent f Reset = filterReset f
 
-unfoldable pub run : CommandFilter → List Event → CommandFilter
-unfolding after
-run f [] = f
-run f (e ∷ es) = run (after f e) es
+unfoldable pub afterEvents : CommandFilter → List Event → CommandFilter
+unfolding afterEvent
+afterEvents f [] = f
+afterEvents f (e ∷ es) = afterEvents (afterEvent f e) es

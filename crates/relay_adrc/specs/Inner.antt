@@ -6,7 +6,7 @@ use Rattle.relay_adrc.specs.declared.axis.Observed.{Observed}
 use Rattle.relay_adrc.specs.declared.axis.AxisTick.{AxisTick}
 use Rattle.relay_adrc.specs.Axis.{10·0, positiveOr, mendDt, mendB0, lag}
 
--- ---- an axis's tick in two halves, the observer's and the control's: `tick-in-halves` of proofs/Tick.antt
+-- ---- an axis's tick in two halves, the observer's and the control's: `tick-in-halves` of proofs/AxisTick.antt
 
 unfoldable pub axisObserve : AdrcAxis → Float → Float → Observed
 axisObserve a omegaMeas dtGiven =

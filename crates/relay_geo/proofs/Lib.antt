@@ -1,11 +1,11 @@
 pub mod Blank
 pub mod Accepts
 pub mod NoAttitude
-pub mod Finite
-pub mod Figures
+pub mod Sanitised
+pub mod AttitudeFigures
 pub mod MarginRange
 pub mod SetUp
-pub mod Steps
+pub mod ShieldStep
 pub mod Products
 pub mod Opposites
 pub mod Upto

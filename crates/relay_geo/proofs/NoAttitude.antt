@@ -1,6 +1,6 @@
 -- No desired attitude: in free fall, and at a heading that is no number, infinite or beyond the limit. Assumes nothing.
 use Rattle.laws.proofs.Prelude.{_≡_, refl, false, not, T, pos, Float, fin, ofBits, sub}
-use Rattle.relay_math.{specs.{declared.{Vec3.Vec3, BodyRate.BodyRate}, F32.{0·0, isFinite}, Exact.inRange}, proofs.Finite.sin-cos-far}
+use Rattle.relay_math.{specs.{declared.{Vec3.Vec3, BodyRate.BodyRate}, F32.{0·0, isFinite}, Exact.inRange}, proofs.FiniteOr.sin-cos-far}
 use Rattle.relay_geo.specs.declared.{vectors.{Quat.Quat, Direction.Direction}, attitude.Attitude.the-variants.Refused, controller.GeoGains.GeoGains}
 use Rattle.relay_geo.specs.{Vectors.{GRAVITY-NED, normalize, sanitise3}, Attitude.{heading, attitudeOf, desiredAttitude, alongAxis, thrustForce, thrustAxisNed, thrustAttitude}}
 use Rattle.relay_geo.specs.Controller.{against, desiredRate, tick}

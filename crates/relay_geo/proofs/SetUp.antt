@@ -5,7 +5,7 @@ use Rattle.laws.proofs.Prelude.{round, mul, lt, le, ofBits, no, both, le-or-lt}
 use mathlib.Core.Bool.{true≢false}
 use lib.Ieee.{Fits.{up-pos, down-pos, cond-fits}, Exact.{HasValue, round-exact}, Order.round-mono}
 use Rattle.relay_math.{specs.F32.{_⊗_, f32, 0·0, 0·1, 2·0, isFinite, finiteAbove}, proofs.Grains.{Placed, placed}}
-use Rattle.relay_geo.specs.{declared.set.RecoverableSet.RecoverableSet, Shield.{mendEnter, mend, newShield}}
+use Rattle.relay_geo.specs.{declared.set.RecoverableSet.RecoverableSet, Shield.{mendEnter, mendThresholds, newShield}}
 
 -- ---- twice an f32 that is finite and above zero lies above it: doubling is exact, or overflows to +infinity
 
@@ -90,8 +90,8 @@ unfolding isFinite lt ofBits
 fallback-enter = refl
 
 -- enter is finite and above 0, whatever was given
-pub enter-finite-positive : (enter exit : Float) → finiteAbove 0·0 (mend enter exit .enter) ≡ true
-unfolding mend
+pub enter-finite-positive : (enter exit : Float) → finiteAbove 0·0 (mendThresholds enter exit .enter) ≡ true
+unfolding mendThresholds
 enter-finite-positive enter exit = passes (finiteAbove 0·0) (finiteAbove 0·0) enter 0·1 (λ e. e) fallback-enter
 
 enter-fits : (enter : Float) → T (fits binary32 enter) → T (fits binary32 (mendEnter enter))
@@ -99,15 +99,15 @@ unfolding fits ofBits
 enter-fits enter f = cond-fits binary32 (finiteAbove 0·0 enter) enter 0·1 f tt
 
 -- exit is above enter, for every f32 given as enter, subnormals and overflow to +infinity included
-pub enter-below-exit : (enter exit : Float) → T (fits binary32 enter) → lt (mend enter exit .enter) (mend enter exit .exit) ≡ true
-unfolding mend
+pub enter-below-exit : (enter exit : Float) → T (fits binary32 enter) → lt (mendThresholds enter exit .enter) (mendThresholds enter exit .exit) ≡ true
+unfolding mendThresholds
 enter-below-exit enter exit f =
     let en : Float = mendEnter enter in
     passes (finiteAbove en) (lt en) exit (en ⊗ 2·0) (λ h. both (isFinite exit) (lt en exit) h .1) (twice-above en (enter-fits enter f) (enter-finite-positive enter exit))
 
 -- mending mended thresholds changes nothing
-pub mend-idempotent : (enter exit : Float) → mend (mend enter exit .enter) (mend enter exit .exit) ≡ mend enter exit
-unfolding mend
+pub mend-idempotent : (enter exit : Float) → mendThresholds (mendThresholds enter exit .enter) (mendThresholds enter exit .exit) ≡ mendThresholds enter exit
+unfolding mendThresholds
 mend-idempotent enter exit =
     let en : Float = mendEnter enter in
     rw (settled (finiteAbove 0·0) enter 0·1, settled (finiteAbove en) exit (en ⊗ 2·0))
@@ -123,9 +123,9 @@ unfolding newShield
 fresh-in-order set enter exit f = enter-below-exit enter exit f
 
 -- the smallest enter, one that overflows, and infinities given
-pub edges : (mend (f32 1) nan ≡ record { enter = f32 1; exit = f32 2 })
-    × (mend (f32 0x7f00_0000) 0·0 ≡ record { enter = f32 0x7f00_0000; exit = inf false })
-    × (mend 2·0 (inf false) ≡ record { enter = 2·0; exit = f32 0x4080_0000 })
-    × (mend (inf false) 2·0 ≡ record { enter = 0·1; exit = 2·0 })
-unfolding mend isFinite lt mul ofBits
+pub edges : (mendThresholds (f32 1) nan ≡ record { enter = f32 1; exit = f32 2 })
+    × (mendThresholds (f32 0x7f00_0000) 0·0 ≡ record { enter = f32 0x7f00_0000; exit = inf false })
+    × (mendThresholds 2·0 (inf false) ≡ record { enter = 2·0; exit = f32 0x4080_0000 })
+    × (mendThresholds (inf false) 2·0 ≡ record { enter = 0·1; exit = 2·0 })
+unfolding mendThresholds isFinite lt mul ofBits
 edges = (refl, refl, refl, refl)

@@ -2,7 +2,7 @@
 use Rattle.laws.proofs.Prelude.{_≡_, refl, sym, subst, Bool, true, false, pos, T, Float, fin, binary32, fits, sum, add, sub, mul, neg, round, ofBits}
 use lib.Ieee.Fits.{mul-fits}
 use Rattle.relay_math.{specs.F32.{_⊕_, _⊖_, _⊗_, 0·0, 1·0, 2·0, isFinite}, proofs.{Signs.zero-is, Zeros.{IsZero, none, equal, is-zero, finite, times, plus, minus}}}
-use Rattle.relay_geo.specs.{declared.vectors.Quat.Quat, Vectors.identity3, Attitude.{quatToRotmat, Zeros, Level}}
+use Rattle.relay_geo.specs.{declared.vectors.Quat.Quat, Vectors.identity3, Attitude.{quatToRotmat, ZeroQuat, Level}}
 
 product : {x y : Float} → IsZero x → IsZero y → IsZero (x ⊗ y)
 product {x} {y} p q = times x (finite p) q
@@ -23,7 +23,7 @@ one-less F (none s e) = subst (λ (x : Float). 1·0 ⊖ x ≡ 1·0) (sym (zero-i
 one : {u v : Float} → IsZero u → IsZero v → 1·0 ⊖ 2·0 ⊗ (u ⊗ u ⊕ v ⊗ v) ≡ 1·0
 one {u} {v} p q = one-less (mul-fits binary32 2·0 (u ⊗ u ⊕ v ⊗ v)) (twice (plus (product p p) (product q q)))
 
-pub zeros-level : (q : Quat) → Zeros q → Level (quatToRotmat q)
+pub zeros-level : (q : Quat) → ZeroQuat q → Level (quatToRotmat q)
 unfolding quatToRotmat
 zeros-level q h =
     let w = is-zero (q .0) (h .w) in

@@ -99,7 +99,7 @@ givesRate (rate.Rate w) = true
 givesRate rate.Refused = false
 
 -- four zeros, each of either sign
-pub record Zeros (q : Quat) : Type 0 where
+pub record ZeroQuat (q : Quat) : Type 0 where
   pub w : T (eq (q .0) 0·0)
   pub x : T (eq (q .1) 0·0)
   pub y : T (eq (q .2) 0·0)

@@ -17,15 +17,15 @@ mendEnter enter = cond (finiteAbove 0·0 enter) enter 0·1
 abbrev pub mendExit : Float → Float → Float
 mendExit enter exit = cond (finiteAbove enter exit) exit (enter ⊗ 2·0)
 
-unfoldable pub mend : Float → Float → Thresholds
-mend enter exit =
+unfoldable pub mendThresholds : Float → Float → Thresholds
+mendThresholds enter exit =
     let enter = mendEnter enter in
     record { enter = enter; exit = mendExit enter exit }
 
 unfoldable pub newShield : RecoverableSet → Float → Float → SimplexShield
-unfolding mend
+unfolding mendThresholds
 newShield set enter exit =
-    let t = mend enter exit in
+    let t = mendThresholds enter exit in
     record { set = set; engaged = true; enter = t .enter; exit = t .exit }
 
 -- the chosen command, its non-finite numbers made +0

@@ -6,7 +6,7 @@ use relay_math::BodyRate;
 use relay_math::finite_above;
 ghost use mathlib.Core.Path.{_≡_};
 ghost use mathlib.Core.Bool.{cond};
-ghost use Rattle.relay_geo.specs.Shield.{mendEnter, mendExit, mend, newShield, picked, step, filter};
+ghost use Rattle.relay_geo.specs.Shield.{mendEnter, mendExit, mendThresholds, newShield, picked, step, filter};
 
 // Below `enter` the fallback takes over, above `exit` it hands back.
 #[repr(C)]
@@ -49,7 +49,7 @@ fn mend_exit(enter: f32, exit: f32) -> f32
 
 // Thresholds in a safe order, whatever is given.
 pub fn mend(enter: f32, exit: f32) -> Thresholds
-    ensures { λ r. ⌜ r ≡ mend enter exit ⌝ }
+    ensures { λ r. ⌜ r ≡ mendThresholds enter exit ⌝ }
 {
     let enter = mend_enter(enter);
     Thresholds {

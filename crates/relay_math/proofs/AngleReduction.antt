@@ -5,7 +5,7 @@ use Rattle.laws.proofs.Prelude.{le-leb, ℤ, pos, negsuc, T, leb, ltb, lit<, li
 use native.Mathlib.Nat.{mul-add, mul-sub, mul-div-mul-right, add-mul-mod-self-left, lt-div-mul-add}
 use borrow.Author.Tests.{leb-true}
 use lib.Ieee.{Digits.{size-lt, size-le}, Fits.down-pos}
-use Rattle.relay_math.specs.{Exact.{gap, P149, turns, rest, back, quarter}, F32.{grains, fabsf}, Steps.{Tiny, Most, fixed, P48, reduceOf}}
+use Rattle.relay_math.specs.{Exact.{gap, P149, turns, turnRest, back, quarter}, F32.{grains, fabsf}, Steps.{Tiny, Most, fixed, P48, reduceOf}}
 use Rattle.relay_math.proofs.{Signs.le-is, Order.ltb-scaled, Grains.{shift, placed, grains-of, grains-exact, reads}}
 
 -- ---- a float of size 2 ^ -12 to 2 ^ 13
@@ -58,11 +58,11 @@ known (fin s m e) f h k =
 -- ---- what u grains turn to: n modulo 4, the rest, and whether it is negative
 pub record Turn (u n R : ℕ) (b : Bool) : Type 0 where
   pub quarter-is : (s : Bool) → quarter s u ≡ cond s (3 * n % 4) n
-  pub rest-is : rest u ≡ R
+  pub rest-is : turnRest u ≡ R
   pub back-is : back u ≡ b
 
 of-turns : (u n R : ℕ) (b : Bool) → turns u ≡ n → gap u (n * P149) ≡ R → ltb u (n * P149) ≡ b → Turn u (n % 4) R b
-unfolding quarter rest back
+unfolding quarter turnRest back
 of-turns u n R b e r c = record { quarter-is = λ s. rw e (go s); rest-is = rw e r; back-is = rw e c }
   where
     go : (s : Bool) → cond s (3 * n % 4) (n % 4) ≡ cond s (3 * (n % 4) % 4) (n % 4)
@@ -89,8 +89,8 @@ nearest u p h = go (leb (2 * u) p) refl
         let b : 2 * u + p < n * (2 * p) + 2 * p = lt-div-mul-add (mul-pos (lit< tt) h) in
         omega (arith, a, b)
 
-rest-most : (u : ℕ) → 2 * rest u ≤ P149
-unfolding rest turns
+rest-most : (u : ℕ) → 2 * turnRest u ≤ P149
+unfolding turnRest turns
 rest-most u = nearest u P149 (lit< tt)
 
 -- ---- in the code's units of g = 2 ^ 101 grains
@@ -142,19 +142,19 @@ twice-below : (u a b : ℕ) → u < a → 2 * a ≤ b → 2 * u < b
 twice-below u a b h k = omega arith
 
 -- An f32 is m * 2 ^ j grains, with an m of 24 digits: a whole number of units, or far below P.
-digits-rest : (m j : ℕ) → m < 2 ^ 24 → 2 * rest (m * 2 ^ j) < P149
+digits-rest : (m j : ℕ) → m < 2 ^ 24 → 2 * turnRest (m * 2 ^ j) < P149
 digits-rest m j h =
     elim (le-or-lt 101 j) [
       | inl l ↦
           let X = m * 2 ^ (j - 101) in
-          let e : rest (X * 2 ^ 101) ≡ reduceOf X .r * 2 ^ 101 = turn X .rest-is in
+          let e : turnRest (X * 2 ^ 101) ≡ reduceOf X .r * 2 ^ 101 = turn X .rest-is in
           rw (shift m j 101 l, e) (not-half (reduceOf X .r) (2 ^ 101) (lit< tt) (rw e at (rest-most (X * 2 ^ 101))))
       | inr g ↦
           let b : 2 * (m * 2 ^ j) < P149 = twice-below (m * 2 ^ j) (2 ^ 125) P149 (lt-of-lt-of-le (shl-lt 24 j h) (pow-mono {j = 125} (omega arith))) (lit≤ tt) in
           rw (no-turn (m * 2 ^ j) (le-of-lt b) .rest-is) b
     ]
 
-pub turn-is-nearest : (x : Float) → T (fits binary32 x) → 2 * rest (grains x) < P149
+pub turn-is-nearest : (x : Float) → T (fits binary32 x) → 2 * turnRest (grains x) < P149
 turn-is-nearest nan F = unfold grains in digits-rest 0 0 (lit< tt)
 turn-is-nearest (inf s) F = unfold grains in digits-rest 0 0 (lit< tt)
 turn-is-nearest (fin s m e) F = let p = placed s m e F in rw (grains-of (fin s m e) s (m * 2 ^ p .0) (refl, p .2)) (digits-rest m (p .0) (p .1))

@@ -12,9 +12,9 @@ pub mod Fixed
 pub mod AngleNear
 pub mod AngleReduction
 pub mod AngleBound
-pub mod Limits
+pub mod TwoLimits
 pub mod Arms
-pub mod Finite
+pub mod FiniteOr
 pub mod Sizes
 pub mod Squares
 pub mod OneAnswer

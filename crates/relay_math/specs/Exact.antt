@@ -80,8 +80,8 @@ unfoldable pub turns : ℕ → ℕ
 turns u = cond (leb (2 * u) P149) 0 ((2 * u + P149) / (2 * P149))
 
 -- |r| = |u - n P|, and whether u - n P is negative
-unfoldable pub rest : ℕ → ℕ
-rest u = gap u (turns u * P149)
+unfoldable pub turnRest : ℕ → ℕ
+turnRest u = gap u (turns u * P149)
 
 unfoldable pub back : ℕ → Bool
 back u = ltb u (turns u * P149)
@@ -100,10 +100,10 @@ cosineBy n b R = cond (eqb n 0) (cosAt R) (cond (eqb n 1) (negated (sinAt b R)) 
 
 -- the exact sine and cosine of u grains, negative if s
 unfoldable pub exactSine : Bool → ℕ → Value
-exactSine s u = sineBy (quarter s u) (unlike s (back u)) (rest u)
+exactSine s u = sineBy (quarter s u) (unlike s (back u)) (turnRest u)
 
 unfoldable pub exactCosine : Bool → ℕ → Value
-exactCosine s u = cosineBy (quarter s u) (unlike s (back u)) (rest u)
+exactCosine s u = cosineBy (quarter s u) (unlike s (back u)) (turnRest u)
 
 -- ---- the rule
 

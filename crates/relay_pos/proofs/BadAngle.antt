@@ -2,9 +2,9 @@
 use Rattle.laws.proofs.Prelude.{_≡_, refl, sym, ap, _∙_, subst, inl, inr, Bool, false, not, ℕ, zero, suc, _*_, _^_, _≤_, _<_, le-trans, le-of-lt, lt-of-le-of-lt, lt-of-not-le, not-le-of-lt, mul-pos}
 use Rattle.laws.proofs.Prelude.{mul-assoc, mul-le-mul-right, mul-one, pow-suc, arith, ℤ, pos, T, lit<, lit≤, Float, nan, inf, fin, binary32, fits, up, down, unlike, round, mul, le, ofBits}
 use lib.{Dec.{T-not, not-T}, Ieee.{Fits.down-pos, Exact.{HasValue, round-exact}, Order.le-of-values, Positive.{num, den, positive, den-pos, own-value, positive-of-value, values-of-le}}}
-use Rattle.relay_math.{specs.{F32.{_⊗_, 0·5, 1·0, fabsf, grains}, Exact.{Limit, upTo, inRange}, Steps.{sinf, cosf}}, proofs.{Grains.{placed, grains-of, grains-under}, Finite.sin-cos-far}}
+use Rattle.relay_math.{specs.{F32.{_⊗_, 0·5, 1·0, fabsf, grains}, Exact.{Limit, upTo, inRange}, Steps.{sinf, cosf}}, proofs.{Grains.{placed, grains-of, grains-under}, FiniteOr.sin-cos-far}}
 use Rattle.relay_math.proofs.{Sizes.{sin-cos-size, size-finite, product-finite}, Zeros.{IsZero, none, equal, times, by, plus, minus}}
-use Rattle.relay_pos.specs.Euler.{eulerToQuaternion, twice, served, Bad, Zeros}
+use Rattle.relay_pos.specs.Euler.{eulerToQuaternion, twice, served, Bad, ZeroQuaternion}
 
 -- ---- the half of such an angle is out of range: halving a number so large is exact
 
@@ -75,7 +75,7 @@ module _ (roll pitch yaw : Float) (R : T (fits binary32 roll)) (P : T (fits bina
   product (inr (inl h)) {a} {b} {c} r p y = by c (times a (size-finite a (size r)) (gone P h p)) (size-finite c (size y))
   product (inr (inr h)) {a} {b} {c} r p y = times (a ⊗ b) (product-finite a b (size r) (size p)) (gone Y h y)
 
-  pub bad-angle-zeros : Bad roll pitch yaw → Zeros (eulerToQuaternion roll pitch yaw)
+  pub bad-angle-zeros : Bad roll pitch yaw → ZeroQuaternion (eulerToQuaternion roll pitch yaw)
   unfolding eulerToQuaternion
   bad-angle-zeros h = record {
     w = equal (plus (product h cosine cosine cosine) (product h sine sine sine));

@@ -40,7 +40,7 @@ abbrev pub Bad : Float → Float → Float → Type 0
 Bad roll pitch yaw = T (not (served roll)) ⊎ (T (not (served pitch)) ⊎ T (not (served yaw)))
 
 -- four zeros, each of either sign
-pub record Zeros (q : Quaternion) : Type 0 where
+pub record ZeroQuaternion (q : Quaternion) : Type 0 where
   pub w : T (eq (q .0) 0·0)
   pub x : T (eq (q .1) 0·0)
   pub y : T (eq (q .2) 0·0)

@@ -1,7 +1,7 @@
 -- A leg's duration, times that are not finite, and the peak, for all bits. Assumes nothing.
 use Rattle.laws.proofs.Prelude.{_≡_, refl, sym, ap, _∙_, subst, Bool, true, false, not, cond, T, Float, lt, le, isNan, ofBits, held}
 use Rattle.relay_math.{specs.{F32.{0·0, 1e-3, ∞, isFinite, clamp}, declared.Vec3.Vec3}, proofs.Order.{finite-number, le-trans, not-lt-of-le, finite-from}}
-use Rattle.relay_traj.specs.{declared.quintic.Quintic.Quintic, Quintic.{mendedDuration, Lasts, mend, ofMended, quintic, timeOn, sampleAt, eval, peakAbsJerk}, Segment.{segment, duration}}
+use Rattle.relay_traj.specs.{declared.quintic.Quintic.Quintic, Quintic.{mendedDuration, Lasts, mendEnds, ofMended, quintic, timeOn, sampleAt, eval, peakAbsJerk}, Segment.{segment, duration}}
 
 -- ---- the duration
 
@@ -15,7 +15,7 @@ mended-lasts t = finite-from 1e-3 t 1e-3 shortest-lasts
 
 -- the duration of a new quintic is the mended one
 pub new-lasts-as-mended : (p0 v0 a0 pf vf af t : Float) → quintic p0 v0 a0 pf vf af t .«t_end» ≡ mendedDuration t
-unfolding quintic mend ofMended
+unfolding quintic mendEnds ofMended
 new-lasts-as-mended p0 v0 a0 pf vf af t = refl
 
 pub new-lasts : (p0 v0 a0 pf vf af t : Float) → Lasts (quintic p0 v0 a0 pf vf af t .«t_end»)

@@ -1,4 +1,4 @@
 pub mod Gate
-pub mod Clock
+pub mod GovernorClock
 pub mod Leg
 pub mod OneAnswer

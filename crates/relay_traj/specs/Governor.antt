@@ -58,7 +58,7 @@ advance g err dt =
 abbrev pub reset : RefGovernor → RefGovernor
 reset g = atTime g 0·0
 
--- ---- what the theorems in proofs/Gate.antt and proofs/Clock.antt speak of
+-- ---- what the theorems in proofs/Gate.antt and proofs/GovernorClock.antt speak of
 
 -- g_min put into 0..1, a non-finite one counting as 0
 unfoldable pub putIn : Float → Float
@@ -72,11 +72,11 @@ pub record Running (s : Float) : Type 0 where
   pub from-zero : T (le 0·0 s)
 
 -- ticks one after another, each with a tracking error and a dt
-pub record Tick : Type 0 where
+pub record GovernorTick : Type 0 where
   pub error : Float
   pub dt : Float
 
-unfoldable pub run : RefGovernor → List Tick → RefGovernor
+unfoldable pub afterTicks : RefGovernor → List GovernorTick → RefGovernor
 unfolding advance
-run g [] = g
-run g (k ∷ ks) = run (advance g (k .error) (k .dt) .governor) ks
+afterTicks g [] = g
+afterTicks g (k ∷ ks) = afterTicks (advance g (k .error) (k .dt) .governor) ks

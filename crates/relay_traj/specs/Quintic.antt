@@ -50,8 +50,8 @@ mendedDuration t = cond (finiteAbove 1e-3 t) t 1e-3
 abbrev pub Lasts : Float → Type 0
 Lasts t = T (isFinite t) × T (le 1e-3 t)
 
-unfoldable pub mend : Float → Float → Float → Float → Float → Float → Float → Mended
-mend p0 v0 a0 pf vf af t =
+unfoldable pub mendEnds : Float → Float → Float → Float → Float → Float → Float → Mended
+mendEnds p0 v0 a0 pf vf af t =
     let start = finiteOr p0 0·0 in
     record { p0 = start; v0 = finiteOr v0 0·0; a0 = finiteOr a0 0·0; pf = finiteOr pf start; vf = finiteOr vf 0·0; af = finiteOr af 0·0; t = mendedDuration t }
 
@@ -77,8 +77,8 @@ ofMended m =
     record { c5 = finiteOr (alpha ⊘ 120·0) 0·0; c4 = finiteOr (beta ⊘ 24·0) 0·0; c3 = finiteOr (gamma ⊘ 6·0) 0·0; c2 = a0 ⊘ 2·0; c1 = v0; c0 = p0; «t_end» = t }
 
 unfoldable pub quintic : Float → Float → Float → Float → Float → Float → Float → Quintic
-unfolding mend ofMended
-quintic p0 v0 a0 pf vf af t = ofMended (mend p0 v0 a0 pf vf af t)
+unfolding mendEnds ofMended
+quintic p0 v0 a0 pf vf af t = ofMended (mendEnds p0 v0 a0 pf vf af t)
 
 -- ---- Quintic::eval
 

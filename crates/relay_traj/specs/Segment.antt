@@ -13,12 +13,12 @@ segment p0 v0 a0 pf vf af t = (
   quintic (p0 .2) (v0 .2) (a0 .2) (pf .2) (vf .2) (af .2) t,
 )
 
-abbrev pub rest : Vec3
-rest = (0·0, 0·0, 0·0)
+abbrev pub atRest : Vec3
+atRest = (0·0, 0·0, 0·0)
 
 unfoldable pub restToRest : Vec3 → Vec3 → Float → Segment3
 unfolding segment
-restToRest from to t = segment from rest rest to rest rest t
+restToRest from to t = segment from atRest atRest to atRest atRest t
 
 -- the first axis's
 abbrev pub duration : Segment3 → Float

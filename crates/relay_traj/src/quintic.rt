@@ -1,7 +1,7 @@
 // One axis of a trajectory: the quintic of least jerk between two states, and what it asks at a time (001).
 ghost use mathlib.Core.Path.{_≡_};
 ghost use Rattle.relay_math.specs.F32.{finiteOr};
-ghost use Rattle.relay_traj.specs.Quintic.{mendedDuration, mend, ofMended, quintic, timeOn, eval, jerkCoeffs, peakAbsJerk};
+ghost use Rattle.relay_traj.specs.Quintic.{mendedDuration, mendEnds, ofMended, quintic, timeOn, eval, jerkCoeffs, peakAbsJerk};
 
 // A duration that is not finite and above this, in seconds, becomes this.
 const SHORTEST: f32 = 1e-3;
@@ -64,7 +64,7 @@ pub fn mended_duration(t: f32) -> f32
 
 // A bad end position becomes the start, as that is mended; other bad numbers become 0.
 fn mend(p0: f32, v0: f32, a0: f32, pf: f32, vf: f32, af: f32, t: f32) -> Mended
-    ensures { λ r. ⌜ r ≡ mend p0 v0 a0 pf vf af t ⌝ }
+    ensures { λ r. ⌜ r ≡ mendEnds p0 v0 a0 pf vf af t ⌝ }
 {
     let t = mended_duration(t);
     let p0 = fin(p0, 0.0);

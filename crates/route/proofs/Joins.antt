@@ -2,7 +2,7 @@
 use Rattle.laws.proofs.Prelude.{_≡_, refl, subst, inl, inr, _↔_, true, false, List, [], _∷_, ℕ, zero, suc, _+_, _-_, _≤_, _<_, eq-or-lt-of-le, arith, pos, Float, nan, inf, fin, eq, replicate, both}
 use Rattle.words.specs.Words.{bytesOf}
 use Rattle.outcome.specs.declared.Outcome.the-variants.{LegCount, RouteLength}
-use Rattle.route.specs.Form.{legOf, legsMeet, meetFrom, allMeet, countOf, backOf, formRefusal}
+use Rattle.route.specs.Form.{legOf, legsMeet, meetFrom, allMeet, legCount, backOf, formRefusal}
 
 -- ---- "Legs meet": each leg but the first meets the one before it
 
@@ -48,22 +48,22 @@ infinities-meet = (refl, refl, refl)
 -- ---- "6 a route below 8 bytes; 5 .. 0 or above 32; 6 .."
 
 pub no-bytes : formRefusal [] ≡ RouteLength
-unfolding formRefusal countOf backOf
+unfolding formRefusal legCount backOf
 no-bytes = refl
 
 pub eight-zeros : formRefusal (replicate 8 0) ≡ LegCount
-unfolding formRefusal countOf backOf
+unfolding formRefusal legCount backOf
 eight-zeros = refl
 
 pub many-legs-in-no-room : (formRefusal (bytesOf (32 ∷ 0 ∷ [])) ≡ RouteLength) × (formRefusal (bytesOf (33 ∷ 0 ∷ [])) ≡ LegCount)
-unfolding formRefusal countOf backOf
+unfolding formRefusal legCount backOf
 many-legs-in-no-room = (refl, refl)
 
 -- 76 times 2^30 is 0 in 32 bits
 pub no-wrapping : formRefusal (bytesOf (1073741824 ∷ 0 ∷ [])) ≡ LegCount
-unfolding formRefusal countOf backOf
+unfolding formRefusal legCount backOf
 no-wrapping = refl
 
 pub one-leg-in-no-room : formRefusal (bytesOf (1 ∷ 76 ∷ [])) ≡ RouteLength
-unfolding formRefusal countOf backOf
+unfolding formRefusal legCount backOf
 one-leg-in-no-room = refl

@@ -2,13 +2,13 @@
 use Rattle.laws.proofs.Prelude.{_≡_, refl, sym, _∙_, subst, _⊎_, inl, inr, Bool, true, false, List, ℕ, zero, suc, _+_, _-_, _*_, _≤_, _<_, eq-or-lt-of-le, le-of-suc-le-suc, add-zero, zero-add}
 use Rattle.laws.proofs.Prelude.{zero-mul, mul-one, one-mul, arith, T, Float, nan, inf, fin, binary32, fits, lt, le, isNan, add, sum, ofBits}
 use lib.Ieee.{Fits.cond-fits, Bits.is-true}
-use Rattle.words.proofs.Back.{float-fits}
+use Rattle.words.proofs.WordsBack.{float-fits}
 use Rattle.relay_math.{specs.F32.{_⊕_, _⊖_, 0·0, 1e-3, isFinite, finiteAbove, unsigned, Within}, proofs.Order.{Number, finite-number, le-trans, le-of-not-lt, le-refl-of, not-lt-of-le, within-finite}}
 use Rattle.relay_math.proofs.Sums.{round-own}
-use Rattle.relay_traj.{specs.{Governor.Running, Quintic.{Lasts, timeOn}}, proofs.{Clock.never-nan, Leg.mended-lasts}}
-use Rattle.joint_tick.{specs.{SetUp.segmentOf, Tick.sampleTime}, proofs.Calls.finite-time-as-it-is}
+use Rattle.relay_traj.{specs.{Governor.Running, Quintic.{Lasts, timeOn}}, proofs.{GovernorClock.never-nan, Leg.mended-lasts}}
+use Rattle.joint_tick.{specs.{SetUp.segmentOf, Tick.sampleTime}, proofs.FractionAndSample.finite-time-as-it-is}
 use Rattle.image.specs.{Layout.LEG-WORDS, Parts.legAt}
-use Rattle.route.specs.{Form.legOf, Legs.{durationOf, flownFrom, flown, endOf, FirstAbove, PastAll}}
+use Rattle.route.specs.{Form.legOf, Legs.{durationOf, flownFrom, legFlown, endOf, FirstAbove, PastAll}}
 use Rattle.route.proofs.LocalTime.{lasts-plus, sum-unsigned, local-time}
 
 -- ---- durations and ends
@@ -62,8 +62,8 @@ module _ (b : List ℕ) where
           | inr l ↦ rw (e i l) (found n (suc i) k l (omega arith) a e)
         ]
 
-    pub the-leg-flown : (n k : ℕ) → FirstAbove b n time k → flown b n time ≡ record { leg = k; at = time ⊖ endOf b k }
-    unfolding flown endOf
+    pub the-leg-flown : (n k : ℕ) → FirstAbove b n time k → legFlown b n time ≡ record { leg = k; at = time ⊖ endOf b k }
+    unfolding legFlown endOf
     the-leg-flown n k f = found n 0 k (omega arith) (omega (arith, f .within)) (f .above) (f .earlier)
 
     -- ---- "past all ends it is the last leg at its duration."
@@ -74,8 +74,8 @@ module _ (b : List ℕ) where
     passed zero i e = rw (add-zero i)
     passed (suc n) i e = let p : suc i + n ≡ i + suc n = omega arith in rw (e i (omega arith), ← p) (passed n (suc i) (λ j h. e j (omega (arith, h))))
 
-    pub past-all-ends : (n : ℕ) → PastAll b n time → flown b n time ≡ record { leg = n - 1; at = durationOf b (n - 1) }
-    unfolding flown endOf
+    pub past-all-ends : (n : ℕ) → PastAll b n time → legFlown b n time ≡ record { leg = n - 1; at = durationOf b (n - 1) }
+    unfolding legFlown endOf
     past-all-ends n p = passed n 0 (λ j h. p .none j (omega (arith, h))) ∙ rw (zero-add n)
 
     -- ---- one or the other, always
@@ -104,7 +104,7 @@ module _ (b : List ℕ) where
       duration-not-below : (i : ℕ) → T (le 0·0 (durationOf b i))
       duration-not-below i = le-trans 0·0 1e-3 (durationOf b i) (unfold le ofBits in tt) (duration-lasts i .1)
 
-      pub time-on-the-leg : (n : ℕ) → let f = flown b n time in Within 0·0 (durationOf b (f .leg)) (f .at)
+      pub time-on-the-leg : (n : ℕ) → let f = legFlown b n time in Within 0·0 (durationOf b (f .leg)) (f .at)
       time-on-the-leg n =
           elim (above-or-past n) [
             | inl f ↦ rw (the-leg-flown n (f .0) (f .1)) (in-leg (f .0) (f .1))
@@ -121,12 +121,12 @@ module _ (b : List ℕ) where
           rw (finite, not-lt-of-le x 0·0 (w .0), not-lt-of-le d x (w .1))
 
       -- so the clamp of `eval` never acts
-      pub never-clamped : (n : ℕ) → let f = flown b n time in timeOn (f .at) (durationOf b (f .leg)) ≡ f .at
-      never-clamped n = let f = flown b n time in kept (f .at) (durationOf b (f .leg)) (duration-lasts (f .leg) .0) (time-on-the-leg n)
+      pub never-clamped : (n : ℕ) → let f = legFlown b n time in timeOn (f .at) (durationOf b (f .leg)) ≡ f .at
+      never-clamped n = let f = legFlown b n time in kept (f .at) (durationOf b (f .leg)) (duration-lasts (f .leg) .0) (time-on-the-leg n)
 
       -- nor its rule for a time that is no number, and +infinity is never asked for: the leg is sampled at the time on it
-      pub sampled-there : (n : ℕ) → let f = flown b n time in sampleTime (segmentOf (legOf b (f .leg))) (f .at) ≡ f .at
+      pub sampled-there : (n : ℕ) → let f = legFlown b n time in sampleTime (segmentOf (legOf b (f .leg))) (f .at) ≡ f .at
       sampled-there n =
-          let f = flown b n time in
+          let f = legFlown b n time in
           let w = within-finite 0·0 (durationOf b (f .leg)) (f .at) (unfold isFinite ofBits in tt) (duration-lasts (f .leg) .0) (time-on-the-leg n) in
           finite-time-as-it-is (segmentOf (legOf b (f .leg))) (f .at) (is-true (isFinite (f .at)) w)

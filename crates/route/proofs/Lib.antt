@@ -1,7 +1,7 @@
-pub mod Walks
+pub mod LegWalks
 pub mod Joins
 pub mod LocalTime
 pub mod LegFlown
-pub mod Taken
-pub mod Limits
+pub mod FormRefusals
+pub mod MostLegs
 pub mod OneAnswer

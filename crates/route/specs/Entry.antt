@@ -7,7 +7,7 @@ use Rattle.joint_tick.specs.declared.stages.Reference.{Reference}
 use Rattle.outcome.specs.declared.Outcome.{Outcome}
 use Rattle.outcome.specs.Outcomes.{firstOf, Called}
 use Rattle.lent_tick.specs.Tick.{tickTable, tickFrom}
-use Rattle.route.specs.Form.{countOf, formTableTo, formTable}
+use Rattle.route.specs.Form.{legCount, formTableTo, formTable}
 use Rattle.route.specs.Legs.{referenceOn}
 
 -- 1, 2, 3, 4 as at a tick, and then the route's own
@@ -16,8 +16,8 @@ routeRefusal image inputLen answerLen route = firstOf (tickTable image inputLen 
 
 -- where a route tick's references come from: the leg flown at each time
 unfoldable pub onRoute : List ℕ → Float → Reference
-unfolding countOf referenceOn
-onRoute route time = referenceOn route (countOf route) time
+unfolding legCount referenceOn
+onRoute route time = referenceOn route (legCount route) time
 
 -- the tick of document 01 with the route's sample in place of the segment's
 unfoldable pub routeCall : List ℕ → List ℕ → List ℕ → List ℕ → Called

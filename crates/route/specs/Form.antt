@@ -19,13 +19,13 @@ use Rattle.outcome.specs.Outcomes.{Table, firstOf, differs}
 abbrev pub MOST-LEGS : ℕ
 MOST-LEGS = 32
 
-abbrev pub TRAILER-BYTES : ℕ
-TRAILER-BYTES = 8
+abbrev pub ROUTE-TRAILER-BYTES : ℕ
+ROUTE-TRAILER-BYTES = 8
 
 -- ---- the trailer is the last 8 bytes, whatever the length
 
-unfoldable pub countOf : List ℕ → ℕ
-countOf b = fourBytes b (length b - TRAILER-BYTES)
+unfoldable pub legCount : List ℕ → ℕ
+legCount b = fourBytes b (length b - ROUTE-TRAILER-BYTES)
 
 unfoldable pub backOf : List ℕ → ℕ
 backOf b = fourBytes b (length b - 4)
@@ -60,17 +60,17 @@ allMeet b n = meetFrom b (n - 1) 1
 
 abbrev pub formTableTo : ℕ → List ℕ → Table
 formTableTo most b =
-    (ltb (length b) TRAILER-BYTES, RouteLength)
-    ∷ (eqb (countOf b) 0, LegCount)
-    ∷ (ltb most (countOf b), LegCount)
-    ∷ (differs (backOf b) (LEG-BYTES * countOf b), RouteLength)
-    ∷ (differs (length b) (LEG-BYTES * countOf b + TRAILER-BYTES), RouteLength)
-    ∷ (not (allMeet b (countOf b)), LegsApart)
+    (ltb (length b) ROUTE-TRAILER-BYTES, RouteLength)
+    ∷ (eqb (legCount b) 0, LegCount)
+    ∷ (ltb most (legCount b), LegCount)
+    ∷ (differs (backOf b) (LEG-BYTES * legCount b), RouteLength)
+    ∷ (differs (length b) (LEG-BYTES * legCount b + ROUTE-TRAILER-BYTES), RouteLength)
+    ∷ (not (allMeet b (legCount b)), LegsApart)
     ∷ []
 
 abbrev pub formTable : List ℕ → Table
 formTable b = formTableTo MOST-LEGS b
 
 unfoldable pub formRefusal : List ℕ → Outcome
-unfolding countOf backOf allMeet
+unfolding legCount backOf allMeet
 formRefusal b = firstOf (formTable b)

@@ -28,17 +28,17 @@ flownFrom b time (suc n) i end =
     let next = end ⊕ durationOf b i in
     cond (lt time next) record { leg = i; at = time ⊖ end } (flownFrom b time n (suc i) next)
 
-unfoldable pub flown : List ℕ → ℕ → Float → Flown
+unfoldable pub legFlown : List ℕ → ℕ → Float → Flown
 unfolding flownFrom
-flown b n time = flownFrom b time n 0 0·0
+legFlown b n time = flownFrom b time n 0 0·0
 
 -- the base's own sample, of a leg in place of the stored segment
 unfoldable pub referenceOf : List ℕ → ℕ → Float → Reference
 referenceOf b i at = referenceAt (segmentOf (legOf b i)) at
 
 unfoldable pub referenceOn : List ℕ → ℕ → Float → Reference
-unfolding flown referenceOf
-referenceOn b n time = let f = flown b n time in referenceOf b (f .leg) (f .at)
+unfolding legFlown referenceOf
+referenceOn b n time = let f = legFlown b n time in referenceOf b (f .leg) (f .at)
 
 -- ---- what the theorems in proofs/ speak of
 

@@ -12,7 +12,7 @@ ghost use lib.ListN.{length};
 ghost use Rattle.words.specs.Words.{floatOf, vec};
 ghost use Rattle.image.specs.Layout.{LEG-BYTES};
 ghost use Rattle.image.specs.Parts.{legAt};
-ghost use Rattle.route.specs.Form.{TRAILER-BYTES, countOf, backOf, vecsMeet, legsMeet, allMeet, formRefusal};
+ghost use Rattle.route.specs.Form.{ROUTE-TRAILER-BYTES, legCount, backOf, vecsMeet, legsMeet, allMeet, formRefusal};
 
 // The limit: everything but the check is over any count.
 pub const MOST_LEGS: usize = 32;
@@ -21,14 +21,14 @@ pub const TRAILER_BYTES: usize = 8;
 
 // The trailer is the last 8 bytes, whatever the length.
 pub(crate) fn leg_count(route: &[u8]) -> usize
-    requires { ⌜ TRAILER-BYTES ≤ length (now route) ⌝ }
-    ensures { λ r. ⌜ r ≡ countOf (now (route .entry)) ⌝ }
+    requires { ⌜ ROUTE-TRAILER-BYTES ≤ length (now route) ⌝ }
+    ensures { λ r. ⌜ r ≡ legCount (now (route .entry)) ⌝ }
 {
     four_bytes(route, route.len() - TRAILER_BYTES) as usize
 }
 
 fn bytes_back(route: &[u8]) -> usize
-    requires { ⌜ TRAILER-BYTES ≤ length (now route) ⌝ }
+    requires { ⌜ ROUTE-TRAILER-BYTES ≤ length (now route) ⌝ }
     ensures { λ r. ⌜ r ≡ backOf (now (route .entry)) ⌝ }
 {
     four_bytes(route, route.len() - 4) as usize

@@ -12,7 +12,7 @@ ghost use mathlib.Core.Path.{_≡_};
 ghost use Prim.Native.Nat.{_+_, _*_, _<_, _≤_};
 ghost use lib.ListN.{length};
 ghost use Rattle.words.specs.Words.{float};
-ghost use Rattle.relay_traj.specs.Quintic.{mend};
+ghost use Rattle.relay_traj.specs.Quintic.{mendEnds};
 ghost use Rattle.image.specs.Layout.{LEG-BYTES};
 ghost use Rattle.route.specs.Legs.{durationOf, referenceOf, referenceOn};
 
@@ -29,7 +29,7 @@ fn duration_of(route: &[u8], i: usize) -> f32
 // One axis of a leg, mended as it is read: its p0 is word k, and the others stand three words apart.
 fn axis_at(route: &[u8], k: usize, t: f32) -> Mended
     requires { ⌜ 4 * k + 64 ≤ length (now route) ⌝ }
-    ensures { λ r. let b = now (route .entry) in ⌜ r ≡ mend (float b k) (float b (k + 3)) (float b (k + 6)) (float b (k + 9)) (float b (k + 12)) (float b (k + 15)) t ⌝ }
+    ensures { λ r. let b = now (route .entry) in ⌜ r ≡ mendEnds (float b k) (float b (k + 3)) (float b (k + 6)) (float b (k + 9)) (float b (k + 12)) (float b (k + 15)) t ⌝ }
 {
     let p0 = finite_at(route, k, 0.0);
     Mended {

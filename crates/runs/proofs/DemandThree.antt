@@ -2,8 +2,8 @@
 use Rattle.laws.proofs.Prelude.{_≡_, subst, _↔_, List, [], _∷_, _++_, map, ℕ, zero, suc, _<_, suc-le-suc, le-of-suc-le-suc, zero-lt-suc, arith, Float, nan, length, getD, take}
 use Rattle.latch.{specs.Latch.{Flies, FliesAt}, proofs.LatchFlies.{latch-flies, flag-flies, flag-flies-at}}
 use Rattle.lent_tick.specs.Unbroken.{Unbroken}
-use Rattle.runs.specs.{Runs.{Tick, Call, Ticks, leftBy, guided, marginsOf, start, imageAfter, marginsAlong, Right, AllRight, tickAt, imageAt}, DemandThree.{enterOf, exitOf, Shows}}
-use Rattle.runs.proofs.{Shown.{tick-done, shows}, Going.{call-steps, start-unbroken, thresholds-in-order, ran, latched-along}}
+use Rattle.runs.specs.{Runs.{Tick, Call, Ticks, leftBy, guided, marginsBy, start, imageAfter, marginsAlong, Right, AllRight, tickAt, imageAt}, DemandThree.{enterOf, exitOf, Shows}}
+use Rattle.runs.proofs.{Shown.{tick-done, shows}, Induction.{call-steps, start-unbroken, thresholds-in-order, ran, latched-along}}
 
 -- "Take any run of accepted ticks from set-up, the image handed back each time as the last tick left it, with margins as document 01 works them
 -- out. The planner's command is passed on at a tick exactly if some tick, this one or an earlier one, had a finite margin above the upper
@@ -25,8 +25,8 @@ demand-three setup calls t r =
 -- ---- the same by places, for a list of ticks that are given what they should be
 
 -- such a tick has its one margin
-one-margin : (image : List ℕ) (t : Tick) → Unbroken image → Right t → marginsOf image (Ticks t) ≡ guided image t .margin ∷ []
-unfolding marginsOf
+one-margin : (image : List ℕ) (t : Tick) → Unbroken image → Right t → marginsBy image (Ticks t) ≡ guided image t .margin ∷ []
+unfolding marginsBy
 one-margin image t a r = rw (tick-done image t a r)
 
 abbrev pub marginAt : List ℕ → List Tick → ℕ → Float

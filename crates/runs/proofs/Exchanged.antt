@@ -1,17 +1,17 @@
 -- Request Seven on bytes: runs in which the segment is exchanged. Assumes nothing.
 use Rattle.laws.proofs.Prelude.{_≡_, refl, sym, ap, _∙_, subst, not, List, [], _∷_, _++_, map, ℕ, _+_, T, le, isNan, ofBits, toBits, length}
-use Rattle.words.{specs.Words.{word, float, bits, flag}, proofs.Back.bits-back}
+use Rattle.words.{specs.Words.{word, float, bits, flag}, proofs.WordsBack.bits-back}
 use Rattle.latch.specs.Latch.{after}
 use Rattle.relay_math.specs.F32.{0·0}
 use Rattle.relay_geo.specs.declared.shield.SimplexShield.{SimplexShield}
-use Rattle.relay_traj.proofs.Clock.{starts-at-zero}
+use Rattle.relay_traj.proofs.GovernorClock.{starts-at-zero}
 use Rattle.joint_tick.specs.SetUp.{segmentOf, exchange}
 use Rattle.outcome.specs.{declared.Outcome.the-variants.Done, Outcomes.{left, Filled}}
 use Rattle.image.{specs.{Layout.{ENGAGED, GOVERNOR, SEGMENT, PEAKS, LEG-BYTES}, Parts.{segmentAt, legAt}, Image.{stateAt, imageOf, peaksOf}}, proofs.Decoded.{image-is, segment-written, state-fits}}
-use Rattle.lent_tick.{specs.Unbroken.Unbroken, proofs.{RowFour.unbroken-has, Going.exchange-fits}}
-use Rattle.calls.{specs.Entry.{exchangeRefusal, exchangeCall}, proofs.Steps.exchange-steps}
+use Rattle.lent_tick.{specs.Unbroken.Unbroken, proofs.{RowFour.unbroken-has, NeverRefused.exchange-fits}}
+use Rattle.calls.{specs.Entry.{exchangeRefusal, exchangeCall}, proofs.ExchangeSteps.exchange-steps}
 use Rattle.runs.specs.{Runs.{Tick, Call, Ticks, Exchanges, tickOf, leftBy, guided, start, imageAfter, Right}, DemandThree.{enterOf, exitOf, flagOf, InBand}, Kept.{keptByExchanges, SameWords}}
-use Rattle.runs.proofs.{Going.{call-steps, ran}, Middle.{in-band-as-before, flag-kept}, Kept.{clock-over-any-run, exchange-same}}
+use Rattle.runs.proofs.{Induction.{call-steps, ran}, Middle.{in-band-as-before, flag-kept}, CallsKeep.{clock-over-any-run, exchange-same}}
 
 -- "They always equal the value worked out from the stored coefficients": after any run of set-up, ticks, route ticks and exchanges, by their bits.
 pub peaks-over-any-run : (setup : List ℕ) (calls : List Call)

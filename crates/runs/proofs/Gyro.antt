@@ -3,17 +3,17 @@ use Rattle.laws.proofs.Prelude.{_≡_, refl, sym, ap, _∙_, subst, Bool, true,
 use Rattle.words.specs.Words.{word, float, floatOf}
 use Rattle.latch.specs.Latch.{Flies}
 use Rattle.relay_math.specs.F32.{0·0}
-use Rattle.relay_adrc.{specs.{declared.biquad.Biquad.Biquad, Biquad.{filterAt, lowpass, gyroNew}}, proofs.Lowpass.filters}
+use Rattle.relay_adrc.{specs.{declared.biquad.Biquad.Biquad, Biquad.{lowpassAt, lowpass, gyroNew}}, proofs.Lowpass.filters}
 use Rattle.joint_tick.specs.{declared.state.State.State, Profile.isProfile, SetUp.setUp}
 use Rattle.outcome.specs.{declared.Outcome.{Outcome, the-variants.{Done, BadProfile, PassThrough}}, Outcomes.{isDone, Table, left, leftUnless, Filled}}
 use Rattle.outcome.proofs.Tables.{done-none, never-given, in-turn, either}
 use Rattle.image.{specs.{Layout.{LPF, BIQUAD-WORDS, IMAGE-WORDS, IMAGE-BYTES, SETUP-PROFILE, SETUP-BYTES}, Parts.{biquadAt, lpfAt}, Image.movingAt, Inputs.setupAt}, proofs.Decoded.decode-encode}
-use Rattle.lent_tick.{specs.{Unbroken.Unbroken, Tick.{tickTable, tickRefusal}}, proofs.Going.set-up-fits}
+use Rattle.lent_tick.{specs.{Unbroken.Unbroken, Tick.{tickTable, tickRefusal}}, proofs.NeverRefused.set-up-fits}
 use Rattle.calls.specs.Entry.{setUpTable, exchangeTable, setUpRefusal, exchangeRefusal, SetsUp, setUpCall}
 use Rattle.route.specs.{Form.formTable, Entry.routeRefusal}
 use Rattle.runs.specs.{Runs.{Tick, Call, guided, start, imageAfter, marginsAlong, Right}, DemandThree.{enterOf, exitOf, Shows}, Kept.lasting}
 use Rattle.runs.specs.Gyro.{unfiltered, tableBefore, refusalBefore, setUpBefore, Filter, Roll, Pitch, Yaw, Passes}
-use Rattle.runs.proofs.{Going.start-unbroken, DemandThree.demand-three, Kept.{words-kept-over-any-run, all-keep-lasting}, LostRotor.ten-exactly}
+use Rattle.runs.proofs.{Induction.start-unbroken, DemandThree.demand-three, CallsKeep.{words-kept-over-any-run, all-keep-lasting}, LostRotorOnBytes.ten-exactly}
 
 -- ---- what is refused
 
@@ -86,7 +86,7 @@ module _ (setup : List ℕ) (taken : SetsUp setup) where
 
   -- of its filter b0 and b2 are one number, where a pass-through has 1 and 0
   alike : (f : Biquad) → f ≡ lowpass (setupAt setup .fc) (setupAt setup .fs) → f .b0 ≡ f .b2
-  unfolding setupAt filterAt
+  unfolding setupAt lowpassAt
   alike f e = rw (e, filters (setupAt setup .fc) (setupAt setup .fs) is-filtered)
 
   stored : {k : ℕ} → Filter k → biquadAt (start setup) k ≡ lowpass (setupAt setup .fc) (setupAt setup .fs)

@@ -1,10 +1,10 @@
 pub mod Shown
-pub mod Going
+pub mod Induction
 pub mod DemandThree
 pub mod Middle
-pub mod Kept
+pub mod CallsKeep
 pub mod Exchanged
-pub mod Shams
-pub mod LostRotor
+pub mod ShamsOverRuns
+pub mod LostRotorOnBytes
 pub mod Gyro
 pub mod OnBytes

@@ -4,12 +4,13 @@ use Rattle.words.specs.Words.{word, float, vec, flag, bits}
 use Rattle.relay_math.specs.Exact.{inRange}
 use Rattle.relay_geo.specs.{declared.vectors.Direction.the-variants.Refused, Vectors.Finite3, Attitude.thrustAxisNed, Set.minusInfinity}
 use Rattle.joint_tick.specs.{declared.{profile.Profile.the-variants.Whole, state.{Answer.Answer, State.State, TickInput.TickInput}, stages.Reference.Reference}, Tick.cleaned}
-use Rattle.joint_tick.proofs.{Shielding.{wantedAt, tick-margin}, NoAttitude.{Damped, bad-heading-tick, no-axis-tick}, Answered.answer-finite, Clock.{tick-time, time-never-back}, Kept.good-runs}
+use Rattle.joint_tick.proofs.{Shielding.{wantedAt, tick-margin}, TickNoAttitude.{Damped, bad-heading-tick, no-axis-tick}, AnswerFinite.answer-finite, TickClock.{tick-time, time-never-back}}
+use Rattle.joint_tick.proofs.TickKeeps.{good-runs}
 use Rattle.image.specs.{Layout.{PROFILE, YAW, TORQUE, COMMAND, TIME, PSI, MARGIN}, Parts.profileAt, Image.{fixedAt, stateAt}, Inputs.inputAt, Fits.F32}
-use Rattle.image.proofs.{AnswerFits.{margin-fits, command-fits, torque-fits}, Answered.{torque-answered, command-answered, command-words, time-answered, psi-word, margin-answered, margin-word}}
+use Rattle.image.proofs.{AnswerFits.{margin-fits, command-fits, torque-fits}, AnswerWords.{torque-answered, command-answered, command-words, time-answered, psi-word, margin-answered, margin-word}}
 use Rattle.calls.{specs.Ticks.Accepted, proofs.Going.good-image}
 use Rattle.runs.specs.{Runs.{Tick, tickOf, sourceOn, Right}, DemandThree.{flagOf, commandWords}}
-use Rattle.runs.proofs.{Shown.{done, tick-done, flag-shown}, Kept.lost}
+use Rattle.runs.proofs.{Shown.{done, tick-done, flag-shown}, CallsKeep.lost}
 
 whole : (image : List ℕ) → word image PROFILE ≡ 0 → fixedAt image .profile ≡ Whole
 unfolding fixedAt profileAt

@@ -6,11 +6,11 @@ use Rattle.relay_geo.specs.Vectors.{sanitise3}
 use Rattle.joint_tick.specs.declared.{profile.Profile.{Profile, the-variants.{Whole, LostRotor}}, state.{TickInput.TickInput, State.State}, stages.{Reference.Reference, Ticked.Ticked}}
 use Rattle.joint_tick.{specs.Tick.{plannerOf, guidance, ticked, stateAfter}, proofs.Shielding.{tick-margin, tick-planner, tick-fallback, planner-is}}
 use Rattle.image.specs.{Layout.{PROFILE, FLAG, MARGIN, INPUT-BYTES, ANSWER-BYTES}, Parts.profileAt, Image.{fixedAt, stateAt, imageOf}, Inputs.{inputAt, answerOf}, Passed.{passedOn, plannerWord}}
-use Rattle.image.{specs.Fits.F32, proofs.{Answered.{flag-answered, margin-answered, margin-word, command-words}, AnswerFits.{margin-fits, command-fits}}}
+use Rattle.image.{specs.Fits.F32, proofs.{AnswerWords.{flag-answered, margin-answered, margin-word, command-words}, AnswerFits.{margin-fits, command-fits}}}
 use Rattle.outcome.specs.{declared.Outcome.{Outcome, the-variants.Done}, Outcomes.{left, lent}}
-use Rattle.lent_tick.{specs.{Unbroken.Unbroken, Tick.{tickRefusal, tickFrom}}, proofs.Flown.unbroken-taken}
+use Rattle.lent_tick.{specs.{Unbroken.Unbroken, Tick.{tickRefusal, tickFrom}}, proofs.TickLeaves.unbroken-taken}
 use Rattle.calls.specs.Entry.{tickCall}
-use Rattle.route.{specs.Entry.{routeRefusal, routeCall}, proofs.Taken.in-their-turn}
+use Rattle.route.{specs.Entry.{routeRefusal, routeCall}, proofs.FormRefusals.in-their-turn}
 use Rattle.runs.specs.{Runs.{Course, Segment, Route, Tick, flying, tickOf, sourceOn, guided, RightCourse, Right}, DemandThree.{plannerWords, fallbackWords, commandWords, flagOf, Shows}}
 
 -- ---- the planner's words, by the profile

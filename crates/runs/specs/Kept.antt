@@ -43,10 +43,10 @@ abbrev pub SameWords : (ℕ → Bool) → List ℕ → List ℕ → Type 0
 SameWords these before later = (k : ℕ) → k < IMAGE-WORDS → these k ≡ true → word later k ≡ canon (word before k)
 
 -- every call of a run keeps word number k
-abbrev pub keptBy : Call → ℕ → Bool
-keptBy (Ticks t) k = keptByTicks k
-keptBy (Exchanges segment) k = keptByExchanges k
+abbrev pub keptByCall : Call → ℕ → Bool
+keptByCall (Ticks t) k = keptByTicks k
+keptByCall (Exchanges segment) k = keptByExchanges k
 
 abbrev pub AllKeep : List Call → ℕ → Type 0
 AllKeep [] k = Unit
-AllKeep (c ∷ calls) k = (keptBy c k ≡ true) × AllKeep calls k
+AllKeep (c ∷ calls) k = (keptByCall c k ≡ true) × AllKeep calls k

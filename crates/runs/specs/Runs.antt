@@ -63,10 +63,10 @@ unfoldable pub guided : List ℕ → Tick → Guided
 guided image t = guidance (sourceOn (t .course) image) (stateAt image) (inputAt (t .input))
 
 -- the margins that a call steps the shield by: that of a tick, if it is accepted; an exchange has none
-unfoldable pub marginsOf : List ℕ → Call → List Float
+unfoldable pub marginsBy : List ℕ → Call → List Float
 unfolding flying guided
-marginsOf image (Ticks t) = marginsIf (tickOf image t) (guided image t .margin)
-marginsOf image (Exchanges segment) = []
+marginsBy image (Ticks t) = marginsIf (tickOf image t) (guided image t .margin)
+marginsBy image (Exchanges segment) = []
 
 -- ---- the run
 
@@ -81,9 +81,9 @@ imageAfter image [] = image
 imageAfter image (c ∷ calls) = imageAfter (leftBy image c) calls
 
 unfoldable pub marginsAlong : List ℕ → List Call → List Float
-unfolding leftBy marginsOf
+unfolding leftBy marginsBy
 marginsAlong image [] = []
-marginsAlong image (c ∷ calls) = marginsOf image c ++ marginsAlong (leftBy image c) calls
+marginsAlong image (c ∷ calls) = marginsBy image c ++ marginsAlong (leftBy image c) calls
 
 -- ---- ticks that are given what they should be: right lengths and, on a route, a right route
 

@@ -1,5 +1,5 @@
 pub mod Slow
-pub mod Walk
+pub mod Loops
 pub mod Words
-pub mod Call
+pub mod FlagsCall
 pub mod OneAnswer

@@ -4,8 +4,8 @@ use Rattle.laws.proofs.Prelude.{binary32, fits, lt, length, getD, length-append
 use native.Mathlib.Nat.{le-refl}
 use lib.Seq.{getD-at, ext-getD}
 use Rattle.latch.{specs.Latch.{releases, engages, latch, flagsFrom, flags, FliesAt}, proofs.LatchFlies.{flags-length, flag-flies-at}}
-use Rattle.relay_geo.{specs.{declared.{set.RecoverableSet.RecoverableSet, shield.SimplexShield.SimplexShield}, Shield.{mend, newShield, step}}, proofs.SetUp.enter-below-exit}
-use Rattle.slow.specs.{Back.{lookBack, flagsTo, slowFlags}, Stepping.{Given, marginsGiven, steppedFlags}}
+use Rattle.relay_geo.{specs.{declared.{set.RecoverableSet.RecoverableSet, shield.SimplexShield.SimplexShield}, Shield.{mendThresholds, newShield, step}}, proofs.SetUp.enter-below-exit}
+use Rattle.slow.specs.{Back.{lookBack, flagsTo, slowFlags}, Stepping.{StepGiven, marginsGiven, steppedFlags}}
 
 -- ---- one margin looked at, as tests on plain Bools: r that it releases, g that it engages, b what the earlier ones say
 
@@ -99,7 +99,7 @@ module _ (enter exit : Float) (ms : List Float) where
 
 -- ---- the shield that steps is the latch: step after step
 
-pub stepped-is-latch : (s : SimplexShield) (gs : List Given) → steppedFlags s gs ≡ flagsFrom (s .enter) (s .exit) (s .engaged) (marginsGiven gs)
+pub stepped-is-latch : (s : SimplexShield) (gs : List StepGiven) → steppedFlags s gs ≡ flagsFrom (s .enter) (s .exit) (s .engaged) (marginsGiven gs)
 unfolding steppedFlags step flagsFrom latch
 stepped-is-latch s [] = refl
 stepped-is-latch s (g ∷ gs) =
@@ -107,9 +107,9 @@ stepped-is-latch s (g ∷ gs) =
     ap (λ (l : List Bool). done .fallback ∷ l) (stepped-is-latch (done .shield) gs)
 
 -- "Prove its flags equal to the stepping shield's on every list": a fresh shield of any set, of thresholds given as any f32, and whatever the commands
-pub slow-is-stepping : (set : RecoverableSet) (enter exit : Float) → T (fits binary32 enter) → (gs : List Given)
-    → slowFlags (mend enter exit .enter) (mend enter exit .exit) (marginsGiven gs) ≡ steppedFlags (newShield set enter exit) gs
+pub slow-is-stepping : (set : RecoverableSet) (enter exit : Float) → T (fits binary32 enter) → (gs : List StepGiven)
+    → slowFlags (mendThresholds enter exit .enter) (mendThresholds enter exit .exit) (marginsGiven gs) ≡ steppedFlags (newShield set enter exit) gs
 unfolding newShield
 slow-is-stepping set enter exit f gs =
-    let t = mend enter exit in
+    let t = mendThresholds enter exit in
     slow-is-latch (t .enter) (t .exit) (marginsGiven gs) (enter-below-exit enter exit f) ∙ sym (stepped-is-latch (newShield set enter exit) gs)

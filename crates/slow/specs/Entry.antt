@@ -5,7 +5,7 @@ use lib.Dec.{ltb}
 use lib.Ieee.{Float}
 use lib.ListN.{length}
 use Rattle.words.specs.Words.{float, flag}
-use Rattle.relay_geo.specs.Shield.{mend}
+use Rattle.relay_geo.specs.Shield.{mendThresholds}
 use Rattle.outcome.specs.declared.Outcome.the-variants.{NoRoom}
 use Rattle.outcome.specs.Outcomes.{Table, firstOf, differs, leftUnless, Filled}
 use Rattle.slow.specs.Back.{slowFlags}
@@ -19,15 +19,15 @@ unfolding float
 marginsFrom b k zero = []
 marginsFrom b k (suc n) = float b k ∷ marginsFrom b (suc k) n
 
-abbrev pub marginsOf : List ℕ → List Float
-marginsOf b = marginsFrom b 0 (length b / 4)
+abbrev pub marginsIn : List ℕ → List Float
+marginsIn b = marginsFrom b 0 (length b / 4)
 
 -- "enter and exit (mended as at set-up)", "the flags, a byte each": 1 the fallback, 0 the planner, as in a tick's answer
 unfoldable pub flagBytes : Float → Float → List ℕ → List ℕ
-unfolding mend marginsFrom
+unfolding mendThresholds marginsFrom
 flagBytes enter exit margins =
-    let t = mend enter exit in
-    map flag (slowFlags (t .enter) (t .exit) (marginsOf margins))
+    let t = mendThresholds enter exit in
+    map flag (slowFlags (t .enter) (t .exit) (marginsIn margins))
 
 -- "9 if the flag buffer's length differs from the list's or the list is longer than 65,535; no flag is then written"
 abbrev pub flagsTable : ℕ → ℕ → Table

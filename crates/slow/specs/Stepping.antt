@@ -7,16 +7,16 @@ use Rattle.relay_geo.specs.declared.shield.SimplexShield.{SimplexShield}
 use Rattle.relay_geo.specs.Shield.{step}
 
 -- what one step is given
-pub record Given : Type 0 where
+pub record StepGiven : Type 0 where
   pub margin : Float
   pub agile : BodyRate
   pub fallback : BodyRate
 
-abbrev pub marginsGiven : List Given → List Float
-marginsGiven gs = map (λ (g : Given). g .margin) gs
+abbrev pub marginsGiven : List StepGiven → List Float
+marginsGiven gs = map (λ (g : StepGiven). g .margin) gs
 
 -- the flag of each step of the shield, handed on as the last step left it
-unfoldable pub steppedFlags : SimplexShield → List Given → List Bool
+unfoldable pub steppedFlags : SimplexShield → List StepGiven → List Bool
 unfolding step
 steppedFlags s [] = []
 steppedFlags s (g ∷ gs) =

@@ -17,7 +17,7 @@ ghost use Rattle.relay_math.specs.F32.{isFinite};
 ghost use Rattle.words.specs.Words.{flag};
 ghost use Rattle.outcome.specs.Outcomes.{left};
 ghost use Rattle.slow.specs.Back.{inBand, lookBack, slowFlags};
-ghost use Rattle.slow.specs.Entry.{marginsOf, flagsCall};
+ghost use Rattle.slow.specs.Entry.{marginsIn, flagsCall};
 
 pub const MOST_MARGINS: usize = 65535;
 
@@ -37,7 +37,7 @@ fn in_band(enter: f32, exit: f32, margin: f32) -> bool
 fn passed_over(margins: &[u8], enter: f32, exit: f32, count: usize) -> usize
     requires { ⌜ 4 * count ≤ length (now margins) ⌝ }
     requires { ⌜ (isFinite enter ≡ true) × (isFinite exit ≡ true) ⌝ }
-    ensures { λ r. ⌜ (r ≤ count) × (lookBack enter exit (marginsOf (now (margins .entry))) r ≡ lookBack enter exit (marginsOf (now (margins .entry))) count) ⌝ }
+    ensures { λ r. ⌜ (r ≤ count) × (lookBack enter exit (marginsIn (now (margins .entry))) r ≡ lookBack enter exit (marginsIn (now (margins .entry))) count) ⌝ }
 {
     let lo = bits_of(enter);
     let hi = bits_of(exit);
@@ -62,7 +62,7 @@ fn passed_over(margins: &[u8], enter: f32, exit: f32, count: usize) -> usize
 fn look_back(margins: &[u8], enter: f32, exit: f32, count: usize) -> bool
     requires { ⌜ 4 * count ≤ length (now margins) ⌝ }
     requires { ⌜ (isFinite enter ≡ true) × (isFinite exit ≡ true) ⌝ }
-    ensures { λ r. ⌜ r ≡ lookBack enter exit (marginsOf (now (margins .entry))) count ⌝ }
+    ensures { λ r. ⌜ r ≡ lookBack enter exit (marginsIn (now (margins .entry))) count ⌝ }
 {
     let mut i = passed_over(margins, enter, exit, count);
     while i > 0 {
@@ -79,7 +79,7 @@ fn look_back(margins: &[u8], enter: f32, exit: f32, count: usize) -> bool
 fn fallback_after(margins: &[u8], enter: f32, exit: f32, count: usize) -> bool
     requires { ⌜ 4 * count ≤ length (now margins) ⌝ }
     requires { ⌜ (isFinite enter ≡ true) × (lt enter exit ≡ true) ⌝ }
-    ensures { λ r. ⌜ r ≡ lookBack enter exit (marginsOf (now (margins .entry))) count ⌝ }
+    ensures { λ r. ⌜ r ≡ lookBack enter exit (marginsIn (now (margins .entry))) count ⌝ }
 {
     if is_finite(exit) {
         look_back(margins, enter, exit, count)
@@ -91,7 +91,7 @@ fn fallback_after(margins: &[u8], enter: f32, exit: f32, count: usize) -> bool
 fn flag_after(margins: &[u8], enter: f32, exit: f32, count: usize) -> u8
     requires { ⌜ 4 * count ≤ length (now margins) ⌝ }
     requires { ⌜ (isFinite enter ≡ true) × (lt enter exit ≡ true) ⌝ }
-    ensures { λ r. ⌜ r ≡ flag (lookBack enter exit (marginsOf (now (margins .entry))) count) ⌝ }
+    ensures { λ r. ⌜ r ≡ flag (lookBack enter exit (marginsIn (now (margins .entry))) count) ⌝ }
 {
     if fallback_after(margins, enter, exit, count) {
         1
@@ -103,7 +103,7 @@ fn flag_after(margins: &[u8], enter: f32, exit: f32, count: usize) -> u8
 fn put_flags(margins: &[u8], enter: f32, exit: f32, flags: &mut [u8])
     requires { ⌜ length (now margins) ≡ 4 * length (now flags) ⌝ }
     requires { ⌜ (isFinite enter ≡ true) × (lt enter exit ≡ true) ⌝ }
-    ensures { λ _. ⌜ now (flags .exit) ≡ map flag (slowFlags enter exit (marginsOf (now (margins .entry)))) ⌝ }
+    ensures { λ _. ⌜ now (flags .exit) ≡ map flag (slowFlags enter exit (marginsIn (now (margins .entry)))) ⌝ }
 {
     let mut i = 0;
     while i < flags.len() {

@@ -1,6 +1,6 @@
-pub mod Back
+pub mod WordsBack
 pub mod Plain
-pub mod Finite
+pub mod FiniteWord
 pub mod Written
 pub mod Standing
 pub mod OneAnswer

@@ -4,7 +4,7 @@ use Rattle.laws.proofs.Prelude.{_≡_, refl, sym, ap, _∙_, inr, true, List, [
 use native.Mathlib.Numerals.{add-two, add-three}
 use lib.Seq.{set-getD}
 use Rattle.words.specs.{Words.{word, bytesOf, canon, canons, Put, Holds}, Inner.Plain}
-use Rattle.words.proofs.{Back.canon-itself, Written.{length-bytesOf, bytesOf-append, put-splits, sets-other, then, whole}}
+use Rattle.words.proofs.{WordsBack.canon-itself, Written.{length-bytesOf, bytesOf-append, put-splits, sets-other, then, whole}}
 
 -- every byte is one, as of a lent [u8]
 abbrev pub Bytes : List ℕ → Type 0

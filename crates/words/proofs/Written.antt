@@ -3,7 +3,7 @@ use Rattle.laws.proofs.Prelude.{_≡_, refl, ap, subst, _∙_, _⊎_, inl, inr,
 use Rattle.laws.proofs.Prelude.{set, take, drop, length-append, List·getD-append, sets, sets-eq, length-take-le, getD-append-add}
 use lib.{ListN.drop-of-length-le, Seq.{set-set, set-comm, take-suc, getD-set-other}}
 use Rattle.words.specs.Words.{word, bytesOf, Put}
-use Rattle.words.proofs.Back.{word-bytesOf}
+use Rattle.words.proofs.WordsBack.{word-bytesOf}
 
 pub length-bytesOf : (ws : List ℕ) → length (bytesOf ws) ≡ 4 * length ws
 length-bytesOf [] = refl

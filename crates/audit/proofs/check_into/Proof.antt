@@ -2,7 +2,7 @@
 use Rattle.laws.proofs.Prelude.{needs, eq-eqb, ne-eqb, not-true, not-false, sym, _∙_, held}
 use Rattle.words.proofs.Written.{whole}
 use Rattle.audit.specs.Entry.{checkCall}
-use Rattle.audit.proofs.{Call.{mended, finished}, check_into.{Statement.statement, Tie.{Need-returns-4, close, spec}}}
+use Rattle.audit.proofs.{VerdictCall.{mended, finished}, check_into.{Statement.statement, Tie.{Need-returns-4, close, spec}}}
 
 done : Need-returns-4
 done c =

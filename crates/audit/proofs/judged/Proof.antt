@@ -1,9 +1,9 @@
 -- `audit::judged`: what is carried along is what looking back says, and the verdict from here on is the verdict. Assumes nothing.
 use Rattle.laws.proofs.Prelude.{needs, _≡_, refl, sym, ap, _∙_, _-_, _≤_, sub-zero, arith, length}
 use Rattle.slow.specs.Back.{lookBack}
-use Rattle.log.{specs.Records.records, proofs.Taken.is-a-log}
+use Rattle.log.{specs.Records.records, proofs.LogForm.is-a-log}
 use Rattle.audit.specs.{Right.marginsIn, Verdict.{verdictFrom, verdictOf}}
-use Rattle.audit.proofs.{Walk.{turn, all-turns, carried, goes-on, stops}, judged.Statement.statement}
+use Rattle.audit.proofs.{OneTurn.{turn, all-turns, carried, goes-on, stops}, judged.Statement.statement}
 use Rattle.audit.proofs.judged.Tie.{InvT-loop, MeasureT-loop, Need-loop-holds, Need-returns, Need-loop-again, Need-returns-2, close, spec}
 use Rattle.audit.proofs.judged.Lts as lts
 

@@ -1,6 +1,6 @@
 -- `slow::fallback_after`: by looking back, where a release is possible. Assumes nothing.
 use Rattle.laws.proofs.Prelude.{needs, sym, _∙_}
-use Rattle.slow.proofs.{Walk.never-flies, fallback_after.{Statement.statement, Tie.{close, spec}}}
+use Rattle.slow.proofs.{Loops.never-flies, fallback_after.{Statement.statement, Tie.{close, spec}}}
 
 pub fallback-after-spec : {M : Type 1} → statement M
 fallback-after-spec =

@@ -1,7 +1,7 @@
 -- `slow::flags_into`: refused as it stands, or every flag by the mended thresholds. Assumes nothing.
 use Rattle.laws.proofs.Prelude.{needs, lt-ltb, le-ltb, ne-eqb, held}
 use Rattle.slow.specs.Entry.{flagsCall}
-use Rattle.slow.proofs.{Call.{mended, finished}, flags_into.{Statement.statement, Tie.{Need-returns-3, close, spec}}}
+use Rattle.slow.proofs.{FlagsCall.{mended, finished}, flags_into.{Statement.statement, Tie.{Need-returns-3, close, spec}}}
 
 done : Need-returns-3
 done c =

@@ -1,10 +1,10 @@
 -- `slow::look_back`: what the first i margins say is what all say. Assumes nothing.
 use Rattle.laws.proofs.Prelude.{needs, not-true, not-false, _≡_, sym, ap, _∙_, not, _≤_, arith}
-use Rattle.slow.specs.{Back.lookBack, Entry.marginsOf}
-use Rattle.slow.proofs.{Walk.{goes-on, decides, at-start}, look_back.{Statement.statement, Tie.{InvT-loop, MeasureT-loop, Need-returns, Need-loop-again, Need-returns-2, close, spec}}}
+use Rattle.slow.specs.{Back.lookBack, Entry.marginsIn}
+use Rattle.slow.proofs.{Loops.{goes-on, decides, at-start}, look_back.{Statement.statement, Tie.{InvT-loop, MeasureT-loop, Need-returns, Need-loop-again, Need-returns-2, close, spec}}}
 
 abbrev Inv-loop : InvT-loop
-Inv-loop margins enter exit count i₀ i = (i ≤ count) × (lookBack enter exit (marginsOf margins) i ≡ lookBack enter exit (marginsOf margins) count)
+Inv-loop margins enter exit count i₀ i = (i ≤ count) × (lookBack enter exit (marginsIn margins) i ≡ lookBack enter exit (marginsIn margins) count)
 
 abbrev μ-loop : MeasureT-loop
 μ-loop margins enter exit count i₀ i = i

@@ -1,11 +1,11 @@
 -- `slow::passed_over`: what the first i margins say is what all say. Assumes nothing.
 use Rattle.laws.proofs.Prelude.{needs, _≡_, refl, ap, _∙_, _≤_, arith, held}
 use Rattle.words.specs.Words.{floatOf, float}
-use Rattle.slow.specs.{Back.lookBack, Entry.marginsOf}
-use Rattle.slow.proofs.{Walk.goes-on, Words.in-band-word, passed_over.{Statement.statement, Tie.{InvT-loop, MeasureT-loop, Need-loop-again, close, spec}}}
+use Rattle.slow.specs.{Back.lookBack, Entry.marginsIn}
+use Rattle.slow.proofs.{Loops.goes-on, Words.in-band-word, passed_over.{Statement.statement, Tie.{InvT-loop, MeasureT-loop, Need-loop-again, close, spec}}}
 
 abbrev Inv-loop : InvT-loop
-Inv-loop margins enter exit count lo hi i₀ i = (i ≤ count) × (lookBack enter exit (marginsOf margins) i ≡ lookBack enter exit (marginsOf margins) count)
+Inv-loop margins enter exit count lo hi i₀ i = (i ≤ count) × (lookBack enter exit (marginsIn margins) i ≡ lookBack enter exit (marginsIn margins) count)
 
 abbrev μ-loop : MeasureT-loop
 μ-loop margins enter exit count lo hi i₀ i = i

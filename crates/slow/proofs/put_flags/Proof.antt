@@ -1,12 +1,12 @@
 -- `slow::put_flags`: after i turns the first i flags are written. Assumes nothing.
 use Rattle.laws.proofs.Prelude.{needs, _≡_, refl, _∙_, map, _-_, _≤_, arith, length, length-set, sets}
 use Rattle.words.specs.Words.{flag}
-use Rattle.slow.specs.{Back.flagsTo, Entry.marginsOf}
-use Rattle.slow.proofs.{Walk.{one-more, all-flags}, put_flags.{Statement.statement, Tie.{InvT-loop, MeasureT-loop, Need-loop-holds, Need-loop-again, close, spec}}}
+use Rattle.slow.specs.{Back.flagsTo, Entry.marginsIn}
+use Rattle.slow.proofs.{Loops.{one-more, all-flags}, put_flags.{Statement.statement, Tie.{InvT-loop, MeasureT-loop, Need-loop-holds, Need-loop-again, close, spec}}}
 
 abbrev Inv-loop : InvT-loop
 Inv-loop margins enter exit flags₀ i₀ flags i =
-    (i ≤ length flags₀) × (length flags ≡ length flags₀) × (flags ≡ sets flags₀ 0 (map flag (flagsTo enter exit (marginsOf margins) i)))
+    (i ≤ length flags₀) × (length flags ≡ length flags₀) × (flags ≡ sets flags₀ 0 (map flag (flagsTo enter exit (marginsIn margins) i)))
 
 abbrev μ-loop : MeasureT-loop
 μ-loop margins enter exit flags₀ i₀ flags i = length flags₀ - i

@@ -1,7 +1,7 @@
 -- `calls::entry::tick`: refused as it stands, or flown and written. Assumes nothing.
 use Rattle.laws.proofs.Prelude.{needs, eq-eqb, ne-eqb, not-true, refl, arith}
 use Rattle.words.proofs.Plain.{scanned}
-use Rattle.lent_tick.{specs.Tick.{tickRefusal, tickFrom}, proofs.Flown.{is-unbroken, unbroken-taken, read-of, flown, keeps}}
+use Rattle.lent_tick.{specs.Tick.{tickRefusal, tickFrom}, proofs.TickLeaves.{is-unbroken, unbroken-taken, read-of, flown, keeps}}
 use Rattle.calls.specs.Entry.{tickCall}
 use Rattle.calls.proofs.entry.tick.{Statement.statement, Tie.{Need-returns, Need-returns-2, Need-returns-3, Need-returns-4, Need-returns-5, close, spec}}
 

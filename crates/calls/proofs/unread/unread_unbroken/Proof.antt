@@ -1,5 +1,5 @@
 use Rattle.laws.proofs.Prelude.{needs}
-use Rattle.lent_tick.proofs.Flown.{read-of}
+use Rattle.lent_tick.proofs.TickLeaves.{read-of}
 use Rattle.calls.proofs.unread.unread_unbroken.{Statement.statement, Tie.{close, spec}}
 
 pub unread-unbroken-spec : {M : Type 1} → statement M

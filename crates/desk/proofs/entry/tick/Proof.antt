@@ -1,7 +1,7 @@
 -- `desk::entry::tick`: refused as it stands, or the desk stepped, the input changed and the core's tick of it. Assumes nothing.
 use Rattle.laws.proofs.Prelude.{needs, eq-eqb, ne-eqb, ap, _∙_, arith, length}
 use Rattle.desk.specs.Entry.{tickRefusalAt, deskTickCall}
-use Rattle.desk.proofs.{Flown.{heading-length, restored, no-input, refuses, flown}, entry.tick.Statement.statement}
+use Rattle.desk.proofs.{DeskTickLeaves.{heading-length, restored, no-input, refuses, flown}, entry.tick.Statement.statement}
 use Rattle.desk.proofs.entry.tick.Tie.{Need-returns, Need-returns-2, Need-returns-3, Need-returns-4, Need-returns-5, close, spec}
 
 wrong-desk : Need-returns

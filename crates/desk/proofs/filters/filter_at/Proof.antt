@@ -1,9 +1,9 @@
 use Rattle.laws.proofs.Prelude.{needs}
-use Rattle.desk.specs.Filters.{filterAt}
+use Rattle.desk.specs.Filters.{stickFilterAt}
 use Rattle.desk.proofs.filters.filter_at.{Statement.statement, Tie.{close, spec}}
 
 pub filter-at-spec : {M : Type 1} → statement M
-unfolding filterAt
+unfolding stickFilterAt
 filter-at-spec =
     close (spec
     (λ c κs. search needs) (λ c. search needs) (λ c κs. search needs) (λ c. search needs) (λ c κs. search needs) (λ c. search needs)

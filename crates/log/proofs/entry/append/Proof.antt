@@ -2,7 +2,7 @@
 use Rattle.laws.proofs.Prelude.{needs, sym, length-take-le}
 use Rattle.outcome.proofs.Tables.{accepted, refused}
 use Rattle.log.specs.Entry.{appendCall}
-use Rattle.log.proofs.{Taken.{is-a-log, taken, written}, entry.append.{Statement.statement, Tie.{Need-returns, close, spec}}}
+use Rattle.log.proofs.{LogForm.{is-a-log, taken, written}, entry.append.{Statement.statement, Tie.{Need-returns, close, spec}}}
 
 stays : Need-returns
 unfolding appendCall

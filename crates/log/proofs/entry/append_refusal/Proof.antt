@@ -1,7 +1,7 @@
 -- `log::entry::append_refusal`: the tests in their order. Assumes nothing.
 use Rattle.laws.proofs.Prelude.{needs, lt-ltb, le-ltb, eq-eqb, ne-eqb, not-true, not-false, sym, _∙_, length-take-le}
 use Rattle.log.specs.Entry.{appendRefusal}
-use Rattle.log.proofs.{Taken.is-a-log, entry.append_refusal.{Statement.statement, Tie.{close, spec}}}
+use Rattle.log.proofs.{LogForm.is-a-log, entry.append_refusal.{Statement.statement, Tie.{close, spec}}}
 
 pub append-refusal-spec : {M : Type 1} → statement M
 unfolding appendRefusal

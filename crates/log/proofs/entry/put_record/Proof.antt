@@ -1,6 +1,6 @@
 -- `log::entry::put_record`: the input, the answer and the trailer, one after another. Assumes nothing.
 use Rattle.laws.proofs.Prelude.{needs}
-use Rattle.log.proofs.{Taken.recorded, entry.put_record.{Statement.statement, Tie.{close, spec}}}
+use Rattle.log.proofs.{LogForm.recorded, entry.put_record.{Statement.statement, Tie.{close, spec}}}
 
 pub put-record-spec : {M : Type 1} → statement M
 put-record-spec =

@@ -1,7 +1,7 @@
 use Rattle.laws.proofs.Prelude.{needs, eq-eqb, ne-eqb, not-true, not-false, sym, _∙_, arith}
 use Rattle.words.proofs.Written.{whole}
 use Rattle.log.specs.Entry.{countCall}
-use Rattle.log.proofs.{Taken.is-a-log, into.count_into.{Statement.statement, Tie.{close, spec}}}
+use Rattle.log.proofs.{LogForm.is-a-log, into.count_into.{Statement.statement, Tie.{close, spec}}}
 
 pub count-into-spec : {M : Type 1} → statement M
 unfolding countCall

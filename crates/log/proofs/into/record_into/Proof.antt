@@ -2,7 +2,7 @@
 use Rattle.laws.proofs.Prelude.{needs, eq-eqb, ne-eqb, not-true, not-false, _≡_, sym, _∙_, ap, arith, length}
 use Rattle.words.proofs.Written.{over-all}
 use Rattle.log.specs.Entry.{recordCall}
-use Rattle.log.proofs.{Taken.{record-length, handed}, into.record_into.{Statement.statement, Tie.{close, spec}}}
+use Rattle.log.proofs.{LogForm.{record-length, handed}, into.record_into.{Statement.statement, Tie.{close, spec}}}
 
 pub record-into-spec : {M : Type 1} → statement M
 unfolding recordCall

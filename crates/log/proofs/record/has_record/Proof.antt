@@ -1,6 +1,6 @@
 use Rattle.laws.proofs.Prelude.{needs, sym, _∙_}
 use Rattle.log.specs.Records.{hasRecord}
-use Rattle.log.proofs.{Taken.is-a-log, record.has_record.{Statement.statement, Tie.{close, spec}}}
+use Rattle.log.proofs.{LogForm.is-a-log, record.has_record.{Statement.statement, Tie.{close, spec}}}
 
 pub has-record-spec : {M : Type 1} → statement M
 unfolding hasRecord

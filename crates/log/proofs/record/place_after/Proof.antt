@@ -1,6 +1,6 @@
 use Rattle.laws.proofs.Prelude.{needs, sym, _∙_, arith}
 use Rattle.log.specs.Records.{placeAfter}
-use Rattle.log.proofs.{Taken.there, record.place_after.{Statement.statement, Tie.{close, spec}}}
+use Rattle.log.proofs.{LogForm.there, record.place_after.{Statement.statement, Tie.{close, spec}}}
 
 pub place-after-spec : {M : Type 1} → statement M
 unfolding placeAfter

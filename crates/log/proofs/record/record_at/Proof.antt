@@ -1,7 +1,7 @@
 use Rattle.laws.proofs.Prelude.{needs, refl, sym, _∙_, arith}
 use native.Mathlib.Nat.{add-sub-cancel-left}
 use Rattle.log.specs.Records.{recordAt}
-use Rattle.log.proofs.{Taken.there, record.record_at.{Statement.statement, Tie.{close, spec}}}
+use Rattle.log.proofs.{LogForm.there, record.record_at.{Statement.statement, Tie.{close, spec}}}
 
 pub record-at-spec : {M : Type 1} → statement M
 unfolding recordAt

@@ -1,7 +1,7 @@
 -- `pattern::entry::expand_into`: refused as it stands, or the route of the legs that the walk found. Assumes nothing.
 use Rattle.laws.proofs.Prelude.{needs, ne-eqb, refl, sym, _∙_}
 use Rattle.pattern.specs.Entry.{expandCall, expandRefusal}
-use Rattle.pattern.proofs.{Going.told, Call.{tree, tree-is, none-found, many-found, places-found, routed, walk-says-broken, bad-pattern, no-legs, many-legs}}
+use Rattle.pattern.proofs.{ItemByItem.told, ExpandCall.{tree, tree-is, none-found, many-found, places-found, routed, walk-says-broken, bad-pattern, no-legs, many-legs}}
 use Rattle.pattern.proofs.entry.expand_into.{Statement.statement, Tie.{Need-returns, Need-returns-2, Need-returns-3, Need-put-route-requires, Need-returns-4, Need-returns-5, close, spec}}
 
 returns : Need-returns

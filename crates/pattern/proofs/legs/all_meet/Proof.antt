@@ -1,11 +1,11 @@
 -- `pattern::legs::all_meet`: the joins from leg i on decide, as all of them do. Assumes nothing.
 use Rattle.laws.proofs.Prelude.{needs, not-true, not-false, _≡_, refl, sym, _∙_, _-_, _≤_, arith, drop}
-use Rattle.pattern.specs.Entry.{allMeet}
+use Rattle.pattern.specs.Entry.{flownMeet}
 use Rattle.pattern.proofs.{Found.{legsAt, leg-long, joins, meet-on, meet-stops, meet-ends}, legs.all_meet.Statement.statement}
 use Rattle.pattern.proofs.legs.all_meet.Tie.{InvT-loop, MeasureT-loop, Need-legs-meet-requires, Need-returns, Need-loop-again, Need-returns-2, close, spec}
 
 abbrev Inv-loop : InvT-loop
-Inv-loop b places count i₀ i = (1 ≤ i) × (allMeet (drop (i - 1) (legsAt b places count)) ≡ allMeet (legsAt b places count))
+Inv-loop b places count i₀ i = (1 ≤ i) × (flownMeet (drop (i - 1) (legsAt b places count)) ≡ flownMeet (legsAt b places count))
 
 abbrev μ-loop : MeasureT-loop
 μ-loop b places count i₀ i = count - i

@@ -1,6 +1,6 @@
 -- `pattern::legs::put_route`: the two tests in their order, then the legs, the trailer and the length. Assumes nothing.
 use Rattle.laws.proofs.Prelude.{needs, not-true, not-false, sym, _∙_}
-use Rattle.pattern.proofs.{Found.{legsAt, how-many, legs-length-all}, Call.{no-room, apart, all-done}, legs.put_route.Statement.statement}
+use Rattle.pattern.proofs.{Found.{legsAt, how-many, legs-length-all}, ExpandCall.{no-room, apart, all-done}, legs.put_route.Statement.statement}
 use Rattle.pattern.proofs.legs.put_route.Tie.{Need-returns, Need-returns-2, Need-returns-3, close, spec}
 
 returns : Need-returns

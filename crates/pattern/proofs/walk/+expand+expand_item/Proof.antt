@@ -2,8 +2,8 @@
 use Rattle.laws.proofs.Prelude.{needs, _≡_, sym, _∙_, ℕ, _+_, _-_, _≤_, _<_, arith, length, slice}
 use Rattle.route.specs.Form.{MOST-LEGS}
 use Rattle.pattern.specs.{declared.form.Head.Head, Read.{read, headOf}}
-use Rattle.pattern.proofs.Going.{Item, Turn, Going, going-few, going-start, told, came-up, item-next, leg-fits, repeat-fits, neither-done, leg-done, too-deep, body-broken, repeat-done}
-use Rattle.pattern.proofs.{Going.{step-broken, step-on, step-end}, walk.+expand+expand_item.{statement, Tie.close}}
+use Rattle.pattern.proofs.ItemByItem.{Item, Turn, Going, going-few, going-start, told, came-up, item-next, leg-fits, repeat-fits, neither-done, leg-done, too-deep, body-broken, repeat-done}
+use Rattle.pattern.proofs.{ItemByItem.{step-broken, step-on, step-end}, walk.+expand+expand_item.{statement, Tie.close}}
 use borrow.Fn.{Kinds.In, PlainCycle.{Measures, is, falls, and}}
 use Rattle.pattern.proofs.walk.expand.Reads as expand
 use Rattle.pattern.proofs.walk.expand.Kinds as expand-kinds

@@ -1,7 +1,7 @@
 -- `pattern::walk::put_rounds`: up to place i the buffer holds the rounds. Assumes nothing.
 use Rattle.laws.proofs.Prelude.{needs, _≡_, refl, _∙_, ℕ, _-_, _*_, _≤_, _<_, mul-le-mul, arith, length, take, length-set, sets, slice}
 use Rattle.pattern.specs.{Tree.times as rounds, Walk.capped}
-use Rattle.pattern.proofs.{Walks.{capped-below, to-end, rounds-start, rounds-on, rounds-end}, walk.put_rounds.Statement.statement}
+use Rattle.pattern.proofs.{Rounds.{capped-below, to-end, rounds-start, rounds-on, rounds-end}, walk.put_rounds.Statement.statement}
 use Rattle.pattern.proofs.walk.put_rounds.Tie.{InvT-loop, MeasureT-loop, Need-returns, Need-loop-holds, Need-loop-again, Need-returns-2, close, spec}
 
 abbrev Inv-loop : InvT-loop

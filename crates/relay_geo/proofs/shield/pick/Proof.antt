@@ -1,5 +1,5 @@
 use Rattle.laws.proofs.Prelude.{needs}
-use Rattle.relay_geo.proofs.{Finite.sanitised-after, shield.pick.{Statement.statement, Tie.{close, spec}}}
+use Rattle.relay_geo.proofs.{Sanitised.sanitised-after, shield.pick.{Statement.statement, Tie.{close, spec}}}
 
 pub pick-spec : {M : Type 1} → statement M
 pick-spec =

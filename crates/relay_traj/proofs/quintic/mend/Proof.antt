@@ -1,9 +1,9 @@
 use Rattle.laws.proofs.Prelude.{needs}
-use Rattle.relay_traj.specs.Quintic.{mend}
+use Rattle.relay_traj.specs.Quintic.{mendEnds}
 use Rattle.relay_traj.proofs.quintic.mend.{Statement.statement, Tie.{close, spec}}
 
 pub mend-spec : {M : Type 1} → statement M
-unfolding mend
+unfolding mendEnds
 mend-spec =
     close (spec (λ c κs. search needs) (λ c κs. search needs) (λ c κs. search needs) (λ c κs. search needs) (λ c κs. search needs) (λ c κs. search needs) (λ c κs. search needs)
     (λ c. simp (c .fin6 .ensures, c .before .fin5 .ensures, c .before .before .fin4 .ensures, c .before .before .before .fin3 .ensures, c .before .before .before .before .fin2 .ensures, c .before .before .before .before .before .fin .ensures, c .before .before .before .before .before .before .mended-duration .ensures)))

@@ -1,9 +1,9 @@
 -- `route::entry::route_tick`: refused as it stands, or flown and written. Assumes nothing.
 use Rattle.laws.proofs.Prelude.{needs, eq-eqb, ne-eqb, not-true, not, ap, arith}
 use Rattle.words.proofs.Plain.{scanned}
-use Rattle.lent_tick.{specs.Tick.tickFrom, proofs.Flown.{is-unbroken, unbroken-taken, read-of, flown, keeps}}
+use Rattle.lent_tick.{specs.Tick.tickFrom, proofs.TickLeaves.{is-unbroken, unbroken-taken, read-of, flown, keeps}}
 use Rattle.route.specs.Entry.{onRoute, routeRefusal, routeCall}
-use Rattle.route.proofs.{Taken.{formed, form-decides, formless, broken}, entry.route_tick.Statement.statement}
+use Rattle.route.proofs.{FormRefusals.{formed, form-decides, formless, broken}, entry.route_tick.Statement.statement}
 use Rattle.route.proofs.entry.route_tick.Tie.{Need-returns, Need-returns-2, Need-returns-3, Need-returns-4, Need-returns-5, Need-returns-6, Need-returns-7, close, spec}
 
 image-length : Need-returns

@@ -1,7 +1,8 @@
 -- `route::form::all_meet`: the joins from leg i on decide, as all of them do. Assumes nothing.
 use Rattle.laws.proofs.Prelude.{needs, not-true, not-false, _≡_, refl, sym, _∙_, _-_, _≤_, arith}
 use Rattle.route.specs.Form.{meetFrom, allMeet}
-use Rattle.route.proofs.{Walks.{meet-on, meet-stops, meet-ends}, form.all_meet.{Statement.statement, Tie.{InvT-loop, MeasureT-loop, Need-returns, Need-loop-again, Need-returns-2, close, spec}}}
+use Rattle.route.proofs.{LegWalks.{meet-on, meet-stops, meet-ends}, form.all_meet.Statement.statement}
+use Rattle.route.proofs.form.all_meet.Tie.{InvT-loop, MeasureT-loop, Need-returns, Need-loop-again, Need-returns-2, close, spec}
 
 abbrev Inv-loop : InvT-loop
 Inv-loop route count i₀ i = (1 ≤ i) × (meetFrom route (count - i) i ≡ meetFrom route (count - 1) 1)

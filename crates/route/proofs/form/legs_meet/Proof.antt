@@ -1,7 +1,7 @@
 use Rattle.laws.proofs.Prelude.{needs, sym, _∙_}
 use Rattle.image.specs.Parts.{legAt}
 use Rattle.route.specs.Form.{legsMeet}
-use Rattle.route.proofs.{Walks.{first, second, third}, form.legs_meet.{Statement.statement, Tie.{Need-returns, Need-returns-2, Need-returns-3, close, spec}}}
+use Rattle.route.proofs.{LegWalks.{first, second, third}, form.legs_meet.{Statement.statement, Tie.{Need-returns, Need-returns-2, Need-returns-3, close, spec}}}
 
 returns : Need-returns
 unfolding legsMeet legAt

@@ -2,7 +2,7 @@
 use Rattle.laws.proofs.Prelude.{needs, refl, sym, _∙_}
 use Rattle.words.specs.Words.{vec}
 use Rattle.route.specs.Form.{vecsMeet}
-use Rattle.route.proofs.{Walks.{first, second, third, met}, form.vecs_meet.{Statement.statement, Tie.{Need-returns, Need-returns-2, Need-returns-3, close, spec}}}
+use Rattle.route.proofs.{LegWalks.{first, second, third, met}, form.vecs_meet.{Statement.statement, Tie.{Need-returns, Need-returns-2, Need-returns-3, close, spec}}}
 
 returns : Need-returns
 unfolding vecsMeet vec

@@ -1,9 +1,9 @@
 use Rattle.laws.proofs.Prelude.{needs}
-use Rattle.relay_traj.specs.Quintic.{mend}
+use Rattle.relay_traj.specs.Quintic.{mendEnds}
 use Rattle.route.proofs.legs.axis_at.{Statement.statement, Tie.{Need-returns, close, spec}}
 
 returns : Need-returns
-unfolding mend
+unfolding mendEnds
 returns c =
     let f = c .before .before .before .before in
     simp (

@@ -2,14 +2,14 @@
 use Rattle.laws.proofs.Prelude.{needs, _≡_, List, ℕ, _+_, Float}
 use native.Mathlib.Nat.{add-right-comm}
 use Rattle.words.specs.Words.{float, vec}
-use Rattle.relay_traj.specs.{declared.quintic.Quintic.Quintic, Quintic.{mend, ofMended, quintic}, Segment.segment}
+use Rattle.relay_traj.specs.{declared.quintic.Quintic.Quintic, Quintic.{mendEnds, ofMended, quintic}, Segment.segment}
 use Rattle.joint_tick.specs.SetUp.{segmentOf}
 use Rattle.image.specs.Parts.{legAt}
 use Rattle.route.specs.Legs.{referenceOf}
 use Rattle.route.proofs.legs.reference_of.{Statement.statement, Tie.{Need-returns, close, spec}}
 
 abbrev axis : List ℕ → ℕ → ℕ → Quintic
-axis b k j = ofMended (mend (float b j) (float b (j + 3)) (float b (j + 6)) (float b (j + 9)) (float b (j + 12)) (float b (j + 15)) (float b (k + 18)))
+axis b k j = ofMended (mendEnds (float b j) (float b (j + 3)) (float b (j + 6)) (float b (j + 9)) (float b (j + 12)) (float b (j + 15)) (float b (k + 18)))
 
 -- the axis's number may be added before or after
 axis-of : (b : List ℕ) (k j : ℕ) → let a : ℕ → Float = λ n. float b (k + n + j) in axis b k (k + j) ≡ quintic (float b (k + j)) (a 3) (a 6) (a 9) (a 12) (a 15) (float b (k + 18))

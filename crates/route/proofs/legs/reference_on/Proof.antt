@@ -1,23 +1,23 @@
 -- `route::legs::reference_on`: what is found from leg i on, after the ends up to it, is what is found at all. Assumes nothing.
 use Rattle.laws.proofs.Prelude.{_≡_, sym, ap, _∙_, List, ℕ, _-_, _≤_, sub-zero, arith, Float}
 use Rattle.joint_tick.specs.declared.stages.Reference.{Reference}
-use Rattle.route.specs.Legs.{Flown, flownFrom, flown, referenceOf, referenceOn}
-use Rattle.route.proofs.{Walks.{flown-on, flown-here, flown-last}, legs.reference_on.Statement.statement}
+use Rattle.route.specs.Legs.{Flown, flownFrom, legFlown, referenceOf, referenceOn}
+use Rattle.route.proofs.{LegWalks.{flown-on, flown-here, flown-last}, legs.reference_on.Statement.statement}
 use Rattle.route.proofs.legs.reference_on.Tie.{InvT-loop, MeasureT-loop, Need-loop-holds, Need-returns, Need-loop-again, Need-returns-2, close, spec}
 
 abbrev Inv-loop : InvT-loop
-Inv-loop route count time i₀ end₀ i end = (i ≤ count) × (flownFrom route time (count - i) i end ≡ flown route count time)
+Inv-loop route count time i₀ end₀ i end = (i ≤ count) × (flownFrom route time (count - i) i end ≡ legFlown route count time)
 
 abbrev μ-loop : MeasureT-loop
 μ-loop route count time i₀ end₀ i end = count - i
 
 loop-holds : Need-loop-holds Inv-loop μ-loop
-unfolding flown
+unfolding legFlown
 loop-holds c = (omega arith, rw sub-zero)
 
 -- the leg that was found is the one whose sample is taken
 module _ (b : List ℕ) (n : ℕ) (time : Float) where
-  taken : {r : Reference} {f : Flown} → r ≡ referenceOf b (f .leg) (f .at) → flown b n time ≡ f → r ≡ referenceOn b n time
+  taken : {r : Reference} {f : Flown} → r ≡ referenceOf b (f .leg) (f .at) → legFlown b n time ≡ f → r ≡ referenceOn b n time
   unfolding referenceOn
   taken e h = e ∙ ap (λ (f : Flown). referenceOf b (f .leg) (f .at)) (sym h)
 

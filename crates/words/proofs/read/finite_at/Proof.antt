@@ -3,7 +3,7 @@ use Rattle.laws.proofs.Prelude.{needs, lt-ltb, le-ltb, sym, _∙_, binary32, he
 use lib.Ieee.Bits.{nanBits-is}
 use Rattle.relay_math.proofs.Order.{finite-number}
 use Rattle.words.specs.Words.{float}
-use Rattle.words.proofs.{Finite.finite-is, read.finite_at.{Statement.statement, Tie.{Need-float-from-bits-result, close, spec}}}
+use Rattle.words.proofs.{FiniteWord.finite-is, read.finite_at.{Statement.statement, Tie.{Need-float-from-bits-result, close, spec}}}
 
 defined : Need-float-from-bits-result
 defined c = rw (nanBits-is binary32 (c .before .word-at .result)) (finite-number _ (held (sym (finite-is (c .before .word-at .result)) ∙ lt-ltb _ _ (c .if1 .taken))))

@@ -1,9 +1,9 @@
 use Rattle.laws.proofs.Prelude.{needs}
-use Rattle.relay_adrc.specs.Biquad.{filterAt, lowpass}
+use Rattle.relay_adrc.specs.Biquad.{lowpassAt, lowpass}
 use Rattle.relay_adrc.proofs.biquad.Biquad.lowpass.{Statement.statement, Tie.{close, spec}}
 
 pub lowpass-spec : {M : Type 1} → statement M
-unfolding lowpass filterAt
+unfolding lowpass lowpassAt
 lowpass-spec =
     close (spec (λ c κs. search needs) (λ c κs. search needs)
     (λ c. simp (c .passthrough .ensures, ← c .before .before .passes-through .ensures, c .before .if1 .taken))

@@ -19,19 +19,7 @@ pub struct Guidance {
     pub fallback: Vec3,
     pub psi: f32,
     pub margin: f32,
-    pub toward: Toward,
 }
-
-pub enum Toward {
-    Nowhere,
-    /// From R to R_d, with the feedforward where there is one.
-    Attitude(Mat3, Mat3, Option<Vec3>),
-    ThrustAxis,
-}
-
-/// "If there is no R_d the margin is minus infinity and the psi word NaN"; "where the thrust axis refuses, the fallback is zero, psi is NaN and the margin
-/// minus infinity".
-pub const NOWHERE: Guidance = Guidance { fallback: [0.0; 3], psi: f32::NAN, margin: f32::NEG_INFINITY, toward: Toward::Nowhere };
 
 /// All that stands here, and nothing else.
 pub struct Right;
@@ -78,12 +66,14 @@ pub trait Steps: Legs {
     }
 
     /// "evaluate the segment there", or the leg of the route
+    #[inline]
     fn sample(&self, flight: &Flight, source: &Source, time: f32) -> Sample3 {
         let (segment, at) = self.flown(flight, source, time);
         segment.eval(at)
     }
 
     /// "at its duration (the first axis's t_end) if the time is +infinity"
+    #[inline]
     fn flown<'a>(&self, flight: &'a Flight, source: &'a Source, time: f32) -> (&'a Segment3, f32) {
         match source {
             Source::Segment if time == f32::INFINITY => (&flight.segment, flight.segment.duration()),
@@ -101,6 +91,7 @@ pub trait Steps: Legs {
     }
 
     /// By the old rules or, request Six, toward the thrust axis alone.
+    #[inline]
     fn guide(&self, flight: &Flight, i: &Input, omega: Vec3, sample: &Sample3) -> Guidance {
         match flight.profile {
             Profile::Whole => self.guide_whole(flight, i, omega, sample),
@@ -108,22 +99,31 @@ pub trait Steps: Legs {
         }
     }
 
+    #[inline]
     fn guide_whole(&self, flight: &Flight, i: &Input, omega: Vec3, sample: &Sample3) -> Guidance {
         let (r, r_d) = self.attitudes(i, sample.acc);
         let ahead = r_d.and(geo::flatness_omega_ff(sample.acc, sample.jerk, i.yaw, i.yaw_rate));
         let fallback = self.fallback(flight.controller.desired_rate(i.q, sample.acc, i.yaw), ahead);
-        let Some(r_d) = r_d else { return Guidance { fallback, ..NOWHERE } };
+        let Some(r_d) = r_d else { return self.nowhere(fallback) };
         let psi = GeoAtt::psi(&r, &r_d);
         let error = self.rate_error(omega, &r, &r_d, ahead);
-        Guidance { fallback, psi, margin: self.margin(flight, psi, dot(error, error)), toward: Toward::Attitude(r, r_d, ahead) }
+        Guidance { fallback, psi, margin: self.margin(flight, psi, dot(error, error)) }
+    }
+
+    /// "If there is no R_d the margin is minus infinity and the psi word NaN"; "where the thrust axis refuses, the fallback is zero, psi is NaN and the
+    /// margin minus infinity".
+    fn nowhere(&self, fallback: Vec3) -> Guidance {
+        Guidance { fallback, psi: f32::NAN, margin: f32::NEG_INFINITY }
     }
 
     /// "build R and R_d"
+    #[inline]
     fn attitudes(&self, i: &Input, acc: Vec3) -> (Mat3, Option<Mat3>) {
         (geo::quat_to_rotmat(i.q), attitude(acc, i.yaw))
     }
 
     /// "`desired_rate` plus `flatness_omega_ff`, without the sum where the latter refuses, or takes an R_d and there is none"
+    #[inline]
     fn fallback(&self, desired_rate: Vec3, ahead: Option<Vec3>) -> Vec3 {
         match ahead {
             Some(ff) => [desired_rate[0] + ff[0], desired_rate[1] + ff[1], desired_rate[2] + ff[2]],
@@ -133,6 +133,7 @@ pub trait Steps: Legs {
 
     /// Request Four: "the filtered rate less R transposed times R_d times the feedforward, matrix product first, then the vector; where the feedforward
     /// refuses, the old rule holds".
+    #[inline]
     fn rate_error(&self, omega: Vec3, r: &Mat3, r_d: &Mat3, ahead: Option<Vec3>) -> Vec3 {
         match ahead {
             Some(ff) => less(omega, times(&product(r, r_d), ff)),
@@ -141,6 +142,7 @@ pub trait Steps: Legs {
     }
 
     /// "The margin takes psi and the squared length"
+    #[inline]
     fn margin(&self, flight: &Flight, psi: f32, squared: f32) -> f32 {
         flight.set().margin(psi, squared)
     }
@@ -148,12 +150,12 @@ pub trait Steps: Legs {
     /// Request Six: "the error is `attitude_error_reduced` toward the thrust axis", "psi is 1 less the dot product of R's third column with that axis", "R_d
     /// isn't built and yaw isn't read", "the margin's squared rate is that of the first two filtered components".
     fn guide_lost_rotor(&self, flight: &Flight, i: &Input, omega: Vec3, sample: &Sample3) -> Guidance {
-        let Some(b3) = geo::thrust_axis_ned(sample.acc) else { return NOWHERE };
+        let Some(b3) = geo::thrust_axis_ned(sample.acc) else { return self.nowhere([0.0; 3]) };
         let r = geo::quat_to_rotmat(i.q);
         let fallback = self.fallback_lost_rotor(flight, GeoAtt::attitude_error_reduced(&r, b3));
         let psi = 1.0 - dot([r[0][2], r[1][2], r[2][2]], b3);
         let margin = self.margin(flight, psi, omega[0] * omega[0] + omega[1] * omega[1]);
-        Guidance { fallback, psi, margin, toward: Toward::ThrustAxis }
+        Guidance { fallback, psi, margin }
     }
 
     /// "The fallback's first two components are -k_r times the error, the third is zero, with no feedforward."

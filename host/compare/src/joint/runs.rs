@@ -5,7 +5,7 @@ use super::bytes::{float, word, ANSWER, IMAGE, PEAKS, SETUP, TICK, WORDS};
 use super::frames::product;
 use super::guide::Guide;
 use super::lent::{Hands, Lent, Short};
-use super::model::{Answer, Flight, Input, Profile, Right, Steps, Toward};
+use super::model::{Answer, Flight, Input, Profile, Right, Steps};
 use super::on_routes::OnRoutes;
 use super::pilot::{self, Kind, Pilot, KINDS};
 use super::refusal::Refusals;
@@ -14,6 +14,8 @@ use super::wrong::Version;
 use super::{demand, Call, Face};
 use crate::counts::{counts, Counts};
 use crate::{share, threads};
+use oracle::geo::{Mat3, Vec3};
+use std::cell::Cell;
 use std::fmt;
 use std::sync::{Mutex, PoisonError};
 
@@ -98,16 +100,16 @@ impl Seen {
     }
 
     /// An accepted tick of a run of this kind: which way it went.
-    fn tick(&mut self, flight: &Flight, Answer { time, guidance, .. }: &Answer, kind: usize) {
+    fn tick(&mut self, flight: &Flight, noted: &Noted, Answer { time, guidance, .. }: &Answer, kind: usize) {
         self.ticks[flight.profile as usize][kind] += 1;
         self.at_the_end += u64::from(*time == f32::INFINITY);
-        match (&guidance.toward, flight.profile) {
+        match (noted.0.get(), flight.profile) {
             (Toward::Nowhere, Profile::Whole) => self.no_attitude += 1,
             (Toward::Nowhere, Profile::LostRotor) => self.no_axis += 1,
             (Toward::Attitude(r, r_d, ahead), _) => {
                 self.no_feedforward += u64::from(ahead.is_none());
                 let ahead = ahead.map_or(0, |ff| if ff == [0.0; 3] { 1 } else { 2 });
-                let finite = product(r, r_d).as_flattened().iter().all(|entry| entry.is_finite());
+                let finite = product(&r, &r_d).as_flattened().iter().all(|entry| entry.is_finite());
                 self.turning[ahead][usize::from(!finite)] += u64::from(guidance.psi.is_finite());
             }
             (Toward::ThrustAxis, _) => {}
@@ -166,6 +168,34 @@ impl fmt::Display for Seen {
             0 => Ok(()),
             _ => write!(f, "\n{}", self.routes),
         }
+    }
+}
+
+/// What a tick turns toward.
+#[derive(Clone, Copy)]
+enum Toward {
+    Nowhere,
+    /// From R to R_d, with the feedforward where there is one.
+    Attitude(Mat3, Mat3, Option<Vec3>),
+    ThrustAxis,
+}
+
+/// The right tick, and what it turned toward, by the steps that are taken then.
+struct Noted(Cell<Toward>);
+
+impl Legs for Noted {}
+
+impl Steps for Noted {
+    #[inline]
+    fn rate_error(&self, omega: Vec3, r: &Mat3, r_d: &Mat3, ahead: Option<Vec3>) -> Vec3 {
+        self.0.set(Toward::Attitude(*r, *r_d, ahead));
+        Right.rate_error(omega, r, r_d, ahead)
+    }
+
+    #[inline]
+    fn fallback_lost_rotor(&self, flight: &Flight, error: Vec3) -> Vec3 {
+        self.0.set(Toward::ThrustAxis);
+        Right.fallback_lost_rotor(flight, error)
     }
 }
 
@@ -293,11 +323,12 @@ pub fn run(face: Face, number: u64, watch: Watch, calls: &'static [Call], seen: 
         }
         if refused == 0 && call != Call::Exchange {
             let source = Right.source(call, hands.route.bytes());
-            let answer = Right.tick(&mut flight, &source, &Input::read(hands.input.bytes()));
+            let noted = Noted(Cell::new(Toward::Nowhere));
+            let answer = noted.tick(&mut flight, &source, &Input::read(hands.input.bytes()));
             answer.write(expected.answer.bytes_mut());
             flight.write(expected.image.bytes_mut());
             tick += 1;
-            seen.tick(&flight, &answer, kind);
+            seen.tick(&flight, &noted, &answer, kind);
             if let Source::Route(route) = &source {
                 seen.routes.take(hands.route.bytes(), route, answer.time);
             }

@@ -4,7 +4,7 @@ use super::{act_and_then, is_tick, keep, versions};
 use crate::joint::bytes::{put, word, IMAGE, PROFILE, SETUP_PROFILE};
 use crate::joint::frames::attitude;
 use crate::joint::lent::Lending;
-use crate::joint::model::{Answer, Flight, Guidance, Input, Profile, Right, Steps, Toward, NOWHERE};
+use crate::joint::model::{Answer, Flight, Guidance, Input, Profile, Right, Steps};
 use crate::joint::refusal::Refusals;
 use crate::joint::route::Source;
 use crate::joint::Call;
@@ -49,9 +49,9 @@ fn guide_and_then(
     then: impl FnOnce(Guidance, &Mat3, Option<Mat3>) -> Guidance,
 ) -> Guidance {
     let (guidance, (r, r_d)) = (Right.guide_lost_rotor(flight, i, omega, sample), Right.attitudes(i, sample.acc));
-    match guidance.toward {
-        Toward::Nowhere => guidance,
-        _ => then(guidance, &r, r_d),
+    match geo::thrust_axis_ned(sample.acc) {
+        Some(_) => then(guidance, &r, r_d),
+        None => guidance,
     }
 }
 
@@ -145,7 +145,7 @@ impl Steps for YawRead {
     fn guide_lost_rotor(&self, flight: &Flight, i: &Input, omega: Vec3, sample: &Sample3) -> Guidance {
         match attitude(sample.acc, i.yaw) {
             Some(_) => Right.guide_lost_rotor(flight, i, omega, sample),
-            None => NOWHERE,
+            None => Right.nowhere([0.0; 3]),
         }
     }
 }

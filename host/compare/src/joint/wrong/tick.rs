@@ -3,7 +3,7 @@
 use super::{act_and_then, is_tick, keep, versions};
 use crate::joint::bytes::{ANSWER, IMAGE};
 use crate::joint::lent::Lending;
-use crate::joint::model::{Answer, Flight, Guidance, Input, Profile, Right, Steps, Toward};
+use crate::joint::model::{Answer, Flight, Guidance, Input, Profile, Right, Steps};
 use crate::joint::refusal::Refusals;
 use crate::joint::route::Source;
 use crate::joint::Call;
@@ -62,11 +62,8 @@ impl Steps for EngagedAtEnter {
 }
 
 impl Steps for PsiZero {
-    fn guide(&self, flight: &Flight, i: &Input, omega: Vec3, sample: &Sample3) -> Guidance {
-        match Right.guide(flight, i, omega, sample) {
-            nowhere @ Guidance { toward: Toward::Nowhere, .. } => Guidance { psi: 0.0, ..nowhere },
-            guidance => guidance,
-        }
+    fn nowhere(&self, fallback: Vec3) -> Guidance {
+        Guidance { psi: 0.0, ..Right.nowhere(fallback) }
     }
 }
 

@@ -2,13 +2,13 @@
 use Rattle.laws.proofs.Prelude.{_≡_, sym, ap, subst, _∙_, true, List, ℕ, Float, neg, length, no}
 use Rattle.words.specs.Words.{float}
 use Rattle.image.specs.Layout.{YAW, YAW-RATE, DT}
-use Rattle.outcome.specs.Outcomes.{Left}
+use Rattle.outcome.{specs.Outcomes.Left, proofs.Tables.by-test}
 use Rattle.relay_math.specs.F32.{Within}
 use Rattle.relay_adrc.{specs.{declared.filter.CommandFilter.CommandFilter, Filter.{Step, filterNew, afterEvent, afterEvents}}, proofs.FilterLimits.{Limit, limits-kept, value-within, fresh-within}}
-use Rattle.calls.proofs.Flown.{sized}
+use Rattle.lent_tick.proofs.TickLeaves.{taken-unbroken}
 use Rattle.desk.specs.{declared.entry.DeskOutcome.DeskOutcome, Filters.deskAt, Entry.{deskDone, LentToDesk, moved, tickRefusalAt, deskTickCall}}
 use Rattle.desk.specs.Runs.{Stick, Heading, Turn, place, filterOf, omegaGiven, magLimit, rateLimit, DeskTick, DeskCall, deskAfter, deskStart, eventsAlong}
-use Rattle.desk.proofs.{DeskCalls.{either, done-asked}, Held.{stick-runs, start-length, fresh, stepped-by}, HeadingWritten.flown-heading}
+use Rattle.desk.proofs.{DeskCalls.done-asked, Held.{stick-runs, start-length, fresh, stepped-by}, HeadingWritten.flown-heading}
 
 module _ (s : Stick) (setup : List ℕ) (calls : List DeskCall) where
   abbrev filter : CommandFilter
@@ -46,10 +46,10 @@ pub flown-within : (setup : List ℕ) (calls : List DeskCall) (t : DeskTick)
     × (Limit (magLimit Turn setup) → Within (neg (magLimit Turn setup)) (magLimit Turn setup) (float (call .later .input) YAW-RATE))
 unfolding deskTickCall
 flown-within setup calls t =
-    either (λ (l : Left DeskOutcome LentToDesk). deskDone (l .outcome) ≡ true → Flown (l .later .input))
-    (tickRefusalAt (length desk) (length (t .sticks)) (t .image) (length (t .input)) (length (t .answer)))
+    by-test (λ (l : Left DeskOutcome LentToDesk). deskDone (l .outcome) ≡ true → Flown (l .later .input))
+    (deskDone (tickRefusalAt (length desk) (length (t .sticks)) (t .image) (length (t .input)) (length (t .answer))))
     (λ e d.
-    let i = sized (t .image) (length (t .input)) (length (t .answer)) (done-asked desk (t .sticks) (t .image) (t .input) (t .answer) e) .1 in
+    let i = taken-unbroken (t .image) (length (t .input)) (length (t .answer)) (done-asked desk (t .sticks) (t .image) (t .input) (t .answer) e) .1 in
     let w = flown-heading desk (t .sticks) (t .input) i in
     rw (w .0, w .1) (stepped Heading setup calls (t .sticks) (t .input), stepped Turn setup calls (t .sticks) (t .input)))
     (λ e d. no (sym e ∙ d))

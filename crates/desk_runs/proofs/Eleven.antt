@@ -2,7 +2,7 @@
 use Rattle.laws.proofs.Prelude.{_≡_, Bool, true, false, cond, List, ℕ, ap, arith}
 use Rattle.outcome.specs.{declared.Outcome.{Outcome, the-variants.{Done, PassThrough}}, Outcomes.{number, differs}}
 use Rattle.runs.proofs.Gyro.{no-tick-gives-eleven}
-use Rattle.calls.specs.Entry.{tickRefusal}
+use Rattle.lent_tick.specs.Tick.{tickRefusal}
 use Rattle.desk.specs.{declared.entry.DeskOutcome.the-variants.{DeskLength, SticksLength, Core}, Filters.{DESK-BYTES, DESK-SETUP-BYTES, STICKS-BYTES}, Entry.{deskNumber, deskRefusal, tickRefusalAt}}
 
 -- the desk's own two are 15 and 16, and the rest is the core's

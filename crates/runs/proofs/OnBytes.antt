@@ -5,10 +5,9 @@ use Rattle.relay_math.specs.Exact.{inRange}
 use Rattle.relay_geo.specs.{declared.vectors.Direction.the-variants.Refused, Vectors.Finite3, Attitude.thrustAxisNed, Set.minusInfinity}
 use Rattle.joint_tick.specs.{declared.{profile.Profile.the-variants.Whole, state.{Answer.Answer, State.State, TickInput.TickInput}, stages.Reference.Reference}, Tick.cleaned}
 use Rattle.joint_tick.proofs.{Shielding.{wantedAt, tick-margin}, TickNoAttitude.{Damped, bad-heading-tick, no-axis-tick}, AnswerFinite.answer-finite, TickClock.{tick-time, time-never-back}}
-use Rattle.joint_tick.proofs.TickKeeps.{good-runs}
 use Rattle.image.specs.{Layout.{PROFILE, YAW, TORQUE, COMMAND, TIME, PSI, MARGIN}, Parts.profileAt, Image.{fixedAt, stateAt}, Inputs.inputAt, Fits.F32}
 use Rattle.image.proofs.{AnswerFits.{margin-fits, command-fits, torque-fits}, AnswerWords.{torque-answered, command-answered, command-words, time-answered, psi-word, margin-answered, margin-word}}
-use Rattle.calls.{specs.Ticks.Accepted, proofs.Going.good-image}
+use Rattle.lent_tick.{specs.Unbroken.Unbroken, proofs.RowFour.unbroken-has}
 use Rattle.runs.specs.{Runs.{Tick, tickOf, sourceOn, Right}, DemandThree.{flagOf, commandWords}}
 use Rattle.runs.proofs.{Shown.{done, tick-done, flag-shown}, CallsKeep.lost}
 
@@ -23,7 +22,7 @@ pub record Unheld (image : List ℕ) (t : Tick) : Type 0 where
   pub psi : word (tickOf image t .later .answer) PSI ≡ 0x7fc0_0000
   pub margin : word (tickOf image t .later .answer) MARGIN ≡ 0xff80_0000
 
-module _ (image : List ℕ) (t : Tick) (a : Accepted image) (r : Right t) where
+module _ (image : List ℕ) (t : Tick) (a : Unbroken image) (r : Right t) where
   abbrev source : Float → Reference
   source = sourceOn (t .course) image
 
@@ -63,12 +62,12 @@ module _ (image : List ℕ) (t : Tick) (a : Accepted image) (r : Right t) where
   -- ---- "Torque and command are finite whatever comes in; the time and the margin are never NaN; only the psi word can be."
 
   time-fits : F32 (given .time)
-  time-fits = rw (tick-time source s i) (time-never-back source s i (good-runs (good-image image a)) .1 .holds)
+  time-fits = rw (tick-time source s i) (time-never-back source s i (unbroken-has image a .state .time) .1 .holds)
 
   pub answer-finite-on-bytes : let answer = tickOf image t .later .answer in
       Finite3 (vec answer TORQUE) × Finite3 (vec answer COMMAND) × T (not (isNan (float answer TIME))) × T (not (isNan (float answer MARGIN)))
   answer-finite-on-bytes =
-      let n = answer-finite source s i (good-runs (good-image image a)) in
+      let n = answer-finite source s i (unbroken-has image a .state .time) in
       rw (
         tick-done image t a r,
         torque-answered given (torque-fits source s i),

@@ -114,12 +114,7 @@ module _ (profile : Profile) (enter exit : Float) (rs : List (List ℕ)) (i : �
   shown false rule e =
       let w = both (eqb (flagWord r) 0) (planners profile r) e in
       let f = eqb-true (flagWord r) 0 (w .0) in
-      record {
-        flag = inl f;
-        flies = (λ z. rule .0 refl, λ x. f);
-        planner = λ z. planners-each profile r .0 (w .1);
-        fallback = λ z. absurd (omega (arith, z, f));
-      }
+      record { flag = inl f; flies = (λ z. rule .0 refl, λ x. f); planner = λ z. planners-each profile r .0 (w .1); fallback = λ z. absurd (omega (arith, z, f)) }
 
   meets : (demanded : Bool) → Rule demanded → RightAt profile enter exit rs i → right profile demanded r ≡ true
   meets true rule s = elim (s .flag) [

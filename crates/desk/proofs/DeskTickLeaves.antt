@@ -23,7 +23,8 @@ pub core-done : (image input given answer : List ℕ) → length given ≡ lengt
 core-done image input given answer l e = tick-asked image given answer ∙ rw l (refusal-done image (length input) (length answer) e)
 
 -- two words that were written over, put back: the bytes are those that stood there
-pub restored : (input : List ℕ) (x y : Float) {given back : List ℕ} {v w : ℕ} → Bytes input → given ≡ withHeading input x y → v ≡ word input YAW → w ≡ word input (suc YAW) → Put given YAW (v ∷ w ∷ []) back
+pub restored : (input : List ℕ) (x y : Float) {given back : List ℕ} {v w : ℕ} → Bytes input → given ≡ withHeading input x y → v ≡ word input YAW → w ≡ word input (suc YAW)
+    → Put given YAW (v ∷ w ∷ []) back
     → back ≡ input
 unfolding withHeading
 restored input x y h g p q b =

@@ -8,8 +8,8 @@ use Rattle.relay_geo.specs.{declared.set.RecoverableSet.RecoverableSet, Vectors
 use Rattle.relay_geo.specs.Controller.{rateToward, desiredRate}
 use Rattle.relay_adrc.specs.{declared.{axis.AdrcAxis.AdrcAxis, rate.AdrcRate.AdrcRate}, Axis.axisTick}
 use Rattle.joint_tick.specs.declared.{profile.Profile.{Profile, the-variants.{Whole, LostRotor}}, state.{State.State, TickInput.TickInput}, stages.Reference.Reference}
-use Rattle.joint_tick.specs.Tick.{plannerOf, cleaned, desiredR, feedforward, withFeedforward, rateError, rateSq, marginOf, guideWhole, rateTowardAxis, tiltRateSq, marginToAxis, guideLostRotor, guide, guidance, follow}
-use Rattle.joint_tick.{specs.Tick.ticked, proofs.Shielding.{filtered, wantedAt, tick-command, tick-torque}}
+use Rattle.joint_tick.specs.Tick.{plannerOf, cleaned, desiredR, feedforward, withFeedforward, rateError, rateSq, marginOf, guideWhole, rateTowardAxis, tiltRateSq, marginToAxis, guideLostRotor, guide}
+use Rattle.joint_tick.{specs.Tick.{guidance, follow, ticked}, proofs.Shielding.{filtered, wantedAt, tick-command, tick-torque}}
 use Rattle.image.specs.{Inputs.inputAt, Fits.{F32, FitsVec}}
 use Rattle.image.proofs.Fitting.{fitting}
 use Rattle.relay_geo.specs.declared.vectors.Direction.the-variants as direction

@@ -143,7 +143,8 @@ decode-encode s f =
 
 -- ---- written again
 
-pub same-words : (b : List ℕ) → wordsOfState (stateAt b) ≡ IMAGE-WORDS ∷ canons b GAINS (ENGAGED - GAINS) ++ flag (eqb (word b ENGAGED) 1) ∷ canons b GOVERNOR (PROFILE - GOVERNOR) ++ profileWord (profileOf (word b PROFILE)) ∷ wordsOf (floatsOfVec (peaksOf b))
+pub same-words : (b : List ℕ) → wordsOfState (stateAt b) ≡ IMAGE-WORDS ∷ canons b GAINS (ENGAGED - GAINS) ++ flag (eqb (word b ENGAGED) 1) ∷ canons b GOVERNOR
+    (PROFILE - GOVERNOR) ++ profileWord (profileOf (word b PROFILE)) ∷ wordsOf (floatsOfVec (peaksOf b))
 unfolding fixedAt movingAt gainsAt vec setAt governorAt segmentAt quinticAt rateAt axisAt adrcGainsAt lpfAt biquadAt profileAt float
 same-words b = refl
 

@@ -58,4 +58,5 @@ peaksOf b = peakAbsJerk3 (segmentAt b SEGMENT)
 -- an image read and written again: the count is put in, engaged and the profile become 1 or 0, and every float its canonical word, and the peaks are the segment's
 unfoldable pub canonicalImage : List ℕ → List ℕ
 canonicalImage b =
-    bytesOf (IMAGE-WORDS ∷ canons b GAINS (ENGAGED - GAINS) ++ flag (eqb (word b ENGAGED) 1) ∷ canons b GOVERNOR (PROFILE - GOVERNOR) ++ profileWord (profileOf (word b PROFILE)) ∷ wordsOf (floatsOfVec (peaksOf b)))
+    bytesOf (IMAGE-WORDS ∷ canons b GAINS (ENGAGED - GAINS) ++ flag (eqb (word b ENGAGED) 1) ∷ canons b GOVERNOR (PROFILE - GOVERNOR) ++ profileWord
+    (profileOf (word b PROFILE)) ∷ wordsOf (floatsOfVec (peaksOf b)))

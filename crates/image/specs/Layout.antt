@@ -1,7 +1,7 @@
 -- Where each number stands: document 01's word numbers, and 95 to 98 of requests Six and Seven, under the names of src/layout.rt. Definitions only.
 use Prim.Native.Nat.{ℕ, _*_}
 
--- widths
+-- widths of the parts that stand more than once
 abbrev pub VEC-WORDS : ℕ
 VEC-WORDS = 3
 
@@ -9,7 +9,7 @@ abbrev pub QUINTIC-WORDS : ℕ
 QUINTIC-WORDS = 7
 
 abbrev pub T-END : ℕ
-T-END = 6
+T-END = 6  -- of a quintic's words the last
 
 abbrev pub ADRC-WORDS : ℕ
 ADRC-WORDS = 4
@@ -28,7 +28,7 @@ LEG-BYTES = 4 * LEG-WORDS
 
 -- the image
 abbrev pub COUNT : ℕ
-COUNT = 0
+COUNT = 0  -- the image's own number of words
 
 abbrev pub GAINS : ℕ
 GAINS = 1
@@ -43,10 +43,10 @@ abbrev pub EXIT : ℕ
 EXIT = 14
 
 abbrev pub ENGAGED : ℕ
-ENGAGED = 15
+ENGAGED = 15  -- 1 or 0
 
 abbrev pub GOVERNOR : ℕ
-GOVERNOR = 16
+GOVERNOR = 16  -- its time first
 
 abbrev pub SEGMENT : ℕ
 SEGMENT = 20
@@ -58,10 +58,10 @@ abbrev pub LPF : ℕ
 LPF = 68
 
 abbrev pub PROFILE : ℕ
-PROFILE = 95
+PROFILE = 95  -- its word: 0 or 1
 
 abbrev pub PEAKS : ℕ
-PEAKS = 96
+PEAKS = 96  -- of the jerk, axis by axis
 
 abbrev pub IMAGE-WORDS : ℕ
 IMAGE-WORDS = 99
@@ -83,7 +83,7 @@ abbrev pub SETUP-EXIT : ℕ
 SETUP-EXIT = 13
 
 abbrev pub SETUP-BAND : ℕ
-SETUP-BAND = 14
+SETUP-BAND = 14  -- err_lo, err_hi, g_min
 
 abbrev pub SETUP-LEG : ℕ
 SETUP-LEG = 17
@@ -145,7 +145,7 @@ abbrev pub COMMAND : ℕ
 COMMAND = 3
 
 abbrev pub FLAG : ℕ
-FLAG = 6
+FLAG = 6  -- 1 where the command is the fallback's, else 0
 
 abbrev pub TIME : ℕ
 TIME = 7

@@ -15,9 +15,11 @@ Delivered before after g u fraction dt = after .«u_act» ≡ finiteOr (lag (bef
 
 pub record ScalesTheLast (source next : Float → Reference) (s : State) (i k : TickInput) : Type 0 where
   pub roll : Delivered (ticked source s i .rate .roll) (ticked next (stateAfter source s i) k .rate .roll) (s .moving .rate .roll .g) (ticked source s i .answer .torque .0 .0) (k .fraction .0) (k .dt)
-  pub pitch : Delivered (ticked source s i .rate .pitch) (ticked next (stateAfter source s i) k .rate .pitch) (s .moving .rate .pitch .g) (ticked source s i .answer .torque .0 .1) (k .fraction .1) (k .dt)
+  pub pitch : Delivered (ticked source s i .rate .pitch) (ticked next (stateAfter source s i) k .rate .pitch) (s .moving .rate .pitch .g) (ticked source s i .answer .torque .0 .1)
+      (k .fraction .1) (k .dt)
   -- with a rotor lost the third axis stands still
-  pub yaw : s .fixed .profile ≡ Whole → Delivered (ticked source s i .rate .yaw) (ticked next (stateAfter source s i) k .rate .yaw) (s .moving .rate .yaw .g) (ticked source s i .answer .torque .0 .2) (k .fraction .2) (k .dt)
+  pub yaw : s .fixed .profile ≡ Whole → Delivered (ticked source s i .rate .yaw) (ticked next (stateAfter source s i) k .rate .yaw) (s .moving .rate .yaw .g)
+      (ticked source s i .answer .torque .0 .2) (k .fraction .2) (k .dt)
 
 pub fraction-scales-the-last-torque : (source next : Float → Reference) (s : State) (i k : TickInput) → ScalesTheLast source next s i k
 unfolding ticked prepare guidePickFollow pick follow

@@ -22,16 +22,7 @@ old-follow r measured wanted dt = refl
 -- the input with another heading
 abbrev pub headed : TickInput → Float → Float → TickInput
 headed i yaw yawRate =
-    record {
-      gyro = i .gyro;
-      quat = i .quat;
-      «track_err» = i .«track_err»;
-      yaw = yaw;
-      «yaw_rate» = yawRate;
-      dt = i .dt;
-      agile = i .agile;
-      fraction = i .fraction;
-    }
+    record { gyro = i .gyro; quat = i .quat; «track_err» = i .«track_err»; yaw = yaw; «yaw_rate» = yawRate; dt = i .dt; agile = i .agile; fraction = i .fraction }
 
 -- the third of either command
 third-of-two : (gains : GeoGains) (r : Mat3) (axis : Direction) → sanitise3 (rateTowardAxis gains r axis .0) .2 ≡ 0·0
@@ -55,7 +46,8 @@ module _ (source : Float → Reference) (s : State) (i : TickInput) (lost : s .f
   pub third-command-zero : ticked source s i .answer .command .0 .2 ≡ 0·0
   unfolding guide guideLostRotor
   third-command-zero =
-      let fallback = ap (λ (g : Guided). sanitise3 (g .fallback .0) .2) (by-profile source s i lost) ∙ third-of-two (s .fixed .gains) (quatToRotmat (i .quat)) (thrustAxisNed (cleaned (wantedAt source s i) .acc)) in
+      let fallback = ap (λ (g : Guided). sanitise3 (g .fallback .0) .2) (by-profile source s i lost) ∙ third-of-two (s .fixed .gains) (quatToRotmat (i .quat))
+      (thrustAxisNed (cleaned (wantedAt source s i) .acc)) in
       let planner = ap (λ (p : Profile). plannerOf p (i .agile) .0 .2) lost in
       ap (λ (w : BodyRate). w .0 .2) (tick-command source s i) ∙ either (ticked source s i .answer .fallback) _ _ fallback planner
     where

@@ -1,4 +1,5 @@
--- `guide_whole` builds R and R_d once, and takes the length of g - a once; ADRC's tick is taken in two halves, and follows the command as it was chosen: that is the Rust's own calls, bit for bit. Assumes nothing.
+-- `guide_whole` builds R and R_d once, and takes the length of g - a once; ADRC's tick is taken in two halves, and follows the command as it was chosen: that
+-- is the Rust's own calls, bit for bit. Assumes nothing.
 use Rattle.laws.proofs.Prelude.{_≡_, refl, _∙_, cond, Float}
 use Rattle.relay_math.{specs.{F32.{0·0, isFinite, finiteOr}, declared.{Vec3.Vec3, BodyRate.BodyRate}}, proofs.FiniteOr.{finite-or-keeps, or-zero-finite}}
 use Rattle.relay_geo.specs.declared.{vectors.{Mat3.Mat3, Quat.Quat, Direction.Direction}, attitude.Attitude.{Attitude, the-variants.{Matrix, Refused}}, controller.GeoGains.GeoGains}
@@ -7,8 +8,8 @@ use Rattle.relay_geo.{specs.{Controller.{rateToward, desiredRate}, Set.margin, 
 use Rattle.relay_geo.proofs.Sanitised.{sanitise3-finite, sanitise3-keeps, sanitised-after}
 use Rattle.joint_tick.specs.declared.{profile.Profile.{Profile, the-variants.{Whole, LostRotor}}, state.{Fixed.Fixed, TickInput.TickInput}, stages.{Reference.Reference, Prepared.Prepared}}
 use Rattle.joint_tick.specs.declared.stages.{Guided.Guided, Observed3.Observed3}
-use Rattle.joint_tick.specs.Tick.{cleaned, withFeedforward, rateError, rateSq, psiOf, marginOf, guideWhole, rateTowardAxis, psiToAxis, tiltRateSq, marginToAxis, guideLostRotor, shielded, tickThird, follow}
-use Rattle.joint_tick.specs.{Tick.pick, Inner.{observeThird, observe, actThird, followOn, pickOn}}
+use Rattle.joint_tick.specs.Tick.{cleaned, withFeedforward, rateError, rateSq, psiOf, marginOf, guideWhole, rateTowardAxis, psiToAxis, tiltRateSq, marginToAxis, guideLostRotor, shielded}
+use Rattle.joint_tick.specs.{Tick.{tickThird, follow, pick}, Inner.{observeThird, observe, actThird, followOn, pickOn}}
 use Rattle.relay_adrc.{specs.{declared.{axis.{AdrcAxis.AdrcAxis, Observed.Observed}, rate.AdrcRate.AdrcRate}, Inner.axisAct}, proofs.AxisTick.tick-in-halves}
 use Rattle.relay_geo.specs.declared.vectors.Direction.the-variants as direction
 
@@ -86,7 +87,8 @@ follow-cleans : (p : Profile) (r : AdrcRate) (o : Observed3) (w : BodyRate) → 
 unfolding followOn
 follow-cleans p r o w = rw (act-cleans (r .roll) (o .roll) (w .0 .0), act-cleans (r .pitch) (o .pitch) (w .0 .1), third-cleans p (r .yaw) (o .yaw) (w .0 .2))
 
-pub acts-on-the-choice : (f : Fixed) (p : Prepared) (o : Observed3) (g : Guided) → followOn (f .profile) (p .moving .rate) o (cond (shielded f p g .fallback) (g .fallback) (g .planner)) ≡ followOn (f .profile) (p .moving .rate) o (shielded f p g .command)
+pub acts-on-the-choice : (f : Fixed) (p : Prepared) (o : Observed3) (g : Guided) → followOn (f .profile) (p .moving .rate) o (cond (shielded f p g .fallback) (g .fallback) (g .planner))
+    ≡ followOn (f .profile) (p .moving .rate) o (shielded f p g .command)
 unfolding step
 acts-on-the-choice f p o g =
     let engaged = shielded f p g .fallback in

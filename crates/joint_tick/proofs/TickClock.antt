@@ -37,6 +37,7 @@ module _ (source : Float → Reference) (s : State) (i : TickInput) where
   -- "a NaN dt moves ADRC by 1 ms and the governor by nothing"; so does an infinite one.
   pub one-dt-two-rules : isFinite (i .dt) ≡ false → Running (s .moving .governor .s)
       → T (eq (s .moving .governor .s) (stateAfter source s i .moving .governor .s))
-      × (ticked source s i .rate ≡ follow (s .fixed .profile) (fractions (s .fixed .profile) (s .moving .rate) (i .fraction)) (prepare (s .fixed .profile) (s .moving) i .rate) (ticked source s i .answer .command) 1e-3 .rate)
+      × (ticked source s i .rate ≡ follow (s .fixed .profile) (fractions (s .fixed .profile) (s .moving .rate) (i .fraction)) (prepare (s .fixed .profile) (s .moving) i .rate)
+      (ticked source s i .answer .command) 1e-3 .rate)
   unfolding ticked prepare guidePickFollow pick advance
   one-dt-two-rules e r = (no-dt-keeps-number (s .moving .governor) (i .«track_err») (i .dt) (no-time (i .dt) e) r, rw (rate-by-1ms _ _ _ _ (i .dt) e))

@@ -56,12 +56,7 @@ module _ (source : Float → Reference) (s : State) (i : TickInput) where
       let m = tick-margin source s i ∙ ap (λ (x : Guided). x .margin) g in
       let f : ticked source s i .answer .fallback ≡ true =
       tick-latch source s i ∙ rw (ap (λ (x : Guided). x .margin) g) (unknown-engages (s .fixed .enter) (s .fixed .exit) (s .moving .engaged)) in
-      record {
-        margin = m;
-        psi = tick-psi source s i ∙ ap (λ (x : Guided). x .psi) g;
-        flag = f;
-        command = tick-fallback source s i f ∙ rw (ap (λ (x : Guided). x .fallback) g, clean-zeros);
-      }
+      record { margin = m; psi = tick-psi source s i ∙ ap (λ (x : Guided). x .psi) g; flag = f; command = tick-fallback source s i f ∙ rw (ap (λ (x : Guided). x .fallback) g, clean-zeros) }
 
   pub no-attitude-tick : s .fixed .profile ≡ Whole → desiredR (wantedAt source s i) i ≡ Refused → Damped source s i
   unfolding guide

@@ -85,7 +85,7 @@ referenceAt g time =
 -- ---- guide by the old rules: "make non-finite acceleration and jerk zero; build R and R_d" ..
 
 abbrev pub cleaned : Reference → Reference
-cleaned w = record { acc = sanitise3 (w .acc); jerk = sanitise3 (w .jerk) }
+cleaned wanted = record { acc = sanitise3 (wanted .acc); jerk = sanitise3 (wanted .jerk) }
 
 -- the planner's command; "A planner's third component is made zero" with a rotor lost
 abbrev pub plannerOf : Profile → BodyRate → BodyRate
@@ -102,8 +102,8 @@ feedforward wanted i = flatnessOmegaFf (cleaned wanted .acc) (cleaned wanted .je
 
 -- "`desired_rate` plus `flatness_omega_ff`, without the sum where the latter refuses". Without the sum isn't plus zero: a -0.0 stays.
 abbrev pub withFeedforward : BodyRate → Feedforward → BodyRate
-withFeedforward w (rate.Rate f) = record { 0 = (w .0 .0 ⊕ f .0 .0, w .0 .1 ⊕ f .0 .1, w .0 .2 ⊕ f .0 .2) }
-withFeedforward w rate.Refused = w
+withFeedforward omega (rate.Rate f) = record { 0 = (omega .0 .0 ⊕ f .0 .0, omega .0 .1 ⊕ f .0 .1, omega .0 .2 ⊕ f .0 .2) }
+withFeedforward omega rate.Refused = omega
 
 -- the commanded rate, from R_d's axes to R's: the product of the matrices, then its rows with f, which start from no 0.0
 unfoldable pub commanded : Mat3 → Mat3 → Vec3 → Vec3
@@ -112,11 +112,11 @@ commanded r rd f = let m = matmul3 (transpose3 r) rd in (dot (m .0) f, dot (m .1
 -- Request Four: "In the joint tick the rate error is the filtered rate less R transposed times R_d times the feedforward, matrix product first, then the
 -- vector; where the feedforward refuses, the old rule holds." That is the filtered rate itself, as where there is no R_d.
 abbrev pub rateError : BodyRate → Mat3 → Feedforward → Attitude → BodyRate
-rateError w r (rate.Rate f) (Matrix rd) =
+rateError omega r (rate.Rate f) (Matrix rd) =
     let c = commanded r rd (f .0) in
-    record { 0 = (w .0 .0 ⊖ c .0, w .0 .1 ⊖ c .1, w .0 .2 ⊖ c .2) }
-rateError w r (rate.Rate f) Refused = w
-rateError w r rate.Refused rd = w
+    record { 0 = (omega .0 .0 ⊖ c .0, omega .0 .1 ⊖ c .1, omega .0 .2 ⊖ c .2) }
+rateError omega r (rate.Rate f) Refused = omega
+rateError omega r rate.Refused rd = omega
 
 -- "the squared length" of the rate error
 unfoldable pub rateSq : BodyRate → Float
@@ -132,14 +132,14 @@ marginOf set r (Matrix rd) wSq = margin set (psi r rd) wSq
 marginOf set r Refused wSq = minusInfinity
 
 unfoldable pub guideWhole : GeoGains → RecoverableSet → BodyRate → Reference → TickInput → Guided
-guideWhole gains set w wanted i =
+guideWhole gains set omega wanted i =
     let r = quatToRotmat (i .quat) in
     let rd = desiredR wanted i in
     let ff = feedforward wanted i in
     record {
       fallback = withFeedforward (desiredRate gains (i .quat) (cleaned wanted .acc) (i .yaw)) ff;
       psi = psiOf r rd;
-      margin = marginOf set r rd (rateSq (rateError w r ff rd));
+      margin = marginOf set r rd (rateSq (rateError omega r ff rd));
       planner = plannerOf Whole (i .agile);
     }
 
@@ -160,28 +160,28 @@ psiToAxis r direction.Refused = nan
 
 -- "The margin's squared rate is that of the first two filtered components."
 abbrev pub tiltRateSq : BodyRate → Float
-tiltRateSq w = w .0 .0 ⊗ w .0 .0 ⊕ w .0 .1 ⊗ w .0 .1
+tiltRateSq omega = omega .0 .0 ⊗ omega .0 .0 ⊕ omega .0 .1 ⊗ omega .0 .1
 
 abbrev pub marginToAxis : RecoverableSet → Mat3 → Direction → Float → Float
 marginToAxis set r (direction.Axis b3) wSq = margin set (psiToAxis r (direction.Axis b3)) wSq
 marginToAxis set r direction.Refused wSq = minusInfinity
 
 unfoldable pub guideLostRotor : GeoGains → RecoverableSet → BodyRate → Reference → TickInput → Guided
-guideLostRotor gains set w wanted i =
+guideLostRotor gains set omega wanted i =
     let r = quatToRotmat (i .quat) in
     let axis = thrustAxisNed (cleaned wanted .acc) in
     record {
       fallback = rateTowardAxis gains r axis;
       psi = psiToAxis r axis;
-      margin = marginToAxis set r axis (tiltRateSq w);
+      margin = marginToAxis set r axis (tiltRateSq omega);
       planner = plannerOf LostRotor (i .agile);
     }
 
 -- ---- guide by the profile
 
 unfoldable pub guide : Profile → GeoGains → RecoverableSet → BodyRate → Reference → TickInput → Guided
-guide Whole gains set w wanted i = guideWhole gains set w wanted i
-guide LostRotor gains set w wanted i = guideLostRotor gains set w wanted i
+guide Whole gains set omega wanted i = guideWhole gains set omega wanted i
+guide LostRotor gains set omega wanted i = guideLostRotor gains set omega wanted i
 
 -- ---- pick: "The shield picks, non-finite numbers of the pick made +0.0; ADRC ticks on the filtered gyro, the pick and dt."
 

@@ -50,7 +50,8 @@ module _ {M : Type 1} (𝓤 : URA M) (H : Heap 𝓤) (A : Atoms 𝓤) (W : Given
   apart fits =
       qed W ((‵ (flft κ q) ⊛ ‵ ftrue) ∷ ‵ (owns (B (κ, tt) ∷ []) (d, tt) (mach d ∷ [], tt)) ∷ []) ∵
       move ! (1 ∷ []) $ fsplit ! $ move ! (1 ∷ []) $ drop ! $ use1 W (‵ (Own κ d) ⊛ ‵ (Own κ d)) twice $ split ! $
-      use1 W (given (mach d ∷ [] ≡ mach d ∷ []) (‵ (all-own (D .parts) L vd))) (own-open 𝓤 H A W D L vd (mach d)) $ learn ! (λ _. use1 W (‵ (ownAt (D .parts) L 0 (d .log)) ⊛ ‵ (rest (D .parts) L 0 vd)) (own-out 𝓤 H A W (D .parts) L 0 vd) $ split ! $
+      use1 W (given (mach d ∷ [] ≡ mach d ∷ []) (‵ (all-own (D .parts) L vd))) (own-open 𝓤 H A W D L vd (mach d)) $ learn !
+      (λ _. use1 W (‵ (ownAt (D .parts) L 0 (d .log)) ⊛ ‵ (rest (D .parts) L 0 vd)) (own-out 𝓤 H A W (D .parts) L 0 vd) $ split ! $
       -- [what the log owns; what the place owns; what the struct owns; the token]
       move ! (1 ∷ []) $ drop ! $ nothing ! $ owned ! usize (Is usize) (uint-makes 𝓤 H A W w64) (d .place) _ (refl, fits) $ fjoin ! $ move ! (1 ∷ 0 ∷ []) $ fjoin ! $
       move ! (2 ∷ 0 ∷ []) $ join ! $ frame ! $ done !)

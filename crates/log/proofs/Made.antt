@@ -69,7 +69,8 @@ module _ (buffer : List ℕ) (len : ℕ) (input answer : List ℕ) (t : Taken bu
       let l : length vs ≡ RECORD-BYTES + LOG-TRAILER-BYTES = omega (arith, length-append (input ++ answer) (trailer (n + 1)), length-append input answer, t .input-length, t .answer-length) in
       let f : length (take at buffer) ≡ at = length-take-le at buffer (omega (arith, t .within)) in
       let e : length (take at buffer ++ vs) ≡ len + RECORD-BYTES = omega (arith, length-append (take at buffer) vs, t .len-is) in
-      ap (take (len + RECORD-BYTES)) (sets-eq vs buffer at (omega (arith, t .room, t .len-is))) ∙ take-at (take at buffer ++ vs) (drop (at + length vs) buffer) (len + RECORD-BYTES) e ∙ sym (append-assoc (take at buffer) (input ++ answer) (trailer (n + 1)))
+      ap (take (len + RECORD-BYTES)) (sets-eq vs buffer at (omega (arith, t .room, t .len-is))) ∙ take-at (take at buffer ++ vs) (drop (at + length vs) buffer) (len + RECORD-BYTES) e
+      ∙ sym (append-assoc (take at buffer) (input ++ answer) (trailer (n + 1)))
 
   -- the old log's records stand before the place of its trailer
   old : records (take len buffer) ≡ recordsFrom (take at buffer) n 0

@@ -6,7 +6,8 @@ use Rattle.words.{specs.Words.bytesOf, proofs.Written.sets-other}
 use Rattle.image.specs.Layout.{INPUT-BYTES, ANSWER-BYTES}
 use Rattle.outcome.specs.{declared.Outcome.{Outcome, the-variants.{BrokenLog, NoRoom, PassThrough}}, Outcomes.{number, isDone, firstOf, left, Filled}}
 use Rattle.outcome.proofs.Tables.{never-given, refused-keeps, either}
-use Rattle.log.specs.{Form.{RECORD-BYTES, LOG-TRAILER-BYTES, MOST-RECORDS, trailer, emptyLog, fromEnd, recordCount, isLog}, Entry.{appendTable, appendRefusal, appendCall, countTable, recordTable}}
+use Rattle.log.specs.Form.{RECORD-BYTES, LOG-TRAILER-BYTES, MOST-RECORDS, trailer, emptyLog, fromEnd, recordCount, isLog}
+use Rattle.log.specs.Entry.{appendTable, appendRefusal, appendCall, countTable, recordTable}
 use Rattle.log.proofs.LogForm.{Taken, taken}
 
 -- ---- "The reader, on a whole slice, gives 8 alike."
@@ -45,10 +46,7 @@ same-refusal buffer len input answer h k =
 pub same-on-a-whole-slice : (log input answer : List ℕ) → length input ≡ INPUT-BYTES → length answer ≡ ANSWER-BYTES
     → (appendRefusal log (length log) (length input) (length answer) ≡ BrokenLog) ↔ (isLog log ≡ false)
 same-on-a-whole-slice log input answer h k =
-    let s = same-refusal log (length log) input answer h k in (
-      λ e. elim (s .0 e) [ inl l ↦ absurd (omega (arith, l)) | inr r ↦ rw take-length at r ],
-      λ r. s .1 (inr (rw take-length r)),
-    )
+    let s = same-refusal log (length log) input answer h k in (λ e. elim (s .0 e) [ inl l ↦ absurd (omega (arith, l)) | inr r ↦ rw take-length at r ], λ r. s .1 (inr (rw take-length r)))
 
 -- ---- at work
 

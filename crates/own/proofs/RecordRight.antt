@@ -114,7 +114,8 @@ module _ (setup : List ℕ) (calls : List Call) (t : Tick) (p : isProfile (word 
 
   -- a command's word, by its axis
   command-kept : (axis : ℕ) → axis < 3 → commandWord kept axis ≡ getD (commandWords answer) axis 0
-  command-kept axis h = let e : INPUT-WORDS + COMMAND + axis ≡ INPUT-WORDS + (COMMAND + axis) = omega arith in rw e (in-answer (COMMAND + axis) ∙ sym (by-axis (λ (k : ℕ). word answer (COMMAND + k)) axis h))
+  command-kept axis h = let e : INPUT-WORDS + COMMAND + axis ≡ INPUT-WORDS + (COMMAND + axis) = omega arith in rw e
+      (in-answer (COMMAND + axis) ∙ sym (by-axis (λ (k : ℕ). word answer (COMMAND + k)) axis h))
 
   planner-kept : b ≡ false → (axis : ℕ) → axis < 3 → commandWord kept axis ≡ plannerWord (profileOf (word setup SETUP-PROFILE)) kept axis
   planner-kept e axis h =

@@ -50,11 +50,7 @@ module _ (h : LogBuffer) (g : ToAppend) (m : ℕ) (r : Room h (suc m)) (i : leng
   room-after =
       let k = after-appends h (g ∷ []) (r .log) in
       let one = kept-all h (g ∷ []) (taken, tt) in
-      record {
-        log = k .0;
-        few = omega (arith, ap length (k .1), ap length one, length-append (records (logIn h)) (keptAlong h (g ∷ [])));
-        room = rw taken (omega (arith, as-long h g));
-      }
+      record { log = k .0; few = omega (arith, ap length (k .1), ap length one, length-append (records (logIn h)) (keptAlong h (g ∷ []))); room = rw taken (omega (arith, as-long h g)) }
 
 -- ---- one call
 

@@ -4,8 +4,9 @@ use Rattle.laws.proofs.Prelude.{sets, slice, length-slice}
 use Rattle.words.proofs.Written.{sets-append}
 use Rattle.image.specs.Layout.{LEG-BYTES}
 use Rattle.route.specs.Form.{MOST-LEGS}
-use Rattle.pattern.specs.{declared.{form.Head.{Head, the-variants.{Neither, Leg, Repeat}}, walk.Walked.{Walked, the-variants.{Broken, Past}}}, Tree.{Pattern, nothing, leg, repeat, times, flownLegs}}
-use Rattle.pattern.specs.{Read.{Read, broken, is, headOf, sizeOf, repeated, itemOf, append, before, read, insideOf, itemWithin}, Walk.{legIn, capped, Found, walkedTo, Walk, OneMore, Rounds}}
+use Rattle.pattern.specs.declared.{form.Head.{Head, the-variants.{Neither, Leg, Repeat}}, walk.Walked.{Walked, the-variants.{Broken, Past}}}
+use Rattle.pattern.specs.{Tree.{Pattern, nothing, leg, repeat, times, flownLegs}, Read.{Read, broken, is, headOf, sizeOf, repeated, itemOf, append, before, read, insideOf, itemWithin}}
+use Rattle.pattern.specs.Walk.{legIn, capped, Found, walkedTo, Walk, OneMore, Rounds}
 use Rattle.pattern.proofs.{Parts.{part-from, part-within, part-of-whole}, Runs.{length-times, map-times, run-slice, rounds-over, at-least}, Heads.{Room, head-room, size-some}}
 use Rattle.pattern.proofs.Trees.{flown-append, before-first, before-last, before-again, read-none, read-here, inside-is}
 use Rattle.pattern.proofs.Rounds.{capped-below, capped-at-most, capped-add, capped-up, capped-rounds}
@@ -82,11 +83,7 @@ module _ {b : List ℕ} {at end depth n : ℕ} {old : List ℕ} (given : Item b 
       let l = take LEG-BYTES (drop 1 (slice at end b)) in
       let next : at + 77 ≡ at + sizeOf (headOf (slice at end b)) = ap (λ (x : Head). at + sizeOf x) e in
       walk-is (leg l nothing) (ap (itemOf (insideOf depth) (slice at end b)) (sym e)) (rw (← next, o .counted))
-      (λ f. record {
-        places = (at + 1) ∷ [];
-        legs = ap (λ (x : List ℕ). x ∷ []) (sym (part-of-whole b at end 1 LEG-BYTES (leg-fits e)));
-        put = o .put (omega arith);
-      })
+      (λ f. record { places = (at + 1) ∷ []; legs = ap (λ (x : List ℕ). x ∷ []) (sym (part-of-whole b at end 1 LEG-BYTES (leg-fits e))); put = o .put (omega arith) })
 
   module _ {rounds len : ℕ} (e : Repeat rounds len ≡ headOf (slice at end b)) where
     repeat-is : itemWithin depth (slice at end b) ≡ repeated rounds (insideOf depth (take len (drop 4 (slice at end b))))

@@ -3,8 +3,8 @@ use Rattle.laws.proofs.Prelude.{_≡_, sym, ap, subst, inl, inr, List, [], _∷
 use Rattle.laws.proofs.Prelude.{length-take-le, take-all, le-or-lt}
 use Rattle.image.specs.Layout.{LEG-BYTES}
 use Rattle.outcome.proofs.Tables.{by-test}
-use Rattle.pattern.specs.{declared.form.Head.{Head, the-variants.{Neither, Leg, Repeat}}, Tree.{times, flownLegs}, Read.{Read, broken, is, headOf, sizeOf, repeated, itemOf, before, itemsOf, read}}
-use Rattle.pattern.specs.Walk.{legIn}
+use Rattle.pattern.specs.{declared.form.Head.{Head, the-variants.{Neither, Leg, Repeat}}, Tree.{times, flownLegs}}
+use Rattle.pattern.specs.{Read.{Read, broken, is, headOf, sizeOf, repeated, itemOf, before, itemsOf, read}, Walk.legIn}
 use Rattle.pattern.proofs.{Heads.{Room, head-room}, Trees.flown-append}
 
 abbrev pub AllLong : List (List ℕ) → Type 0

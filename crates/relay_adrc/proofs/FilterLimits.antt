@@ -89,7 +89,8 @@ module _ (limit number : CommandFilter → Float) (kept : (f : CommandFilter) (e
   unfolding afterEvents
   half-held f [] l h = h
   half-held f (e ∷ es) l h =
-      subst (λ (m : Float). Limit m → Within (neg m) m (number (afterEvent f e)) → Within (neg m) m (number (afterEvents (afterEvent f e) es))) (kept f e) (half-held (afterEvent f e) es) l (within f e l)
+      subst (λ (m : Float). Limit m → Within (neg m) m (number (afterEvent f e)) → Within (neg m) m (number (afterEvents (afterEvent f e) es))) (kept f e)
+      (half-held (afterEvent f e) es) l (within f e l)
 
 mag-after : (f : CommandFilter) (e : Event) → afterEvent f e .«max_mag» ≡ f .«max_mag»
 unfolding afterEvent filterStep
@@ -119,7 +120,8 @@ limits-kept f es = (limit-kept (λ f. f .«max_mag») (λ f. f .y) mag-after val
 pub value-held : (f : CommandFilter) (es : List Event) → Limit (f .«max_mag») → Within (neg (f .«max_mag»)) (f .«max_mag») (f .y) → Within (neg (f .«max_mag»)) (f .«max_mag») (afterEvents f es .y)
 value-held = half-held (λ f. f .«max_mag») (λ f. f .y) mag-after value-within
 
-pub rate-held : (f : CommandFilter) (es : List Event) → Limit (f .«max_rate») → Within (neg (f .«max_rate»)) (f .«max_rate») (f .yd) → Within (neg (f .«max_rate»)) (f .«max_rate») (afterEvents f es .yd)
+pub rate-held : (f : CommandFilter) (es : List Event) → Limit (f .«max_rate») → Within (neg (f .«max_rate»)) (f .«max_rate») (f .yd) → Within (neg (f .«max_rate»)) (f .«max_rate»)
+    (afterEvents f es .yd)
 rate-held = half-held (λ f. f .«max_rate») (λ f. f .yd) rate-after rate-within
 
 -- a fresh filter has both numbers 0

@@ -54,7 +54,8 @@ flip false x y = refl
 abbrev pub known : RecoverableSet → Float → Float → Bool
 known set psi eOmegaSq = isFinite psi && isFinite eOmegaSq && finiteAbove 0·0 (set .«lambda_j»)
 
-pub margin-cases : (set : RecoverableSet) (psi eOmegaSq : Float) → margin set psi eOmegaSq ≡ cond (known set psi eOmegaSq) (finiteOr (smaller (psiMargin set psi) (rateMargin set psi eOmegaSq)) minusInfinity) minusInfinity
+pub margin-cases : (set : RecoverableSet) (psi eOmegaSq : Float) → margin set psi eOmegaSq ≡ cond (known set psi eOmegaSq)
+    (finiteOr (smaller (psiMargin set psi) (rateMargin set psi eOmegaSq)) minusInfinity) minusInfinity
 unfolding margin
 margin-cases set psi w =
     let m : Float = finiteOr (smaller (psiMargin set psi) (rateMargin set psi w)) minusInfinity in
@@ -64,7 +65,8 @@ margin-cases set psi w =
 
 -- ---- "A NaN psi_max therefore leaves the rate part alone, against the Rust's own comment." So does a psi_max of +infinity.
 
-rate-part-alone : (set : RecoverableSet) (psi eOmegaSq : Float) → known set psi eOmegaSq ≡ true → lt (psiMargin set psi) (rateMargin set psi eOmegaSq) ≡ false → margin set psi eOmegaSq ≡ finiteOr (rateMargin set psi eOmegaSq) minusInfinity
+rate-part-alone : (set : RecoverableSet) (psi eOmegaSq : Float) → known set psi eOmegaSq ≡ true → lt (psiMargin set psi) (rateMargin set psi eOmegaSq) ≡ false → margin set psi eOmegaSq
+    ≡ finiteOr (rateMargin set psi eOmegaSq) minusInfinity
 rate-part-alone set psi w k l = margin-cases set psi w ∙ rw (k, l)
 
 nan-under : (x y : Float) → lt (nan ⊖ x) y ≡ false
@@ -79,9 +81,11 @@ infinity-under (fin s m e) nan f = refl
 infinity-under (fin s m e) (inf t) f = refl
 infinity-under (fin s m e) (fin t n d) f = refl
 
-pub nan-psi-max-leaves-rate-part : (set : RecoverableSet) (psi eOmegaSq : Float) → known set psi eOmegaSq ≡ true → set .«psi_max» ≡ nan → margin set psi eOmegaSq ≡ finiteOr (rateMargin set psi eOmegaSq) minusInfinity
+pub nan-psi-max-leaves-rate-part : (set : RecoverableSet) (psi eOmegaSq : Float) → known set psi eOmegaSq ≡ true → set .«psi_max» ≡ nan → margin set psi eOmegaSq ≡ finiteOr
+    (rateMargin set psi eOmegaSq) minusInfinity
 nan-psi-max-leaves-rate-part set psi w k e = rate-part-alone set psi w k (rw e (nan-under psi (rateMargin set psi w)))
 
-pub infinite-psi-max-leaves-rate-part : (set : RecoverableSet) (psi eOmegaSq : Float) → known set psi eOmegaSq ≡ true → set .«psi_max» ≡ inf false → margin set psi eOmegaSq ≡ finiteOr (rateMargin set psi eOmegaSq) minusInfinity
+pub infinite-psi-max-leaves-rate-part : (set : RecoverableSet) (psi eOmegaSq : Float) → known set psi eOmegaSq ≡ true → set .«psi_max» ≡ inf false → margin set psi eOmegaSq ≡ finiteOr
+    (rateMargin set psi eOmegaSq) minusInfinity
 infinite-psi-max-leaves-rate-part set psi w k e =
     rate-part-alone set psi w k (rw e (infinity-under psi (rateMargin set psi w) (both (isFinite psi) (isFinite w) (both (isFinite psi && isFinite w) (finiteAbove 0·0 (set .«lambda_j»)) k .0) .0)))

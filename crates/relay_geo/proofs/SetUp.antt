@@ -48,7 +48,8 @@ overflows m j e h o =
     let c : 2 ^ 128 * (down e * 1) * 2 ^ 149 ≤ m * up e * 2 * 1 * 2 ^ 149 =
     le-trans (le-of-eq (mul-right-comm (2 ^ 128) (down e * 1) (2 ^ 149)))
     (le-trans (mul-le-mul-right (down e * 1) o) (le-of-eq (sym (doubled m j e h) ∙ ap (λ (x : ℕ). x * 2 ^ 149) (sym (mul-one (m * up e * 2)))))) in
-    at-top _ (subst (λ (x : Float). T (le x (round binary32 false (m * up e * 2) (down e * 1)))) top (round-mono binary32 (2 ^ 128) 1 (m * up e * 2) (down e * 1) (pow-pos 0) D (le-of-mul-le-mul-right c (pow-pos 149))))
+    at-top _ (subst (λ (x : Float). T (le x (round binary32 false (m * up e * 2) (down e * 1)))) top
+    (round-mono binary32 (2 ^ 128) 1 (m * up e * 2) (down e * 1) (pow-pos 0) D (le-of-mul-le-mul-right c (pow-pos 149))))
 
 finite-doubled : (m : ℕ) (e : ℤ) → 0 < m → Placed m e → lt (fin false m e) (round binary32 false (m * up e * 2) (down e * 1)) ≡ true
 finite-doubled m e M (j, s, h, u) = elim (le-or-lt (2 ^ 277) (m * 2 ^ suc j)) [

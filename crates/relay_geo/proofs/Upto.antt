@@ -51,7 +51,8 @@ module _ (k : ℕ) (K : k < 2 ^ 24) where
 
   positive-upto : (a c : ℕ) → 0 < c → a ≤ k * c → Upto k (round binary32 false a c)
   positive-upto a c C h =
-      between k (round binary32 false a c) (round binary32 false k 1) whole (rw (round-zero false 1) at (round-mono binary32 0 1 a c (lit< tt) C (omega arith))) (round-mono binary32 a c k 1 C (lit< tt) (omega (arith, h)))
+      between k (round binary32 false a c) (round binary32 false k 1) whole (rw (round-zero false 1) at (round-mono binary32 0 1 a c (lit< tt) C (omega arith)))
+      (round-mono binary32 a c k 1 C (lit< tt) (omega (arith, h)))
 
   round-upto : (s : Bool) (a c : ℕ) → 0 < c → a ≤ k * c → Upto k (round binary32 s a c)
   round-upto false a c C h = positive-upto a c C h

@@ -11,7 +11,8 @@ use Rattle.relay_math.proofs.{AngleNear.{near-of, wider, quarters, sin-
 abbrev Both : Bool → ℕ → SineCosine → Type 0
 Both s u r = Near 23 (r .sine) (exactSine s u) × Near 23 (r .cosine) (exactCosine s u)
 
-by-turn : (s b : Bool) (u n R : ℕ) (S C : Float) → Turn u n R b → n < 4 → Near 23 S (sinAt false R) → Near 23 C (cosAt R) → Both s u record { sine = turned s n b S C; cosine = turned false ((n + 1) % 4) b S C }
+by-turn : (s b : Bool) (u n R : ℕ) (S C : Float) → Turn u n R b → n < 4 → Near 23 S (sinAt false R) → Near 23 C (cosAt R)
+    → Both s u record { sine = turned s n b S C; cosine = turned false ((n + 1) % 4) b S C }
 unfolding exactSine exactCosine
 by-turn s b u n R S C t l hs hc = rw (t .quarter-is s, t .back-is, t .rest-is) (quarters S C R hs hc s b n l)
 
@@ -24,7 +25,8 @@ large-near s x =
     by-turn s (d .back) (X * 2 ^ 101) (d .n) (d .r * 2 ^ 101) _ _ (turn X) (few X) (sin-near (d .r) (small X)) (cos-near (d .r) (small X))
 
 -- ---- below 2 ^ -12 nothing is taken off
-own-size : (s : Bool) (m : ℕ) (e : ℤ) → _≡_ {A = SineCosine} record { sine = turned s 0 false (fin false m e) One; cosine = turned false 1 false (fin false m e) One } record { sine = fin s m e; cosine = One }
+own-size : (s : Bool) (m : ℕ) (e : ℤ) → _≡_ {A = SineCosine} record { sine = turned s 0 false (fin false m e) One; cosine = turned false 1 false (fin false m e) One } record
+    { sine = fin s m e; cosine = One }
 unfolding turned neg
 own-size true m e = refl
 own-size false m e = refl

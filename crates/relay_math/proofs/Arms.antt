@@ -5,7 +5,8 @@ use Rattle.relay_math.specs.Steps.{toFloat, signed, turned, large, sinco
 use Rattle.relay_math.proofs.{Signs.{zero-is, is-below}, Order.le-trans, AngleBound.{sinf-rule, cosf-rule}}
 
 abbrev Arms : Bool → Float → Float → Type 0
-Arms s a x = (le a Limit ≡ le (fabsf x) Limit) × (le Tiny a ≡ le Tiny (fabsf x)) × (sincos x ≡ cond (le a Limit) (cond (le Tiny a) (large s x) record { sine = x; cosine = One }) record { sine = Zero; cosine = Zero })
+Arms s a x = (le a Limit ≡ le (fabsf x) Limit) × (le Tiny a ≡ le Tiny (fabsf x)) ×
+    (sincos x ≡ cond (le a Limit) (cond (le Tiny a) (large s x) record { sine = x; cosine = One }) record { sine = Zero; cosine = Zero })
 
 arms-of : (x : Float) → T (fits binary32 x) → Arms (lt x Zero) (signed (lt x Zero) x) x
 unfolding sincos sincosTo lt le eq neg fabsf

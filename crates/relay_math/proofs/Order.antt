@@ -16,7 +16,11 @@ signs : (s : Bool) (a : ℕ) (t : Bool) (b : ℕ) → (below t b s a || level t 
 signs false a false b = one-sign b a (eqb b a) (eq-eqb b a) (ne-eqb b a)
 signs true a true b = one-sign a b (eqb b a) (λ p. eq-eqb b a (sym p)) (λ n. ne-eqb b a (λ p. n (sym p)))
 signs false a true b = elim (eq-zero-or-pos (b + a)) [ inl z ↦ rw (le-ltb 0 (b + a) (le-of-eq z), eq-eqb b a (omega arith), eq-eqb b 0 (omega arith)) | inr l ↦ rw (lt-ltb 0 (b + a) l) ]
-signs true a false b = elim (eq-zero-or-pos (a + b)) [ inl z ↦ rw (le-ltb 0 (a + b) (le-of-eq z), eq-eqb b a (omega arith), eq-eqb b 0 (omega arith)) | inr l ↦ rw (lt-ltb 0 (a + b) l, not-both-zero a b l) ]
+signs true a false b = elim (eq-zero-or-pos (a + b)) [
+  | inl z ↦ rw (le-ltb 0 (a + b) (le-of-eq z), eq-eqb b a (omega arith), eq-eqb b 0 (omega arith))
+  | inr l ↦
+      rw (lt-ltb 0 (a + b) l, not-both-zero a b l)
+]
 
 -- ±c ≤ ±b ≤ ±a
 chain : (s t u : Bool) (a b c : ℕ) → below s a t b ≡ false → below t b u c ≡ false → below s a u c ≡ false
@@ -30,7 +34,11 @@ chain true true true a b c p q = le-ltb c a (omega (arith, ltb-false b a p, ltb-
 
 -- a larger denominator changes nothing
 pub ltb-scaled : (a b k : ℕ) → 0 < k → ltb (a * k) (b * k) ≡ ltb a b
-ltb-scaled a b k K = elim (le-or-lt b a) [ inl h ↦ rw (le-ltb a b h) (le-ltb (a * k) (b * k) (mul-le-mul-right k h)) | inr h ↦ rw (lt-ltb a b h) (lt-ltb (a * k) (b * k) (mul-lt-mul-of-pos-right h K)) ]
+ltb-scaled a b k K = elim (le-or-lt b a) [
+  | inl h ↦ rw (le-ltb a b h) (le-ltb (a * k) (b * k) (mul-le-mul-right k h))
+  | inr h ↦ rw (lt-ltb a b h)
+      (lt-ltb (a * k) (b * k) (mul-lt-mul-of-pos-right h K))
+]
 
 scaled : (s : Bool) (a : ℕ) (t : Bool) (b k : ℕ) → 0 < k → below s (a * k) t (b * k) ≡ below s a t b
 scaled false a false b k K = ltb-scaled a b k K
@@ -90,7 +98,8 @@ not-lt-of-le x y h = not-true (lt x y) (sym (le-is-not-above x y (le-right y x h
 finite-trans : (s : Bool) (m : ℕ) (e : ℤ) (t : Bool) (n : ℕ) (d : ℤ) (u : Bool) (l : ℕ) (c : ℤ) → T (le (fin s m e) (fin t n d)) → T (le (fin t n d) (fin u l c)) → T (le (fin s m e) (fin u l c))
 finite-trans s m e t n d u l c h k =
     le-of-not-lt (fin u l c) (fin s m e) (le-right (fin t n d) (fin u l c) k) (le-left (fin s m e) (fin t n d) h)
-    (unfold lt in fractions u t s (l * up c) (n * up d) (m * up e) (down c) (down d) (down e) (down-pos c) (down-pos d) (down-pos e) (not-lt-of-le (fin u l c) (fin t n d) k) (not-lt-of-le (fin t n d) (fin s m e) h))
+    (unfold lt in fractions u t s (l * up c) (n * up d) (m * up e) (down c) (down d) (down e) (down-pos c) (down-pos d) (down-pos e) (not-lt-of-le (fin u l c) (fin t n d) k)
+    (not-lt-of-le (fin t n d) (fin s m e) h))
 
 pub le-trans : (x y z : Float) → T (le x y) → T (le y z) → T (le x z)
 unfolding le isNan

@@ -134,7 +134,8 @@ module _ (X m e : ℕ) (w : Scaled X m e) where
 
   pub root-near : (x : Float) → grains x ≡ X → Nearest x (rootGrains (X * 2 ^ 149))
   root-near x g =
-      near x (rootGrains (X * 2 ^ 149)) (half e) (nearestRoot (under m e)) (under m e) (rw g from) (bounds .0) (bounds .1) near-root (grains-of _ false (nearestRoot (under m e) * 2 ^ half e) value) root-fits
+      near x (rootGrains (X * 2 ^ 149)) (half e) (nearestRoot (under m e)) (under m e) (rw g from) (bounds .0) (bounds .1) near-root
+      (grains-of _ false (nearestRoot (under m e) * 2 ^ half e) value) root-fits
       (of-value (λ (r : Float). T (natural r)) false (nearestRoot (under m e) * 2 ^ half e) (2 ^ 149) (λ i j v. tt) (rootGrains (X * 2 ^ 149)) value)
 
 -- ---- Next to 1, where √(1 + d) is 1 + d / 2 to the last digit, the root's pattern is half way to 1's.

@@ -66,7 +66,11 @@ on-grid k (fin false m e) t p =
 module _ (n r G N Y : ℕ) (p : 0 < G) (e : N ≡ n * (G * G)) (y : Grid G Y) (c : Closest n r) (low : 2 ^ 23 ≤ r) (least : 2 ^ 46 ≤ n) where
   above : r * G < Y → 4 * N < square (r * G + Y)
   above h =
-      let g : suc r * G ≤ Y = elim y [ inl (d, z) ↦ rw z (mul-le-mul-right G (lt-of-mul-lt-mul-right G (rw z at h))) | inr z ↦ absurd (let q : 2 ^ 23 * G ≤ r * G = mul-le-mul-right G low in omega arith) ] in
+      let g : suc r * G ≤ Y = elim y [
+        | inl (d, z) ↦ rw z (mul-le-mul-right G (lt-of-mul-lt-mul-right G (rw z at h)))
+        | inr z ↦ absurd
+            (let q : 2 ^ 23 * G ≤ r * G = mul-le-mul-right G low in omega arith)
+      ] in
       let s : suc (2 * r) * G * (suc (2 * r) * G) ≤ square (r * G + Y) = let b : suc (2 * r) * G ≤ r * G + Y = omega arith in mul-le-mul b b in
       let t : 4 * n * (G * G) < suc (2 * r) * suc (2 * r) * (G * G) = mul-lt-mul-of-pos-right (omega arith) (mul-pos p p) in
       omega arith

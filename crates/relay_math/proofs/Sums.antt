@@ -104,7 +104,8 @@ over e d = down e * down d
 scaled : (m : ℕ) (e d : ℤ) → m * up e ≡ 0 → m * up e * down d ≡ 0
 scaled m e d h = rw h (zero-mul (down d))
 
-plus-is : (s : Bool) (m : ℕ) (e : ℤ) (t : Bool) (n : ℕ) (d : ℤ) → T (le 0·0 (fin s m e)) → T (le 0·0 (fin t n d)) → fin s m e ⊕ fin t n d ≡ round binary32 (s && t) (m * up e * down d + n * up d * down e) (over e d)
+plus-is : (s : Bool) (m : ℕ) (e : ℤ) (t : Bool) (n : ℕ) (d : ℤ) → T (le 0·0 (fin s m e)) → T (le 0·0 (fin t n d)) → fin s m e ⊕ fin t n d ≡ round binary32 (s && t)
+    (m * up e * down d + n * up d * down e) (over e d)
 unfolding add
 plus-is s m e t n d p q = sum-is s (m * up e * down d) t (n * up d * down e) (over e d) (λ h. scaled m e d (none m e s p h)) (λ h. scaled n d e (none n d t q h))
 
@@ -132,7 +133,8 @@ sum-grows (fin true m e) (fin true n d) f p q =
 pub zero-adds-nothing : (x : Float) (b : Bool) → T (fits binary32 x) → T (unsigned x) → x ⊕ fin b 0 (pos 0) ≡ x
 unfolding add
 zero-adds-nothing (inf s) b f u = refl
-zero-adds-nothing (fin false m e) b f u = sum-is false (m * up e * 1) b (0 * down e) (down e * 1) (λ h. no h) (λ h. zero-mul (down e)) ∙ rw (zero-mul (down e), add-zero (m * up e * 1), mul-one (m * up e), mul-one (down e)) (round-own m e f)
+zero-adds-nothing (fin false m e) b f u = sum-is false (m * up e * 1) b (0 * down e) (down e * 1) (λ h. no h) (λ h. zero-mul (down e))
+    ∙ rw (zero-mul (down e), add-zero (m * up e * 1), mul-one (m * up e), mul-one (down e)) (round-own m e f)
 
 -- and the same number, if -0 is one
 pub zero-keeps-number : (x : Float) (b : Bool) → T (fits binary32 x) → T (le 0·0 x) → T (eq x (x ⊕ fin b 0 (pos 0)))

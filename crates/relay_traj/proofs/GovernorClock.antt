@@ -85,7 +85,8 @@ pub infinity-stays : (g : RefGovernor) (ks : List GovernorTick) → g .s ≡ inf
 unfolding afterTicks advance
 infinity-stays g [] h = h
 infinity-stays g (k ∷ ks) h =
-    infinity-stays (advance g (k .error) (k .dt) .governor) ks (ap (λ (s : Float). s ⊕ gate g (k .error) ⊗ movedBy (k .dt)) h ∙ kept-infinite (gate g (k .error) ⊗ movedBy (k .dt)) (step-not-below g (k .error) (k .dt)))
+    infinity-stays (advance g (k .error) (k .dt) .governor) ks (ap (λ (s : Float). s ⊕ gate g (k .error) ⊗ movedBy (k .dt)) h ∙ kept-infinite (gate g (k .error) ⊗ movedBy (k .dt))
+    (step-not-below g (k .error) (k .dt)))
 
 -- ---- where a governor starts
 

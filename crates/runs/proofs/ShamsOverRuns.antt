@@ -96,6 +96,7 @@ module _ (p : Program) (k : KeepsDemandThree p) where
   pub not-echoing : (n : ℕ) → ¬ (EchoesAfter p n)
   not-echoing n r =
       let from : p .setUp blankImage levelSetUp .later ≡ start levelSetUp = ap (λ (l : Filled). l .later) (k .setUp blankImage levelSetUp ∙ set-up-starts blankImage levelSetUp refl level-sets-up) in
-      let again = subst (λ (b : List ℕ). answered p (ran p b (replicate (suc n) levelInput)) lostInput ≡ answered p b levelInput) from (r .again levelSetUp levelInput lostInput level-sets-up refl refl) in
+      let again = subst (λ (b : List ℕ). answered p (ran p b (replicate (suc n) levelInput)) lostInput ≡ answered p b levelInput) from
+      (r .again levelSetUp levelInput lostInput level-sets-up refl refl) in
       then-no-zero (replicate (suc n) (Ticks (plain levelInput)))
       (ap (λ (b : List ℕ). word (answered p b lostInput) FLAG) (sym (along (suc n) (start levelSetUp))) ∙ ap (λ (b : List ℕ). word b FLAG) again ∙ first-zero)

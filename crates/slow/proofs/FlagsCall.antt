@@ -21,7 +21,8 @@ module _ (enter exit : Float) (margins flags : List ℕ) (h : length margins ≡
   taken = rw (le-ltb MOST-MARGINS (length flags) l, eq-eqb (length margins) (4 * length flags) h)
 
   -- what the code does where nothing is refused
-  pub finished : {t : Thresholds} {later : List ℕ} → t ≡ mendThresholds enter exit → later ≡ map flag (slowFlags (t .enter) (t .exit) (marginsIn margins)) → left Done later ≡ flagsCall margins enter exit flags
+  pub finished : {t : Thresholds} {later : List ℕ} → t ≡ mendThresholds enter exit → later ≡ map flag (slowFlags (t .enter) (t .exit) (marginsIn margins)) → left Done later
+      ≡ flagsCall margins enter exit flags
   unfolding flagBytes
   finished e w = rw (w, e) (sym taken)
 
@@ -30,10 +31,12 @@ module _ (enter exit : Float) (margins flags : List ℕ) (h : length margins ≡
   pub writes-stepping-flags : (set : RecoverableSet) → T (fits binary32 enter) → (gs : List StepGiven) → marginsGiven gs ≡ marginsIn margins
       → flagsCall margins enter exit flags ≡ left Done (map flag (steppedFlags (newShield set enter exit) gs))
   unfolding flagBytes
-  writes-stepping-flags set f gs e = taken ∙ ap (λ (bs : List Bool). left Done (map flag bs)) (ap (slowFlags (mendThresholds enter exit .enter) (mendThresholds enter exit .exit)) (sym e) ∙ slow-is-stepping set enter exit f gs)
+  writes-stepping-flags set f gs e = taken ∙ ap (λ (bs : List Bool). left Done (map flag bs))
+      (ap (slowFlags (mendThresholds enter exit .enter) (mendThresholds enter exit .exit)) (sym e) ∙ slow-is-stepping set enter exit f gs)
 
   -- the user's rule at every place: the byte there is 0 exactly if the planner is to fly
-  pub byte-flies-at : (k : ℕ) → k < length flags → (getD (flagsCall margins enter exit flags .later) k 1 ≡ 0) ↔ FliesAt (mendThresholds enter exit .enter) (mendThresholds enter exit .exit) (marginsIn margins) k
+  pub byte-flies-at : (k : ℕ) → k < length flags → (getD (flagsCall margins enter exit flags .later) k 1 ≡ 0) ↔ FliesAt (mendThresholds enter exit .enter)
+      (mendThresholds enter exit .exit) (marginsIn margins) k
   unfolding flagBytes
   byte-flies-at k i =
       let t = mendThresholds enter exit in

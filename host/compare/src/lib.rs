@@ -17,7 +17,7 @@ pub mod pattern;
 pub mod progress;
 pub mod routine;
 pub mod runs;
-pub mod said;
+pub mod printing;
 pub mod share;
 pub mod slow;
 pub mod steps;

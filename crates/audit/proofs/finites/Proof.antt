@@ -14,4 +14,5 @@ finites-spec =
     rw (← one .finite-on .ensures, not-false (one .finite-on .result) (two .before .if1 .left), ← two .finite-on2 .ensures, not-true (two .finite-on2 .result) (c .if2 .taken)))
     (λ c κs. search needs)
     (λ c. let two = c .before .before in let one = two .before .before in
-    rw (← one .finite-on .ensures, not-false (one .finite-on .result) (two .before .if1 .left), ← two .finite-on2 .ensures, not-false (two .finite-on2 .result) (c .before .if2 .left)) (c .finite-on3 .ensures)))
+    rw (← one .finite-on .ensures, not-false (one .finite-on .result) (two .before .if1 .left), ← two .finite-on2 .ensures, not-false (two .finite-on2 .result) (c .before .if2 .left))
+    (c .finite-on3 .ensures)))

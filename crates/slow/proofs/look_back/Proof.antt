@@ -16,7 +16,8 @@ returns c =
     let turn = read .before in
     let pre = turn .before .before .before .before .pre in
     ap not (c .finite-above .ensures)
-    ∙ sym (decides _ _ (pre .1 .0) (pre .1 .1) _ _ (turn .loop-test .taken) (omega arith) _ (read .float-at .ensures) (sym (band .in-band .ensures) ∙ not-true (band .in-band .result) (c .before .if1 .taken)))
+    ∙ sym (decides _ _ (pre .1 .0) (pre .1 .1) _ _ (turn .loop-test .taken) (omega arith) _ (read .float-at .ensures)
+    (sym (band .in-band .ensures) ∙ not-true (band .in-band .result) (c .before .if1 .taken)))
     ∙ turn .before .loop .inv .1
 
 loop-again : Need-loop-again Inv-loop μ-loop

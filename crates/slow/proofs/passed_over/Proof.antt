@@ -21,7 +21,8 @@ loop-again c =
     let pre = start .pre in (
       omega arith,
       goes-on _ _ (pre .1 .0) (pre .1 .1) _ _ (turn .loop-test .taken) (omega arith) _ (ap floatOf (read .word-at .ensures))
-          (in-band-word _ _ (held (start .good .1 .0 .1)) (held (start .good .1 .1 .0 .1)) _ (omega (arith, lo .bits-of .ensures)) (omega (arith, hi .bits-of2 .ensures)) (omega (arith, hi .bits-of2 .ensures)))
+          (in-band-word _ _ (held (start .good .1 .0 .1)) (held (start .good .1 .1 .0 .1)) _ (omega (arith, lo .bits-of .ensures)) (omega (arith, hi .bits-of2 .ensures))
+          (omega (arith, hi .bits-of2 .ensures)))
           ∙ turn .before .loop .inv .1,
     )
 

@@ -32,10 +32,7 @@ exchange-spec =
     close (spec
     (λ c. simp (
     ne-eqb _ _ (c .if1 .taken)))
-    (λ c. simp (
-      ne-eqb _ _ (c .if2 .taken),
-      eq-eqb _ _ (c .before .if1 .left),
-    ))
+    (λ c. simp (ne-eqb _ _ (c .if2 .taken), eq-eqb _ _ (c .before .if1 .left)))
     (λ c κs. search needs)
     (λ c. search needs)
     (λ c. let i = c .before in let a = i .before .before in simp (

@@ -9,10 +9,7 @@ setup-spec =
     close (spec
     (λ c. simp (
     ne-eqb _ _ (c .if1 .taken)))
-    (λ c. simp (
-      ne-eqb _ _ (c .if2 .taken),
-      eq-eqb _ _ (c .before .if1 .left),
-    ))
+    (λ c. simp (ne-eqb _ _ (c .if2 .taken), eq-eqb _ _ (c .before .if1 .left)))
     (λ c κs. search needs) (λ c κs. search needs)
     (λ c. let p = c .before in let w = p .before in simp (
       ← w .word-at .ensures,

@@ -9,15 +9,8 @@ tick-refusal-spec =
     close (spec
     (λ c. simp (
     ne-eqb _ _ (c .if1 .taken)))
-    (λ c. simp (
-      ne-eqb _ _ (c .if2 .taken),
-      eq-eqb _ _ (c .before .if1 .left),
-    ))
-    (λ c. simp (
-      ne-eqb _ _ (c .if3 .taken),
-      eq-eqb _ _ (c .before .if2 .left),
-      eq-eqb _ _ (c .before .before .if1 .left),
-    ))
+    (λ c. simp (ne-eqb _ _ (c .if2 .taken), eq-eqb _ _ (c .before .if1 .left)))
+    (λ c. simp (ne-eqb _ _ (c .if3 .taken), eq-eqb _ _ (c .before .if2 .left), eq-eqb _ _ (c .before .before .if1 .left)))
     (λ c κs. search needs)
     (λ c. let l = c .before .before in simp (
       ← c .before .unread-unbroken .ensures,

@@ -28,8 +28,10 @@ core-refuses c =
     let w = v .before .before .before in
     let e = w .before .before .before .before in
     refuses _ _ _ _ _ (e .before .before .if1 .left) (e .before .if2 .left)
-    (v .before .desk-at .ensures) (v .vec-at .ensures) (s .before .float-at .ensures) (s .step .ensures) (h .put-heading .ensures) (k .tick .ensures) (d .is-done .ensures) (b .before .before .if4 .taken)
-    (restored _ _ _ (λ i. omega (arith, e .before .before .before .before .slice-known3 .given i)) (h .put-heading .ensures) (w .before .before .word-at .ensures) (w .word-at2 .ensures) (b .put-back .ensures))
+    (v .before .desk-at .ensures) (v .vec-at .ensures) (s .before .float-at .ensures) (s .step .ensures) (h .put-heading .ensures) (k .tick .ensures) (d .is-done .ensures)
+    (b .before .before .if4 .taken)
+    (restored _ _ _ (λ i. omega (arith, e .before .before .before .before .slice-known3 .given i)) (h .put-heading .ensures) (w .before .before .word-at .ensures) (w .word-at2 .ensures)
+    (b .put-back .ensures))
 
 flies : Need-returns-5
 flies c =
@@ -41,7 +43,8 @@ flies c =
     let v = s .before .before .before in
     let e = v .before .before .before .before .before .before .before in
     flown _ _ _ _ _ (e .before .before .if1 .left) (e .before .if2 .left)
-    (v .before .desk-at .ensures) (v .vec-at .ensures) (s .before .float-at .ensures) (s .step .ensures) (h .put-heading .ensures) (k .tick .ensures) (d .is-done .ensures) (b .before .before .if4 .left)
+    (v .before .desk-at .ensures) (v .vec-at .ensures) (s .before .float-at .ensures) (s .step .ensures) (h .put-heading .ensures) (k .tick .ensures) (d .is-done .ensures)
+    (b .before .before .if4 .left)
     (b .put-desk .ensures)
 
 pub tick-spec : {M : Type 1} → statement M
@@ -50,7 +53,8 @@ tick-spec =
     (λ c κs. search needs) (λ c κs. search needs) (λ c κs. search needs) (λ c κs. search needs) (λ c κs. search needs) (λ c κs. search needs)
     (λ c κs. c .before .before .before .before .before .before .before .before .before .before .before .before .before .if3 .left)
     (λ c κs. search needs) (λ c κs. search needs)
-    (λ c κs. let h = c .before .before .before .before .before .before .before .before .before .before .before .before .before in ap length (h .put-heading .ensures) ∙ heading-length _ _ _ ∙ h .before .before .before .before .before .before .before .before .before .before .before .before .before .before .if3 .left)
+    (λ c κs. let h = c .before .before .before .before .before .before .before .before .before .before .before .before .before in ap length (h .put-heading .ensures)
+    ∙ heading-length _ _ _ ∙ h .before .before .before .before .before .before .before .before .before .before .before .before .before .before .if3 .left)
     (λ c. search needs) (λ c. search needs) (λ c. search needs) (λ c. search needs) core-refuses
     (λ c κs. c .before .before .before .before .before .before .before .before .before .before .before .before .before .before .before .before .before .before .before .before .before .before .before .before .before .before .before .before .before .if1 .left)
     (λ c. search needs) (λ c. search needs) (λ c. search needs) (λ c. search needs) flies)

@@ -8,9 +8,4 @@ adrc-gains-at-spec =
     close (spec
     (λ c κs. search needs) (λ c. search needs) (λ c κs. search needs) (λ c. search needs) (λ c κs. search needs) (λ c. search needs)
     (λ c κs. search needs)
-    (λ c. simp (
-      c .read-float4 .ensures,
-      c .before .read-float3 .ensures,
-      c .before .before .read-float2 .ensures,
-      c .before .before .before .read-float .ensures,
-    )))
+    (λ c. simp (c .read-float4 .ensures, c .before .read-float3 .ensures, c .before .before .read-float2 .ensures, c .before .before .before .read-float .ensures)))

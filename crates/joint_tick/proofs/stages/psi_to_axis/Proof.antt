@@ -6,5 +6,4 @@ unfolding div ofBits
 returns-2 c = simp (c .enum-told .given .1)
 
 pub psi-to-axis-spec : {M : Type 1} → statement M
-psi-to-axis-spec =
-    close (spec (λ c. search needs) (λ c κs. search needs) (λ c. search needs) (λ c. simp (c .dot .ensures, c .before .before .axis .given .1)) returns-2)
+psi-to-axis-spec = close (spec (λ c. search needs) (λ c κs. search needs) (λ c. search needs) (λ c. simp (c .dot .ensures, c .before .before .axis .given .1)) returns-2)

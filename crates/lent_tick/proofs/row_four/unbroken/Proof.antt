@@ -10,24 +10,12 @@ unfolding unbroken fixedAt
 unbroken-spec =
     close (spec
     (λ c κs. search needs) (λ c κs. search needs) (λ c. search needs)
-    (λ c. simp (
-      ← c .before .before .word-at .ensures,
-      ne-eqb _ _ (c .if1 .taken),
-    ))
+    (λ c. simp (← c .before .before .word-at .ensures, ne-eqb _ _ (c .if1 .taken)))
     (λ c κs. search needs)
     (λ c κs. search needs)
-    (λ c. let p = c .before in simp (
-      ← p .before .word-at3 .ensures,
-      ← p .is-profile .ensures,
-      not-true (p .is-profile .result) (c .if2 .taken),
-      and-false,
-    ))
+    (λ c. let p = c .before in simp (← p .before .word-at3 .ensures, ← p .is-profile .ensures, not-true (p .is-profile .result) (c .if2 .taken), and-false))
     (λ c κs. let a = c .before .before .before .before .before .before .before in (a .pre .0, a .pre .1 .0))
-    (λ c. let k = c .before in simp (
-      ← k .peaks-stand .ensures,
-      not-true (k .peaks-stand .result) (c .if3 .taken),
-      and-false,
-    ))
+    (λ c. let k = c .before in simp (← k .peaks-stand .ensures, not-true (k .peaks-stand .result) (c .if3 .taken), and-false))
     (λ c κs. search needs)
     (λ c. let k = c .before .before .before in let p = k .before .before in let w = p .before in let pre = w .before .before .before .before .before .pre .1 in simp (
       c .numbers-stand .ensures,
@@ -63,9 +51,4 @@ unbroken-spec =
       eq-eqb _ _ (w .before .if1 .left),
       and-true,
     ))
-    (λ c. let w = c .before .before .before .before .before .before in simp (
-      ← w .before .before .word-at2 .ensures,
-      ne-eqb _ _ (c .if5 .left),
-      ne-eqb _ _ (c .before .if4 .left),
-      and-false,
-    )))
+    (λ c. let w = c .before .before .before .before .before .before in simp (← w .before .before .word-at2 .ensures, ne-eqb _ _ (c .if5 .left), ne-eqb _ _ (c .before .if4 .left), and-false)))

@@ -9,11 +9,7 @@ is-log-spec =
     close (spec
     (λ c. simp (lt-leb _ _ (c .if1 .taken)))
     (λ c κs. search needs)
-    (λ c. simp (
-      ← c .before .from-end .ensures,
-      ne-eqb _ _ (c .if2 .taken),
-      le-leb _ _ (c .before .before .if1 .left),
-    ))
+    (λ c. simp (← c .before .from-end .ensures, ne-eqb _ _ (c .if2 .taken), le-leb _ _ (c .before .before .if1 .left)))
     (λ c κs. search needs)
     (λ c. let s = c .before .before .before in simp (
       ← c .before .record-count .ensures,

@@ -49,7 +49,8 @@ returns-5 c =
     let call = known .before .before .before in
     let test = call .before .before in
     let a = test .before .before .before .before .args in
-    routed (a .pattern .now) _ _ refl (told (known .walked .given .1) (call .expand .ensures)) (few .if3 .left) (a .route .now) (a .written .now) (test .if1 .left) (few .before .if2 .left) (put .put-route .ensures)
+    routed (a .pattern .now) _ _ refl (told (known .walked .given .1) (call .expand .ensures)) (few .if3 .left) (a .route .now) (a .written .now) (test .if1 .left)
+    (few .before .if2 .left) (put .put-route .ensures)
 
 pub expand-into-spec : {M : Type 1} → statement M
 expand-into-spec =

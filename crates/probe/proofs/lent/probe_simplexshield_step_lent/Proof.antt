@@ -35,7 +35,8 @@ module _ {M : Type 1} (𝓤 : URA M) (H : Heap 𝓤) (A : Atoms 𝓤) (at-mem : 
   abbrev Lent : Contract 𝓤
   Lent = tripleOf 𝓤 H A lent.signature (lent.spec 𝓤 H A at-mem run)
 
-module _ {M : Type 1} (𝓤 : URA M) (H : Heap 𝓤) (A : Atoms 𝓤) (W : Given 𝓤 H A) (at-mem : Memory → SProp 𝓤) (run : Routine → Fun 𝓤) (κ : Lft) (q : Share) (b o : ℕ) (γ : GName) (h : SimplexShield) (a : Denots others) (are : Are others (Ises others) a (low a)) where
+module _ {M : Type 1} (𝓤 : URA M) (H : Heap 𝓤) (A : Atoms 𝓤) (W : Given 𝓤 H A) (at-mem : Memory → SProp 𝓤) (run : Routine → Fun 𝓤) (κ : Lft) (q : Share) (b o : ℕ) (γ : GName)
+    (h : SimplexShield) (a : Denots others) (are : Are others (Ises others) a (low a)) where
   abbrev x : RefT SimplexShield × Denots others
   x = (record { ptr = (b, o); name = γ; now = h }, a)
 
@@ -57,20 +58,27 @@ module _ {M : Type 1} (𝓤 : URA M) (H : Heap 𝓤) (A : Atoms 𝓤) (W : Given
         qed W ((‵ (flft κ q) ⊛ ‵ ftrue) ∷ ‵ (owns (MutRef (named 0) κ T.the-row ∷ others) x at) ∷ []) ∵ enter ! C Λ code.function (vptr b o ∷ flat others (low a)) _ $
         alloc1 ! (λ l₀. alloc1 ! (λ l₁. alloc1 ! (λ l₂. alloc1 ! (λ l₃. alloc1 ! (λ l₄. alloc1 ! (λ l₅. alloc0 ! $ params1 ! $
         pass1 ! (init ! 8 refl (tt, tt)) $ pass1 ! (init ! 6 refl (float-lawful 𝓤 H A W binary32 .typed (a .0) _ (are .0) .0)) $
-        pass1 ! (init ! 4 refl (LL.lawful B.the-type B′.the-laws 𝓤 H A W .typed (a .1 .0) _ (are .1 .0) .0)) $ pass1 ! (init ! 2 refl (LL.lawful B.the-type B′.the-laws 𝓤 H A W .typed (a .1 .1 .0) _ (are .1 .1 .0) .0)) $ pass0 ! $
+        pass1 ! (init ! 4 refl (LL.lawful B.the-type B′.the-laws 𝓤 H A W .typed (a .1 .0) _ (are .1 .0) .0)) $ pass1 !
+        (init ! 2 refl (LL.lawful B.the-type B′.the-laws 𝓤 H A W .typed (a .1 .1 .0) _ (are .1 .1 .0) .0)) $ pass0 ! $
         -- [_5; …; _4; …; _3; …; _2; …; _1; …; _0; …; the token; what the parameters own]
         assigns ! (addr ! (from ! (hop ! (look ! 8 refl) (stop !)))) (from ! (stop !)) (init ! 0 refl (tt, tt)) $ move ! (12 ∷ 13 ∷ []) $ use2 W (raw (Lent 𝓤 H A at-mem run .pre y)) goes $
-        calls-at ! fm (Lent 𝓤 H A at-mem run) known y (and-then ! (load ! (from ! (stop !)) (look ! 1 refl)) (and-then ! (load ! (from ! (stop !)) (look ! 7 refl)) (and-then ! (load ! (from ! (stop !)) (look ! 5 refl)) (and-then ! (load ! (from ! (stop !)) (look ! 3 refl)) (no-more !))))) (λ v.
-        use1 W (later (some (λ (r : Picked). ((‵ (flft κ q) ⊛ ‵ ftrue) ⊛ ‵ (R.the-row .own r (v ∷ []))) ⊛ raw (Said r)))) (id⊢ 𝓤 _) $ await ! tt $ pick ! (λ r. split ! $ split ! $ move ! (1 ∷ []) $ peeks ! R.the-row (Is R.the-row) (shows 𝓤 H A R.the-row) r (v ∷ []) (λ is.
+        calls-at ! fm (Lent 𝓤 H A at-mem run) known y (and-then ! (load ! (from ! (stop !)) (look ! 1 refl))
+        (and-then ! (load ! (from ! (stop !)) (look ! 7 refl)) (and-then ! (load ! (from ! (stop !)) (look ! 5 refl)) (and-then ! (load ! (from ! (stop !)) (look ! 3 refl)) (no-more !))))) (λ v.
+        use1 W (later (some (λ (r : Picked). ((‵ (flft κ q) ⊛ ‵ ftrue) ⊛ ‵ (R.the-row .own r (v ∷ []))) ⊛ raw (Said r)))) (id⊢ 𝓤 _) $ await ! tt $ pick !
+        (λ r. split ! $ split ! $ move ! (1 ∷ []) $ peeks ! R.the-row (Is R.the-row) (shows 𝓤 H A R.the-row) r (v ∷ []) (λ is.
         -- [what the answer owns; the token; what is said of it; _5; …]
-        land ! (from ! (stop !)) (init ! 13 refl (LL.lawful R.the-type R′.the-laws 𝓤 H A W .typed r _ is .0)) $ returns ! (look ! 13 refl) $ forget ! 3 refl $ forget ! 5 refl $ forget ! 7 refl $ forget ! 9 refl $ forget ! 11 refl $ forget ! 13 refl $
-        move ! (13 ∷ 14 ∷ []) $ free1 ! $ move ! (11 ∷ 12 ∷ []) $ free1 ! $ move ! (9 ∷ 10 ∷ []) $ free1 ! $ move ! (7 ∷ 8 ∷ []) $ free1 ! $ move ! (5 ∷ 6 ∷ []) $ free1 ! $ move ! (3 ∷ 4 ∷ []) $ free1 ! $ free0 ! $ by ! (passed-on 𝓤 H A W R.the-row κ q Said v r))))))))))
+        land ! (from ! (stop !)) (init ! 13 refl (LL.lawful R.the-type R′.the-laws 𝓤 H A W .typed r _ is .0)) $ returns !
+        (look ! 13 refl) $ forget ! 3 refl $ forget ! 5 refl $ forget ! 7 refl $ forget ! 9 refl $ forget ! 11 refl $ forget ! 13 refl $
+        move ! (13 ∷ 14 ∷ []) $ free1 ! $ move ! (11 ∷ 12 ∷ []) $ free1 ! $ move ! (9 ∷ 10 ∷ []) $ free1 ! $ move ! (7 ∷ 8 ∷ []) $ free1 ! $ move ! (5 ∷ 6 ∷ []) $ free1 ! $ move !
+        (3 ∷ 4 ∷ []) $ free1 ! $ free0 ! $ by ! (passed-on 𝓤 H A W R.the-row κ q Said v r))))))))))
 
 module _ {M : Type 1} (𝓤 : URA M) (H : Heap 𝓤) (A : Atoms 𝓤) (W : Given 𝓤 H A) (at-mem : Memory → SProp 𝓤) (run : Routine → Fun 𝓤) where
   probe-meets : (𝓣 : Tables 𝓤 H) → Triple 𝓤 (𝓣 .C #lent) (Lent 𝓤 H A at-mem run) → Meets 𝓤 H A probe.signature (WpFn 𝓤 H (𝓣 .C) (𝓣 .Λ) code.function) (probe.spec 𝓤 H A at-mem run)
-  probe-meets 𝓣 known y = via 𝓤 _ (fst∗ 𝓤 _ (emp 𝓤)) (said 𝓤 H A lent.signature (y .0 .0) (y .0 .1) (ptr-vals, (float-vals binary32, (rated, (rated, tt)))) (mut-tells (named 0) (y .0 .0 .0) T.the-row, (float-tells binary32, (LL.tells B.the-type B′.the-laws, (LL.tells B.the-type B′.the-laws, tt)))) (y .0 .3)
+  probe-meets 𝓣 known y = via 𝓤 _ (fst∗ 𝓤 _ (emp 𝓤)) (said 𝓤 H A lent.signature (y .0 .0) (y .0 .1) (ptr-vals, (float-vals binary32, (rated, (rated, tt))))
+      (mut-tells (named 0) (y .0 .0 .0) T.the-row, (float-tells binary32, (LL.tells B.the-type B′.the-laws, (LL.tells B.the-type B′.the-laws, tt)))) (y .0 .3)
       (λ us. WpFn 𝓤 H (𝓣 .C) (𝓣 .Λ) code.function (us .0 ++ flat others (us .1)) (Lent 𝓤 H A at-mem run .post ((y .0 .0, y .0 .1, tt, y .0 .3, us), tt))) (y .0 .4)
-      (λ are. walk 𝓤 H A W at-mem run (y .0 .0 .0) (y .0 .1 .0) (y .0 .3 .0 .ptr .0) (y .0 .3 .0 .ptr .1) (y .0 .3 .0 .name) (y .0 .3 .0 .now) (y .0 .3 .1) (are .1) (𝓣 .C) (𝓣 .Λ) (fmOf 𝓤 H (W .laws) 𝓣) known))
+      (λ are. walk 𝓤 H A W at-mem run (y .0 .0 .0) (y .0 .1 .0) (y .0 .3 .0 .ptr .0) (y .0 .3 .0 .ptr .1) (y .0 .3 .0 .name) (y .0 .3 .0 .now) (y .0 .3 .1) (are .1) (𝓣 .C) (𝓣 .Λ)
+      (fmOf 𝓤 H (W .laws) 𝓣) known))
 
 pub probe-simplexshield-step-lent-spec : {M : Type 1} → stated.statement M
 unfolding code.routine tablesOf

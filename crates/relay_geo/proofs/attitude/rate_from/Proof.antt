@@ -10,5 +10,4 @@ returns-2 c =
     simp (c .sanitise3 .ensures, w .transposed-times .ensures, x .cross .ensures, x .before .before .r-d .given .1)
 
 pub rate-from-spec : {M : Type 1} → statement M
-rate-from-spec =
-    close (spec (λ c. search needs) (λ c. search needs) (λ c. search needs) (λ c κs. search needs) (λ c κs. search needs) (λ c κs. search needs) returns-2)
+rate-from-spec = close (spec (λ c. search needs) (λ c. search needs) (λ c. search needs) (λ c κs. search needs) (λ c κs. search needs) (λ c κs. search needs) returns-2)

@@ -16,5 +16,6 @@ cosf-spec =
     let f = held (d .before .before .good .0 .1) in
     is-cosine _ _ _ f (arm _ _ _ f (d .before .signed-of .ensures) (d .served .ensures) true true (b .before .if1 .taken) (b .if2 .taken))
     (c .turned-of .ensures ∙ simp (c .before .either-poly .ensures .0, one, e .reduce .ensures .0, e .before .fixed-of .ensures .0)))
-    (λ c. let d = c .before .before in let f = held (d .before .before .good .0 .1) in is-cosine _ _ _ f (arm _ _ _ f (d .before .signed-of .ensures) (d .served .ensures) true false (c .before .if1 .taken) (c .if2 .left)) refl)
+    (λ c. let d = c .before .before in let f = held (d .before .before .good .0 .1) in is-cosine _ _ _ f
+    (arm _ _ _ f (d .before .signed-of .ensures) (d .served .ensures) true false (c .before .if1 .taken) (c .if2 .left)) refl)
     (λ c. let d = c .before in let f = held (d .before .before .good .0 .1) in is-cosine _ _ _ f (arm _ _ _ f (d .before .signed-of .ensures) (d .served .ensures) false _ (c .if1 .left) refl) refl))

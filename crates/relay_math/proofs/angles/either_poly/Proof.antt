@@ -9,7 +9,8 @@ falling : (s : Bool) (r : ℕ) → r < 281474976710656
 falling true r h = omega arith
 falling false r h = omega arith
 
-one : (s : Bool) (r z : ℕ) → polyOf (cond s r 281474976710656) z (cond s 0x2AAAAAAB 0x80000000) (cond s 0x2222222 0xAAAAAAB) (cond s 0xD00D0 0x5B05B0) (cond s 0x2DFC 0x19D60) ≡ cond s (sinPoly r z) (cosPoly z)
+one : (s : Bool) (r z : ℕ) → polyOf (cond s r 281474976710656) z (cond s 0x2AAAAAAB 0x80000000) (cond s 0x2222222 0xAAAAAAB) (cond s 0xD00D0 0x5B05B0) (cond s 0x2DFC 0x19D60) ≡ cond s
+    (sinPoly r z) (cosPoly z)
 unfolding sinPoly cosPoly
 one true r z = refl
 one false r z = refl
@@ -21,7 +22,8 @@ either-poly-spec =
     let b = c .before .before .before .before in
     let a = b .before .args in
     let f = falling (a .sine) (a .r) (b .before .pre .0) in
-    simp (c .pick-of5 .ensures, c .before .pick-of4 .ensures, c .before .before .pick-of3 .ensures, c .before .before .before .pick-of2 .ensures, b .pick-of .ensures) (f .0, (b .before .pre .1, f .1)))
+    simp (c .pick-of5 .ensures, c .before .pick-of4 .ensures, c .before .before .pick-of3 .ensures, c .before .before .before .pick-of2 .ensures, b .pick-of .ensures)
+    (f .0, (b .before .pre .1, f .1)))
     (λ c.
     let d = c .before in
     let b = d .before .before .before .before in

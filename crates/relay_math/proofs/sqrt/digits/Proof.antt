@@ -32,7 +32,4 @@ digits-spec =
       (joined (scaled c) refl .2, joined (scaled c) refl .3),
       of-positive (Kept (c .before .args .b) _) (λ m i f e. rw (small-is (rw e at (reads (suc m) i f)) (c .if1 .taken)) (kept (scaled c) refl)),
     ))
-    (λ c. (
-      (omega arith, omega arith),
-      of-positive (Kept (c .before .args .b) _) (λ m i f e. kept (scaled-normal (rw e at (reads (suc m) i f)) (c .if1 .left)) (omega arith)),
-    )))
+    (λ c. ((omega arith, omega arith), of-positive (Kept (c .before .args .b) _) (λ m i f e. kept (scaled-normal (rw e at (reads (suc m) i f)) (c .if1 .left)) (omega arith)))))

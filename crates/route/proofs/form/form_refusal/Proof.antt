@@ -9,17 +9,8 @@ form-refusal-spec =
     close (spec
     (λ c. simp (lt-ltb _ _ (c .if1 .taken)))
     (λ c κs. search needs)
-    (λ c. simp (
-      ← c .before .leg-count .ensures,
-      eq-eqb _ _ (c .if2 .taken),
-      le-ltb _ _ (c .before .before .if1 .left),
-    ))
-    (λ c. let n = c .before .before in simp (
-      ← n .leg-count .ensures,
-      lt-ltb _ _ (c .if3 .taken),
-      ne-eqb _ _ (c .before .if2 .left),
-      le-ltb _ _ (n .before .if1 .left),
-    ))
+    (λ c. simp (← c .before .leg-count .ensures, eq-eqb _ _ (c .if2 .taken), le-ltb _ _ (c .before .before .if1 .left)))
+    (λ c. let n = c .before .before in simp (← n .leg-count .ensures, lt-ltb _ _ (c .if3 .taken), ne-eqb _ _ (c .before .if2 .left), le-ltb _ _ (n .before .if1 .left)))
     (λ c κs. search needs) (λ c. search needs)
     (λ c. let n = c .before .before .before .before in simp (
       ← n .leg-count .ensures,

@@ -49,5 +49,4 @@ returns c =
     at .inv .1 ∙ rw e
 
 pub all-plain-spec : {M : Type 1} → statement M
-all-plain-spec =
-    close (spec Inv-loop μ-loop (λ c. (omega arith, refl)) (λ c κs. omega arith) (λ c. search needs) (λ c. search needs) (λ c. omega arith) loop-again returns)
+all-plain-spec = close (spec Inv-loop μ-loop (λ c. (omega arith, refl)) (λ c κs. omega arith) (λ c. search needs) (λ c. search needs) (λ c. omega arith) loop-again returns)

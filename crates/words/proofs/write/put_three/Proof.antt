@@ -8,7 +8,4 @@ returns c =
     (c .before .before .put-float3 .ensures) refl
 
 pub put-three-spec : {M : Type 1} → statement M
-put-three-spec =
-    close (spec
-    (λ c κs. search needs) (λ c. search needs) (λ c κs. search needs) (λ c. search needs) (λ c κs. search needs) (λ c. search needs)
-    returns)
+put-three-spec = close (spec (λ c κs. search needs) (λ c. search needs) (λ c κs. search needs) (λ c. search needs) (λ c κs. search needs) (λ c. search needs) returns)

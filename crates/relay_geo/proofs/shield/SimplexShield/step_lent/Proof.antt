@@ -66,7 +66,8 @@ module _ {M : Type 1} (𝓤 : URA M) (H : Heap 𝓤) (A : Atoms 𝓤) (at-mem : 
   said : (h : SimplexShield) (a : Denots others) (r : Shielded) → ent 𝓤 (Said h a r) (fact 𝓤 (r ≡ spec.step h (a .0) (a .1 .0) (a .1 .1 .0)))
   said h a r = exE 𝓤 _ (λ ws. snd∗ 𝓤 (sem 𝓤 H A (lasts step.ended tt (h, a) ws)) (fact 𝓤 (r ≡ spec.step h (a .0) (a .1 .0) (a .1 .1 .0))))
 
-module _ {M : Type 1} (𝓤 : URA M) (H : Heap 𝓤) (A : Atoms 𝓤) (W : Given 𝓤 H A) (at-mem : Memory → SProp 𝓤) (run : Routine → Fun 𝓤) (κ : Lft) (q : Share) (b o : ℕ) (γ : GName) (h : SimplexShield) (a : Denots others) (are : Are others (Ises others) a (low a)) where
+module _ {M : Type 1} (𝓤 : URA M) (H : Heap 𝓤) (A : Atoms 𝓤) (W : Given 𝓤 H A) (at-mem : Memory → SProp 𝓤) (run : Routine → Fun 𝓤) (κ : Lft) (q : Share) (b o : ℕ) (γ : GName)
+    (h : SimplexShield) (a : Denots others) (are : Are others (Ises others) a (low a)) where
   abbrev n : Shielded
   n = spec.step h (a .0) (a .1 .0) (a .1 .1 .0)
 
@@ -82,10 +83,12 @@ module _ {M : Type 1} (𝓤 : URA M) (H : Heap 𝓤) (A : Atoms 𝓤) (W : Given
   made : ent 𝓤 (emp 𝓤) (sem 𝓤 H A (owns others a (low a)))
   made = let rates = LL.makes B.the-type B′.the-plain 𝓤 H A in owns-make 𝓤 H A others (Ises others) (float-makes 𝓤 H A W binary32, (rates, (rates, tt))) a (low a) are
 
-  exits : Is R.the-row (pickedOf n) (picked (pickedOf n)) → ent 𝓤 (sep 𝓤 (A .obs γ (T.the-row .coded .code (n .shield))) (sep 𝓤 (A .bor κ (Body (mem T.the-row) b o γ)) (A .lft κ q))) (Post (LL.val R.the-type R′.the-laws (pickedOf n)))
+  exits : Is R.the-row (pickedOf n) (picked (pickedOf n)) → ent 𝓤 (sep 𝓤 (A .obs γ (T.the-row .coded .code (n .shield))) (sep 𝓤 (A .bor κ (Body (mem T.the-row) b o γ)) (A .lft κ q)))
+      (Post (LL.val R.the-type R′.the-laws (pickedOf n)))
   exits is =
       qed W (‵ (fobs γ (T.the-row .coded .code (n .shield))) ∷ ‵ (fbor κ (Body (mem T.the-row) b o γ)) ∷ ‵ (flft κ q) ∷ []) ∵
-      suffices ! _ (ends-at 𝓤 H A lent.ended stayed (lent.clauses 𝓤 H A at-mem run) W (((κ, tt), (q, tt), tt, x, at), tt) (LL.val R.the-type R′.the-laws (pickedOf n)) (pickedOf n) (n .shield, (tt, (tt, (tt, tt)))) (tt, (tt, (tt, (tt, tt))))) $ says ! (refl, refl) $
+      suffices ! _ (ends-at 𝓤 H A lent.ended stayed (lent.clauses 𝓤 H A at-mem run) W (((κ, tt), (q, tt), tt, x, at), tt) (LL.val R.the-type R′.the-laws (pickedOf n)) (pickedOf n)
+      (n .shield, (tt, (tt, (tt, tt)))) (tt, (tt, (tt, (tt, tt))))) $ says ! (refl, refl) $
       nothing ! $ move ! (3 ∷ 0 ∷ []) $ join ! $ frame ! $ feqI ! (List Val) (vptr b o ∷ []) (vptr b o ∷ []) refl $ fjoin3 ! $ use0 W (‵ (owns others a (low a))) made $ move ! (1 ∷ 0 ∷ []) $ fjoin ! $
       owned ! R.the-row (Is R.the-row) (LL.makes R.the-type R′.the-plain 𝓤 H A) (pickedOf n) _ is $ move ! (1 ∷ 0 ∷ []) $ done !
 
@@ -94,7 +97,8 @@ module _ {M : Type 1} (𝓤 : URA M) (H : Heap 𝓤) (A : Atoms 𝓤) (W : Given
 
   goes-step : Is T.the-row h (shielding h) → ent 𝓤 (emp 𝓤) (Step 𝓤 H A at-mem run .pre to-step)
   goes-step was =
-      qed W [] ∵ nothing ! $ use0 W (‵ (owns others a (low a))) made $ owned ! T.the-row (Is T.the-row) (LL.makes T.the-type T′.the-plain 𝓤 H A) h _ was $ fjoin ! $ nothing ! $ join ! $ join ! $ done !
+      qed W [] ∵ nothing ! $ use0 W (‵ (owns others a (low a))) made $ owned ! T.the-row (Is T.the-row)
+      (LL.makes T.the-type T′.the-plain 𝓤 H A) h _ was $ fjoin ! $ nothing ! $ join ! $ join ! $ done !
 
   module _ (C : Calls 𝓤 H) (Λ : Loops 𝓤 H) (fm : FmC 𝓤 H (W .laws) C) (known : Triple 𝓤 (C #step) (Step 𝓤 H A at-mem run)) where
     walk : ent 𝓤 (onEntry 𝓤 H A lent.signature (κ, tt) (q, tt) x at) (WpFn 𝓤 H C Λ code.function (vptr b o ∷ flat others (low a)) Post)
@@ -102,33 +106,44 @@ module _ {M : Type 1} (𝓤 : URA M) (H : Heap 𝓤) (A : Atoms 𝓤) (W : Given
         qed W ((‵ (flft κ q) ⊛ ‵ ftrue) ∷ ‵ (owns (MutRef (named 0) κ T.the-row ∷ others) x at) ∷ []) ∵ enter ! C Λ code.function (vptr b o ∷ flat others (low a)) _ $
         alloc1 ! (λ l₀. alloc1 ! (λ l₁. alloc1 ! (λ l₂. alloc1 ! (λ l₃. alloc1 ! (λ l₄. alloc1 ! (λ l₅. alloc1 ! (λ l₆. alloc0 ! $ params1 ! $
         pass1 ! (init ! 10 refl (tt, tt)) $ pass1 ! (init ! 8 refl (float-lawful 𝓤 H A W binary32 .typed (a .0) _ (are .0) .0)) $
-        pass1 ! (init ! 6 refl (LL.lawful B.the-type B′.the-laws 𝓤 H A W .typed (a .1 .0) _ (are .1 .0) .0)) $ pass1 ! (init ! 4 refl (LL.lawful B.the-type B′.the-laws 𝓤 H A W .typed (a .1 .1 .0) _ (are .1 .1 .0) .0)) $ pass0 ! $
+        pass1 ! (init ! 6 refl (LL.lawful B.the-type B′.the-laws 𝓤 H A W .typed (a .1 .0) _ (are .1 .0) .0)) $ pass1 !
+        (init ! 4 refl (LL.lawful B.the-type B′.the-laws 𝓤 H A W .typed (a .1 .1 .0) _ (are .1 .1 .0) .0)) $ pass0 ! $
         -- [_6; …; _5; …; _4; …; _3; …; _2; …; _1; …; _0; …; the token; what the parameters own]
         move ! (15 ∷ []) $ fsplit ! $ fsplit3 ! $ drop ! $ move ! (17 ∷ []) $ split ! $ move ! (2 ∷ 3 ∷ 0 ∷ []) $ opened T.the-type T′.the-laws ! tt h b o (λ was.
         -- [the shield's cell; the open borrow; obs; auth; …; …; _6; …; _5; …; _4; …; _3; …; _2; …; _1; …; _0; …]
         assigns ! (of-opd ! (load ! (from ! (hop ! (look ! 16 refl) (stop !))) (look-raw ! 0 refl))) (from ! (stop !)) (init ! 6 refl (LL.lawful T.the-type T′.the-laws 𝓤 H A W .typed h _ was .0)) $
         use0 W (raw (Step 𝓤 H A at-mem run .pre to-step)) (goes-step was) $
-        calls-at ! fm (Step 𝓤 H A at-mem run) known to-step (and-then ! (load ! (from ! (stop !)) (look ! 7 refl)) (and-then ! (load ! (from ! (stop !)) (look ! 15 refl)) (and-then ! (load ! (from ! (stop !)) (look ! 13 refl)) (and-then ! (load ! (from ! (stop !)) (look ! 11 refl)) (no-more !))))) (λ v.
-        use1 W (later (some (λ (r : Shielded). (‵ ftrue ⊛ ‵ (N.the-row .own r (v ∷ []))) ⊛ raw (Said 𝓤 H A at-mem run h a r)))) (id⊢ 𝓤 _) $ answered N.the-type N′.the-laws ! v n (Said 𝓤 H A at-mem run h a) (said 𝓤 H A at-mem run h a) (λ is.
+        calls-at ! fm (Step 𝓤 H A at-mem run) known to-step (and-then ! (load ! (from ! (stop !)) (look ! 7 refl))
+        (and-then ! (load ! (from ! (stop !)) (look ! 15 refl)) (and-then ! (load ! (from ! (stop !)) (look ! 13 refl))
+        (and-then ! (load ! (from ! (stop !)) (look ! 11 refl)) (no-more !))))) (λ v.
+        use1 W (later (some (λ (r : Shielded). (‵ ftrue ⊛ ‵ (N.the-row .own r (v ∷ []))) ⊛ raw (Said 𝓤 H A at-mem run h a r)))) (id⊢ 𝓤 _) $ answered N.the-type N′.the-laws ! v n
+        (Said 𝓤 H A at-mem run h a) (said 𝓤 H A at-mem run h a) (λ is.
         land ! (from ! (stop !)) (init ! 8 refl (LL.lawful N.the-type N′.the-laws 𝓤 H A W .typed n _ is .0)) $
-        assigns ! (of-opd ! (load ! (from ! (fld ! refl (stop !))) (look-in ! 8 (sub ! 0 refl (whole !))))) (from ! (hop ! (look ! 16 refl) (stop !))) (store-raw ! 0 refl (LL.lawful T.the-type T′.the-laws 𝓤 H A W .typed (n .shield) _ (parts n is .0) .0)) $
-        assigns ! (agg ! (and-then ! (load ! (from ! (fld ! refl (stop !))) (look-in ! 8 (sub ! 1 refl (whole !)))) (and-then ! (load ! (from ! (fld ! refl (stop !))) (look-in ! 8 (sub ! 2 refl (whole !)))) (no-more !)))) (from ! (stop !)) (init ! 18 refl (LL.lawful R.the-type R′.the-laws 𝓤 H A W .typed (pickedOf n) _ (parts n is .1) .0)) $
+        assigns ! (of-opd ! (load ! (from ! (fld ! refl (stop !))) (look-in ! 8 (sub ! 0 refl (whole !))))) (from ! (hop ! (look ! 16 refl) (stop !)))
+        (store-raw ! 0 refl (LL.lawful T.the-type T′.the-laws 𝓤 H A W .typed (n .shield) _ (parts n is .0) .0)) $
+        assigns ! (agg ! (and-then ! (load ! (from ! (fld ! refl (stop !))) (look-in ! 8 (sub ! 1 refl (whole !))))
+        (and-then ! (load ! (from ! (fld ! refl (stop !))) (look-in ! 8 (sub ! 2 refl (whole !)))) (no-more !)))) (from ! (stop !))
+        (init ! 18 refl (LL.lawful R.the-type R′.the-laws 𝓤 H A W .typed (pickedOf n) _ (parts n is .1) .0)) $
         closed T.the-type T′.the-laws ! tt T′.the-plain (n .shield) b o (parts n is .0) $
         returns ! (look ! 17 refl) $ forget ! 5 refl $ forget ! 7 refl $ forget ! 9 refl $ forget ! 11 refl $ forget ! 13 refl $ forget ! 15 refl $ forget ! 17 refl $
-        move ! (17 ∷ 18 ∷ []) $ free1 ! $ move ! (15 ∷ 16 ∷ []) $ free1 ! $ move ! (13 ∷ 14 ∷ []) $ free1 ! $ move ! (11 ∷ 12 ∷ []) $ free1 ! $ move ! (9 ∷ 10 ∷ []) $ free1 ! $ move ! (7 ∷ 8 ∷ []) $ free1 ! $ move ! (5 ∷ 6 ∷ []) $ free1 ! $ free0 ! $
+        move ! (17 ∷ 18 ∷ []) $ free1 ! $ move ! (15 ∷ 16 ∷ []) $ free1 ! $ move ! (13 ∷ 14 ∷ []) $ free1 ! $ move ! (11 ∷ 12 ∷ []) $ free1 ! $ move ! (9 ∷ 10 ∷ []) $ free1 ! $ move !
+        (7 ∷ 8 ∷ []) $ free1 ! $ move ! (5 ∷ 6 ∷ []) $ free1 ! $ free0 ! $
         keep ! (0 ∷ 1 ∷ 2 ∷ []) $ by ! (exits (parts n is .1))))))))))))
 
 module _ {M : Type 1} (𝓤 : URA M) (H : Heap 𝓤) (A : Atoms 𝓤) (W : Given 𝓤 H A) (at-mem : Memory → SProp 𝓤) (run : Routine → Fun 𝓤) where
-  lent-walks : (C : Calls 𝓤 H) (Λ : Loops 𝓤 H) → FmC 𝓤 H (W .laws) C → Triple 𝓤 (C #step) (Step 𝓤 H A at-mem run) → Walks 𝓤 H A lent.ended stayed (WpFn 𝓤 H C Λ code.function) (lent.clauses 𝓤 H A at-mem run)
+  lent-walks : (C : Calls 𝓤 H) (Λ : Loops 𝓤 H) → FmC 𝓤 H (W .laws) C → Triple 𝓤 (C #step) (Step 𝓤 H A at-mem run) → Walks 𝓤 H A lent.ended stayed (WpFn 𝓤 H C Λ code.function)
+      (lent.clauses 𝓤 H A at-mem run)
   lent-walks C Λ fm known = walked 𝓤 H A lent.ended stayed (lent.clauses 𝓤 H A at-mem run) (WpFn 𝓤 H C Λ code.function)
-      (λ κs. (ptr-vals, (float-vals binary32, (rated, (rated, tt))))) (λ κs. (mut-tells (named 0) (κs .0) T.the-row, (float-tells binary32, (LL.tells B.the-type B′.the-laws, (LL.tells B.the-type B′.the-laws, tt)))))
+      (λ κs. (ptr-vals, (float-vals binary32, (rated, (rated, tt)))))
+      (λ κs. (mut-tells (named 0) (κs .0) T.the-row, (float-tells binary32, (LL.tells B.the-type B′.the-laws, (LL.tells B.the-type B′.the-laws, tt)))))
       (λ κs qs bounds a g are. via 𝓤 _ (fst∗ 𝓤 _ (emp 𝓤)) (walk 𝓤 H A W at-mem run (κs .0) (qs .0) (a .0 .ptr .0) (a .0 .ptr .1) (a .0 .name) (a .0 .now) (a .1) (are .1) C Λ fm known))
 
   goes : AllGo 𝓤 H A W 1 (lent.signature .params) (lent.ended .kept) stayed
   goes = (goes-ref 𝓤 H A W 1 0 tt (plain (λ _. T.the-row)), (goes-none 𝓤 H A W 1 (λ _. f32) yes (λ κs x f. refl), (goes-none 𝓤 H A W 1 (λ _. B.the-row) yes (λ κs x f. refl), (goes-none 𝓤 H A W 1 (λ _. B.the-row) yes (λ κs x f. refl), tt))))
 
   lent-meets : (𝓣 : Tables 𝓤 H) → Triple 𝓤 (𝓣 .C #step) (Step 𝓤 H A at-mem run) → Meets 𝓤 H A lent.signature (WpFn 𝓤 H (𝓣 .C) (𝓣 .Λ) code.function) (lent.spec 𝓤 H A at-mem run)
-  lent-meets 𝓣 known = walk-meets 𝓤 H A lent.ended stayed W goes (lent.clauses 𝓤 H A at-mem run) (WpFn 𝓤 H (𝓣 .C) (𝓣 .Λ) code.function) (WpFn-mono 𝓤 H (W .laws) 𝓣 code.function) (lent-walks (𝓣 .C) (𝓣 .Λ) (fmOf 𝓤 H (W .laws) 𝓣) known)
+  lent-meets 𝓣 known = walk-meets 𝓤 H A lent.ended stayed W goes (lent.clauses 𝓤 H A at-mem run) (WpFn 𝓤 H (𝓣 .C) (𝓣 .Λ) code.function) (WpFn-mono 𝓤 H (W .laws) 𝓣 code.function)
+      (lent-walks (𝓣 .C) (𝓣 .Λ) (fmOf 𝓤 H (W .laws) 𝓣) known)
 
 pub step-lent-spec : {M : Type 1} → stated.statement M
 unfolding code.routine tablesOf

@@ -58,7 +58,8 @@ module _ {M : Type 1} (𝓤 : URA M) (H : Heap 𝓤) (A : Atoms 𝓤) (at-mem : 
   said : (h : RefGovernor) (a : Denots others) (r : Advanced) → ent 𝓤 (Said h a r) (fact 𝓤 (r ≡ spec.advance h (a .0) (a .1 .0)))
   said h a r = exE 𝓤 _ (λ ws. snd∗ 𝓤 (sem 𝓤 H A (lasts advance.ended tt (h, a) ws)) (fact 𝓤 (r ≡ spec.advance h (a .0) (a .1 .0))))
 
-module _ {M : Type 1} (𝓤 : URA M) (H : Heap 𝓤) (A : Atoms 𝓤) (W : Given 𝓤 H A) (at-mem : Memory → SProp 𝓤) (run : Routine → Fun 𝓤) (κ : Lft) (q : Share) (b o : ℕ) (γ : GName) (h : RefGovernor) (a : Denots others) (are : Are others (Ises others) a (low a)) where
+module _ {M : Type 1} (𝓤 : URA M) (H : Heap 𝓤) (A : Atoms 𝓤) (W : Given 𝓤 H A) (at-mem : Memory → SProp 𝓤) (run : Routine → Fun 𝓤) (κ : Lft) (q : Share) (b o : ℕ) (γ : GName)
+    (h : RefGovernor) (a : Denots others) (are : Are others (Ises others) a (low a)) where
   abbrev n : Advanced
   n = spec.advance h (a .0) (a .1 .0)
 
@@ -74,10 +75,12 @@ module _ {M : Type 1} (𝓤 : URA M) (H : Heap 𝓤) (A : Atoms 𝓤) (W : Given
   made : ent 𝓤 (emp 𝓤) (sem 𝓤 H A (owns others a (low a)))
   made = owns-make 𝓤 H A others (Ises others) (float-makes 𝓤 H A W binary32, (float-makes 𝓤 H A W binary32, tt)) a (low a) are
 
-  exits : Is f32 (n .time) (timed (n .time)) → ent 𝓤 (sep 𝓤 (A .obs γ (T.the-row .coded .code (n .governor))) (sep 𝓤 (A .bor κ (Body (mem T.the-row) b o γ)) (A .lft κ q))) (Post (vfloat binary32 (n .time)))
+  exits : Is f32 (n .time) (timed (n .time)) → ent 𝓤 (sep 𝓤 (A .obs γ (T.the-row .coded .code (n .governor))) (sep 𝓤 (A .bor κ (Body (mem T.the-row) b o γ)) (A .lft κ q)))
+      (Post (vfloat binary32 (n .time)))
   exits is =
       qed W (‵ (fobs γ (T.the-row .coded .code (n .governor))) ∷ ‵ (fbor κ (Body (mem T.the-row) b o γ)) ∷ ‵ (flft κ q) ∷ []) ∵
-      suffices ! _ (ends-at 𝓤 H A lent.ended stayed (lent.clauses 𝓤 H A at-mem run) W (((κ, tt), (q, tt), tt, x, at), tt) (vfloat binary32 (n .time)) (n .time) (n .governor, (tt, (tt, tt))) (tt, (tt, (tt, tt)))) $ says ! (refl, refl) $
+      suffices ! _ (ends-at 𝓤 H A lent.ended stayed (lent.clauses 𝓤 H A at-mem run) W (((κ, tt), (q, tt), tt, x, at), tt) (vfloat binary32 (n .time)) (n .time)
+      (n .governor, (tt, (tt, tt))) (tt, (tt, (tt, tt)))) $ says ! (refl, refl) $
       nothing ! $ move ! (3 ∷ 0 ∷ []) $ join ! $ frame ! $ feqI ! (List Val) (vptr b o ∷ []) (vptr b o ∷ []) refl $ fjoin3 ! $ use0 W (‵ (owns others a (low a))) made $ move ! (1 ∷ 0 ∷ []) $ fjoin ! $
       owned ! f32 (Is f32) (float-makes 𝓤 H A W binary32) (n .time) _ is $ move ! (1 ∷ 0 ∷ []) $ done !
 
@@ -86,31 +89,39 @@ module _ {M : Type 1} (𝓤 : URA M) (H : Heap 𝓤) (A : Atoms 𝓤) (W : Given
 
   goes-advance : Is T.the-row h (governed h) → ent 𝓤 (emp 𝓤) (Advance 𝓤 H A at-mem run .pre to-advance)
   goes-advance was =
-      qed W [] ∵ nothing ! $ use0 W (‵ (owns others a (low a))) made $ owned ! T.the-row (Is T.the-row) (LL.makes T.the-type T′.the-plain 𝓤 H A) h _ was $ fjoin ! $ nothing ! $ join ! $ join ! $ done !
+      qed W [] ∵ nothing ! $ use0 W (‵ (owns others a (low a))) made $ owned ! T.the-row (Is T.the-row)
+      (LL.makes T.the-type T′.the-plain 𝓤 H A) h _ was $ fjoin ! $ nothing ! $ join ! $ join ! $ done !
 
   module _ (C : Calls 𝓤 H) (Λ : Loops 𝓤 H) (fm : FmC 𝓤 H (W .laws) C) (known : Triple 𝓤 (C #advance) (Advance 𝓤 H A at-mem run)) where
     walk : ent 𝓤 (onEntry 𝓤 H A lent.signature (κ, tt) (q, tt) x at) (WpFn 𝓤 H C Λ code.function (vptr b o ∷ flat others (low a)) Post)
     walk =
         qed W ((‵ (flft κ q) ⊛ ‵ ftrue) ∷ ‵ (owns (MutRef (named 0) κ T.the-row ∷ others) x at) ∷ []) ∵ enter ! C Λ code.function (vptr b o ∷ flat others (low a)) _ $
         alloc1 ! (λ l₀. alloc1 ! (λ l₁. alloc1 ! (λ l₂. alloc1 ! (λ l₃. alloc1 ! (λ l₄. alloc1 ! (λ l₅. alloc0 ! $ params1 ! $
-        pass1 ! (init ! 8 refl (tt, tt)) $ pass1 ! (init ! 6 refl (float-lawful 𝓤 H A W binary32 .typed (a .0) _ (are .0) .0)) $ pass1 ! (init ! 4 refl (float-lawful 𝓤 H A W binary32 .typed (a .1 .0) _ (are .1 .0) .0)) $ pass0 ! $
+        pass1 ! (init ! 8 refl (tt, tt)) $ pass1 ! (init ! 6 refl (float-lawful 𝓤 H A W binary32 .typed (a .0) _ (are .0) .0)) $ pass1 !
+        (init ! 4 refl (float-lawful 𝓤 H A W binary32 .typed (a .1 .0) _ (are .1 .0) .0)) $ pass0 ! $
         -- [_5; …; _4; …; _3; …; _2; …; _1; …; _0; …; the token; what the parameters own]
         move ! (13 ∷ []) $ fsplit ! $ fsplit3 ! $ drop ! $ move ! (15 ∷ []) $ split ! $ move ! (2 ∷ 3 ∷ 0 ∷ []) $ opened T.the-type T′.the-laws ! tt h b o (λ was.
         -- [the governor's cell; the open borrow; obs; auth; …; …; _5; …; _4; …; _3; …; _2; …; _1; …; _0; …]
         assigns ! (of-opd ! (load ! (from ! (hop ! (look ! 14 refl) (stop !))) (look-raw ! 0 refl))) (from ! (stop !)) (init ! 6 refl (LL.lawful T.the-type T′.the-laws 𝓤 H A W .typed h _ was .0)) $
         use0 W (raw (Advance 𝓤 H A at-mem run .pre to-advance)) (goes-advance was) $
-        calls-at ! fm (Advance 𝓤 H A at-mem run) known to-advance (and-then ! (load ! (from ! (stop !)) (look ! 7 refl)) (and-then ! (load ! (from ! (stop !)) (look ! 13 refl)) (and-then ! (load ! (from ! (stop !)) (look ! 11 refl)) (no-more !)))) (λ v.
-        use1 W (later (some (λ (r : Advanced). (‵ ftrue ⊛ ‵ (N.the-row .own r (v ∷ []))) ⊛ raw (Said 𝓤 H A at-mem run h a r)))) (id⊢ 𝓤 _) $ answered N.the-type N′.the-laws ! v n (Said 𝓤 H A at-mem run h a) (said 𝓤 H A at-mem run h a) (λ is.
+        calls-at ! fm (Advance 𝓤 H A at-mem run) known to-advance (and-then ! (load ! (from ! (stop !)) (look ! 7 refl))
+        (and-then ! (load ! (from ! (stop !)) (look ! 13 refl)) (and-then ! (load ! (from ! (stop !)) (look ! 11 refl)) (no-more !)))) (λ v.
+        use1 W (later (some (λ (r : Advanced). (‵ ftrue ⊛ ‵ (N.the-row .own r (v ∷ []))) ⊛ raw (Said 𝓤 H A at-mem run h a r)))) (id⊢ 𝓤 _) $ answered N.the-type N′.the-laws ! v n
+        (Said 𝓤 H A at-mem run h a) (said 𝓤 H A at-mem run h a) (λ is.
         land ! (from ! (stop !)) (init ! 8 refl (LL.lawful N.the-type N′.the-laws 𝓤 H A W .typed n _ is .0)) $
-        assigns ! (of-opd ! (load ! (from ! (fld ! refl (stop !))) (look-in ! 8 (sub ! 0 refl (whole !))))) (from ! (hop ! (look ! 14 refl) (stop !))) (store-raw ! 0 refl (LL.lawful T.the-type T′.the-laws 𝓤 H A W .typed (n .governor) _ (parts n is .0) .0)) $
-        assigns ! (of-opd ! (load ! (from ! (fld ! refl (stop !))) (look-in ! 8 (sub ! 1 refl (whole !))))) (from ! (stop !)) (init ! 16 refl (float-lawful 𝓤 H A W binary32 .typed (n .time) _ (parts n is .1) .0)) $
+        assigns ! (of-opd ! (load ! (from ! (fld ! refl (stop !))) (look-in ! 8 (sub ! 0 refl (whole !))))) (from ! (hop ! (look ! 14 refl) (stop !)))
+        (store-raw ! 0 refl (LL.lawful T.the-type T′.the-laws 𝓤 H A W .typed (n .governor) _ (parts n is .0) .0)) $
+        assigns ! (of-opd ! (load ! (from ! (fld ! refl (stop !))) (look-in ! 8 (sub ! 1 refl (whole !))))) (from ! (stop !))
+        (init ! 16 refl (float-lawful 𝓤 H A W binary32 .typed (n .time) _ (parts n is .1) .0)) $
         closed T.the-type T′.the-laws ! tt T′.the-plain (n .governor) b o (parts n is .0) $
         returns ! (look ! 15 refl) $ forget ! 5 refl $ forget ! 7 refl $ forget ! 9 refl $ forget ! 11 refl $ forget ! 13 refl $ forget ! 15 refl $
-        move ! (15 ∷ 16 ∷ []) $ free1 ! $ move ! (13 ∷ 14 ∷ []) $ free1 ! $ move ! (11 ∷ 12 ∷ []) $ free1 ! $ move ! (9 ∷ 10 ∷ []) $ free1 ! $ move ! (7 ∷ 8 ∷ []) $ free1 ! $ move ! (5 ∷ 6 ∷ []) $ free1 ! $ free0 ! $
+        move ! (15 ∷ 16 ∷ []) $ free1 ! $ move ! (13 ∷ 14 ∷ []) $ free1 ! $ move ! (11 ∷ 12 ∷ []) $ free1 ! $ move ! (9 ∷ 10 ∷ []) $ free1 ! $ move ! (7 ∷ 8 ∷ []) $ free1 ! $ move !
+        (5 ∷ 6 ∷ []) $ free1 ! $ free0 ! $
         keep ! (0 ∷ 1 ∷ 2 ∷ []) $ by ! (exits (parts n is .1)))))))))))
 
 module _ {M : Type 1} (𝓤 : URA M) (H : Heap 𝓤) (A : Atoms 𝓤) (W : Given 𝓤 H A) (at-mem : Memory → SProp 𝓤) (run : Routine → Fun 𝓤) where
-  lent-walks : (C : Calls 𝓤 H) (Λ : Loops 𝓤 H) → FmC 𝓤 H (W .laws) C → Triple 𝓤 (C #advance) (Advance 𝓤 H A at-mem run) → Walks 𝓤 H A lent.ended stayed (WpFn 𝓤 H C Λ code.function) (lent.clauses 𝓤 H A at-mem run)
+  lent-walks : (C : Calls 𝓤 H) (Λ : Loops 𝓤 H) → FmC 𝓤 H (W .laws) C → Triple 𝓤 (C #advance) (Advance 𝓤 H A at-mem run) → Walks 𝓤 H A lent.ended stayed (WpFn 𝓤 H C Λ code.function)
+      (lent.clauses 𝓤 H A at-mem run)
   lent-walks C Λ fm known = walked 𝓤 H A lent.ended stayed (lent.clauses 𝓤 H A at-mem run) (WpFn 𝓤 H C Λ code.function)
       (λ κs. (ptr-vals, (float-vals binary32, (float-vals binary32, tt)))) (λ κs. (mut-tells (named 0) (κs .0) T.the-row, (float-tells binary32, (float-tells binary32, tt))))
       (λ κs qs bounds a g are. via 𝓤 _ (fst∗ 𝓤 _ (emp 𝓤)) (walk 𝓤 H A W at-mem run (κs .0) (qs .0) (a .0 .ptr .0) (a .0 .ptr .1) (a .0 .name) (a .0 .now) (a .1) (are .1) C Λ fm known))
@@ -119,7 +130,8 @@ module _ {M : Type 1} (𝓤 : URA M) (H : Heap 𝓤) (A : Atoms 𝓤) (W : Given
   goes = (goes-ref 𝓤 H A W 1 0 tt (plain (λ _. T.the-row)), (goes-none 𝓤 H A W 1 (λ _. f32) yes (λ κs x f. refl), (goes-none 𝓤 H A W 1 (λ _. f32) yes (λ κs x f. refl), tt)))
 
   lent-meets : (𝓣 : Tables 𝓤 H) → Triple 𝓤 (𝓣 .C #advance) (Advance 𝓤 H A at-mem run) → Meets 𝓤 H A lent.signature (WpFn 𝓤 H (𝓣 .C) (𝓣 .Λ) code.function) (lent.spec 𝓤 H A at-mem run)
-  lent-meets 𝓣 known = walk-meets 𝓤 H A lent.ended stayed W goes (lent.clauses 𝓤 H A at-mem run) (WpFn 𝓤 H (𝓣 .C) (𝓣 .Λ) code.function) (WpFn-mono 𝓤 H (W .laws) 𝓣 code.function) (lent-walks (𝓣 .C) (𝓣 .Λ) (fmOf 𝓤 H (W .laws) 𝓣) known)
+  lent-meets 𝓣 known = walk-meets 𝓤 H A lent.ended stayed W goes (lent.clauses 𝓤 H A at-mem run) (WpFn 𝓤 H (𝓣 .C) (𝓣 .Λ) code.function) (WpFn-mono 𝓤 H (W .laws) 𝓣 code.function)
+      (lent-walks (𝓣 .C) (𝓣 .Λ) (fmOf 𝓤 H (W .laws) 𝓣) known)
 
 pub advance-lent-spec : {M : Type 1} → stated.statement M
 unfolding code.routine tablesOf

@@ -7,7 +7,7 @@ use std::io;
 macro_rules! println {
     ($($words:tt)*) => {{
         use std::io::Write as _;
-        $crate::said::said(writeln!(std::io::stdout(), $($words)*))
+        $crate::printing::said(writeln!(std::io::stdout(), $($words)*))
     }};
 }
 

@@ -164,6 +164,60 @@ fn images_of_before_are_refused() {
     assert_eq!((tick(&mut image[..380].to_vec()), tick(&mut image)), (1, 4));
 }
 
+/// A fresh image, filtered at 80 Hz, and a level tick for it.
+fn fresh() -> ([u8; IMAGE], [u8; TICK]) {
+    let (mut image, mut set_up, mut input) = ([0; IMAGE], [0; SETUP], [0; TICK]);
+    [(35, 2.0f32), (48, 80.0), (49, 1000.0)].iter().for_each(|(at, x)| put(&mut set_up, *at, x.to_bits()));
+    [(3, 1.0f32), (10, 0.001)].iter().for_each(|(at, x)| put(&mut input, *at, x.to_bits()));
+    assert_eq!(faces::setup(&mut image, &set_up), 0);
+    (image, input)
+}
+
+/// Worked out of such a coefficient the peak is +infinity on both sides, so a stored NaN is no image's.
+#[test]
+fn a_peak_is_never_a_nan() {
+    let nan = f(0x7fc0_0000);
+    let theirs = rust_traj::Quintic::from_words([nan, 0.0, 0.0, 0.0, 0.0, 0.0, 2.0]).peak_abs_jerk();
+    let ours = traj::Quintic { c5: nan, c4: 0.0, c3: 0.0, c2: 0.0, c1: 0.0, c0: 0.0, t_end: 2.0 };
+    both(traj::quintic_peak_abs_jerk(ours), theirs, 0x7f80_0000);
+    let (mut image, input) = fresh();
+    put(&mut image, 20, 0x7fc0_0000);
+    let with_peak = |bits: u32| {
+        let mut image = image;
+        put(&mut image, 96, bits);
+        faces::tick(&mut image, &input, &mut [0; ANSWER])
+    };
+    assert_eq!((with_peak(0x7fc0_0000), with_peak(0x7f80_0000)), (4, 0));
+}
+
+/// The Rust makes a pass-through of the first pair, and a filter of the second.
+#[test]
+fn a_set_up_that_would_pass_through_is_refused() {
+    let set_up = |fc: u32, fs: u32| {
+        let mut set_up = [0; SETUP];
+        [(48, fc), (49, fs)].iter().for_each(|(at, bits)| put(&mut set_up, *at, *bits));
+        faces::setup(&mut [0; IMAGE], &set_up)
+    };
+    assert_eq!((set_up(0, 0x447a_0000), set_up(0x7e96_7699, 0x7f61_b1e6)), (11, 0));
+    let words = |fc: u32, fs: u32| rust_adrc::Biquad::lowpass(f(fc), f(fs)).words()[..5].to_vec();
+    assert_eq!(words(0, 0x447a_0000), [1.0, 0.0, 0.0, 0.0, 0.0]);
+    assert_ne!(words(0x7e96_7699, 0x7f61_b1e6), [1.0, 0.0, 0.0, 0.0, 0.0]);
+}
+
+/// Nine legs that all stay where they are; the earlier release gave 5 (docs/requests/08-legs.md).
+#[test]
+fn nine_legs_are_flown() {
+    let (image, input) = fresh();
+    let flown = |legs: u32| {
+        let mut route = vec![0; 76 * legs as usize + 8];
+        let end = route.len() / 4;
+        put(&mut route, end - 2, legs);
+        put(&mut route, end - 1, 76 * legs);
+        faces::route_tick(&mut image.clone(), &input, &route, &mut [0; ANSWER])
+    };
+    assert_eq!((flown(8), flown(9), flown(32), flown(33)), (0, 0, 0, 5));
+}
+
 #[test]
 fn the_reduced_error_is_zero_upside_down() {
     let over = Mat3(Vec3(1.0, 0.0, 0.0), Vec3(0.0, -1.0, 0.0), Vec3(0.0, 0.0, -1.0));
@@ -300,6 +354,22 @@ fn the_clock_stands_still_after_hours() {
     }
     assert_eq!((ticks, coarse), (25_150_895, 0.001953125));
     both(traj::refgovernor_advance(ours, 0.0, 1e-3).time, theirs.advance(0.0, 1e-3), 32_768.0f32.to_bits());
+}
+
+/// Direct form I keeps its last two inputs and outputs as they are; form II transposed keeps sums of them.
+#[test]
+fn a_biquad_is_in_direct_form_one() {
+    let (mut ours, mut theirs) = (adrc::biquad_lowpass(80.0, 1000.0), rust_adrc::Biquad::lowpass(80.0, 1000.0));
+    let mut given = Vec::new();
+    for x in [1.0f32, -2.0, 0.5, 3.0] {
+        let filtered = adrc::biquad_filter(ours, x);
+        both(filtered.y, theirs.filter(x), filtered.y.to_bits());
+        ours = filtered.biquad;
+        given.push((x, filtered.y));
+    }
+    let [.., (x2, y2), (x1, y1)] = given[..] else { unreachable!("four were given") };
+    assert_eq!([ours.x1, ours.x2, ours.y1, ours.y2], [x1, x2, y1, y2]);
+    assert_eq!(theirs.words()[5..], [x1, x2, y1, y2]);
 }
 
 #[test]

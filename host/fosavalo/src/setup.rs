@@ -126,8 +126,8 @@ impl fmt::Display for FilterDoubt {
 }
 
 impl GyroFilter {
-    /// The largest angle per sample whose cosine, in the core's steps, is 1.
-    const SHUT: f32 = f32::from_bits(0x3980_bf77);
+    /// The largest angle per sample whose cosine, in the core's steps, is 1: the bits 3980bf77.
+    const SHUT: f32 = 2.455_671_5e-4;
 
     /// Whether a filter that set-up takes does what hardly anyone can want. One that set-up refuses, or one with an ordinary cut-off, has none.
     ///

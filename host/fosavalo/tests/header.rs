@@ -192,7 +192,8 @@ struct Layout(String);
 impl Layout {
     fn number(&self, name: &str) -> usize {
         let is = self.0.lines().find_map(|line| line.strip_prefix(name)?.strip_prefix(" = "));
-        is.and_then(|number| number.parse().ok()).unwrap_or_else(|| panic!("{name} is no number of the layout"))
+        // a note may follow
+        is.and_then(|number| number.split("  -- ").next()?.parse().ok()).unwrap_or_else(|| panic!("{name} is no number of the layout"))
     }
 }
 

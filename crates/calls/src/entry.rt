@@ -102,7 +102,7 @@ pub fn exchange(image: &mut [u8], segment: &[u8]) -> Outcome
 }
 
 // An image with no NaN in it is read and written with fewer tests: `plain` says so, from its scan to what is left. Row 4 is judged after the arithmetic,
-// which needs nothing of it and mostly waits for its own numbers: that saves 13 ns (docs/SPEED.md). Nothing is written before.
+// which needs nothing of it and mostly waits for its own numbers: that saves time (docs/SPEED.md). Nothing is written before.
 pub fn tick(image: &mut [u8], input: &[u8], answer: &mut [u8]) -> Outcome
     ensures { λ r. ⌜ left r (lent (now (image .exit)) (now (answer .exit))) ≡ tickCall (now (image .entry)) (now (input .entry)) (now (answer .entry)) ⌝ }
 {

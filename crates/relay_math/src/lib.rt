@@ -27,7 +27,7 @@ pub struct BodyRate(pub Vec3);
 pub struct Torque(pub Vec3);
 
 // The size of x: its sign dropped. Of a zero comes +0.0, for 0.0 - 0.0 is that. One test and no more: the compiler makes one instruction of it, where a
-// second test for zero made two branches and cost a tick 9 ns (docs/SPEED.md).
+// second test for zero made two branches, which a tick felt (docs/SPEED.md).
 pub fn fabsf(x: f32) -> f32
     ensures { λ r. ⌜ r ≡ fabsf x ⌝ }
 {

@@ -64,11 +64,13 @@ module _ (profile yaw : ℕ) where
   shield-is = refl
 
   no-motion : let w = cleaned (wantedAt source s i) in (w .acc ≡ zeros) × (w .jerk ≡ zeros)
-  unfolding setUp setupAt inputAt segmentOf legAt vec float word segment quintic mend-leg ofMended referenceAt eval3 eval sampleAt timeOn prepare advance gate gateFactor clampTo isFinite lt le eq ofBits add sub mul div neg
+  unfolding setUp setupAt inputAt segmentOf legAt vec float word segment quintic mend-leg ofMended
+      referenceAt eval3 eval sampleAt timeOn prepare advance gate gateFactor clampTo isFinite lt le eq ofBits add sub mul div neg
   no-motion = (refl, refl)
 
   no-rate : filtered source s i ≡ record { 0 = zeros }
-  unfolding setUp setupAt inputAt vec float word prepare gyroNew lowpass lowpassAt gyroFilter biquadFilter sinf cosf sincos cutSquare sinPoly cosPoly toFloat fixed reduceOf turned large isFinite lt le ofBits toBits round add sub mul div neg
+  unfolding setUp setupAt inputAt vec float word prepare gyroNew lowpass lowpassAt gyroFilter biquadFilter
+      sinf cosf sincos cutSquare sinPoly cosPoly toFloat fixed reduceOf turned large isFinite lt le ofBits toBits round add sub mul div neg
   no-rate = refl
 
   level-body : quatToRotmat (i .quat) ≡ identity3

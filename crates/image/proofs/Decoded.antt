@@ -98,7 +98,8 @@ pub segment-written : (s : State) → FitsSegment (s .fixed .segment) → segmen
 unfolding segmentAt
 segment-written s f =
     let at = quintic-back (image-is s) in
-    simp (at SEGMENT (s .fixed .segment .0) refl (f .0), at (SEGMENT + QUINTIC-WORDS) (s .fixed .segment .1) refl (f .1), at (SEGMENT + QUINTIC-WORDS + QUINTIC-WORDS) (s .fixed .segment .2) refl (f .2))
+    let g = s .fixed .segment in
+    simp (at SEGMENT (g .0) refl (f .0), at (SEGMENT + QUINTIC-WORDS) (g .1) refl (f .1), at (SEGMENT + QUINTIC-WORDS + QUINTIC-WORDS) (g .2) refl (f .2))
 
 pub rate-written : (s : State) → FitsRate (s .moving .rate) → rateAt (imageOf s) RATE ≡ s .moving .rate
 unfolding rateAt

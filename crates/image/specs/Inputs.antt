@@ -5,7 +5,8 @@ use Rattle.words.specs.Words.{float, vec, floatsOfVec, bits, flag, wordsOf, byt
 use Rattle.joint_tick.specs.declared.state.SetUp.{SetUp}
 use Rattle.joint_tick.specs.declared.state.TickInput.{TickInput}
 use Rattle.joint_tick.specs.declared.state.Answer.{Answer}
-use Rattle.image.specs.Layout.{SETUP-GAINS, SETUP-SET, SETUP-ENTER, SETUP-EXIT, SETUP-BAND, SETUP-LEG, SETUP-ADRC, SETUP-FC, SETUP-FS, SETUP-PROFILE, ADRC-WORDS, GYRO, QUAT, TRACK-ERR, YAW, YAW-RATE, DT, AGILE, FRACTION}
+use Rattle.image.specs.Layout.{SETUP-GAINS, SETUP-SET, SETUP-ENTER, SETUP-EXIT, SETUP-BAND, SETUP-LEG, SETUP-ADRC, SETUP-FC, SETUP-FS, SETUP-PROFILE, ADRC-WORDS}
+use Rattle.image.specs.Layout.{GYRO, QUAT, TRACK-ERR, YAW, YAW-RATE, DT, AGILE, FRACTION}
 use Rattle.image.specs.Parts.{gainsAt, setAt, legAt, adrcGainsAt, quatAt, profileAt}
 
 unfoldable pub setupAt : List ℕ → SetUp

@@ -38,7 +38,8 @@ pub guided-once : (gains : GeoGains) (set : RecoverableSet) (w : BodyRate) (want
 unfolding guideWhole
 guided-once gains set w wanted i =
     let acc = cleaned wanted .acc in
-    rw (shared-attitude acc (i .yaw), shared-feedforward acc (cleaned wanted .jerk) (i .yaw) (i .«yaw_rate»), one-attitude gains (i .quat) (wanted .acc) (i .yaw), one-margin set (quatToRotmat (i .quat)) (thrustAttitude acc (i .yaw)))
+    rw (shared-attitude acc (i .yaw), shared-feedforward acc (cleaned wanted .jerk) (i .yaw) (i .«yaw_rate»))
+    (rw (one-attitude gains (i .quat) (wanted .acc) (i .yaw), one-margin set (quatToRotmat (i .quat)) (thrustAttitude acc (i .yaw))))
 
 -- with a rotor lost: the same of a thrust axis that is refused
 pub one-margin-to-axis : (set : RecoverableSet) (r : Mat3) (axis : Direction) (wSq : Float) → margin set (psiToAxis r axis) wSq ≡ marginToAxis set r axis wSq

@@ -103,4 +103,6 @@ module _ (source : Float → Reference) (s : State) (i : TickInput) (p : s .fixe
       let m = matmul3 (transpose3 (quatToRotmat (i .quat))) rd in
       let l = s .moving .lpf in
       margin-is
-      ∙ rw (d, a, less-zero _ (output-fits (l .roll) (i .gyro .0 .0)) (dot-fits (m .0) (f .0)) (dot-zero (m .0) (f .0) (n .0) z), less-zero _ (output-fits (l .pitch) (i .gyro .0 .1)) (dot-fits (m .1) (f .0)) (dot-zero (m .1) (f .0) (n .1) z), less-zero _ (output-fits (l .yaw) (i .gyro .0 .2)) (dot-fits (m .2) (f .0)) (dot-zero (m .2) (f .0) (n .2) z))
+      ∙ rw (d, a, less-zero _ (output-fits (l .roll) (i .gyro .0 .0)) (dot-fits (m .0) (f .0)) (dot-zero (m .0) (f .0) (n .0) z))
+      (rw (less-zero _ (output-fits (l .pitch) (i .gyro .0 .1)) (dot-fits (m .1) (f .0)) (dot-zero (m .1) (f .0) (n .1) z))
+      (rw (less-zero _ (output-fits (l .yaw) (i .gyro .0 .2)) (dot-fits (m .2) (f .0)) (dot-zero (m .2) (f .0) (n .2) z))))

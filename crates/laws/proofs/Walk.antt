@@ -13,9 +13,11 @@ pub use prog.Wp.{Heap, Calls, Loops, WpFn, Tables}
 pub use sound.WpLaws.{FmC, fmOf, WpFn-mono}
 pub use denote.Steps.{peeks, heard, nothing, only, facts, owned, said}
 pub use denote.Triple.Call.{calls-at}
-pub use types.Kit.{Given, ‵, raw, _⊛_, ⋆, some, later, _$_, _∵_, !, qed, by, move, use1, split, join, pick, fjoin, suffices, frame, await, done, rewrite, fsplit, use2, keep, drop, use0, fsplit3, fjoin3, feqI}
+pub use types.Kit.{Given, ‵, raw, _⊛_, ⋆, some, later, _$_, _∵_, !, qed, by, move}
+pub use types.Kit.{use1, split, join, pick, fjoin, suffices, frame, await, done, rewrite, fsplit, use2, keep, drop, use0, fsplit3, fjoin3, feqI}
 pub use types.Part.{whole, sub, look-in, agg}
-pub use types.Run.{look, init, forget, stop, fld, from, load, of-opd, and-then, no-more, assigns, land, returns, enter, alloc1, alloc0, params1, pass1, pass0, free1, free0, look-raw, store-raw, hop, addr}
+pub use types.Run.{look, init, forget, stop, fld, from, load, of-opd, and-then, no-more, assigns, land, returns, enter}
+pub use types.Run.{alloc1, alloc0, params1, pass1, pass0, free1, free0, look-raw, store-raw, hop, addr}
 pub use types.SemTy.{Body}
 pub use denote.Builtin.{bool, usize, u8, f32}
 pub use denote.Exit.{yes}

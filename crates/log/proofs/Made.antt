@@ -32,7 +32,8 @@ module _ (body : List ℕ) (n : ℕ) (few : n ≤ MOST-RECORDS) where
   is-log-made h =
       let l = length (body ++ trailer n) in
       let e : l ≡ RECORD-BYTES * n + LOG-TRAILER-BYTES = omega (arith, length-append body (trailer n)) in
-      rw (count-made, back-made, size-made, le-leb LOG-TRAILER-BYTES l (omega arith), le-leb n MOST-RECORDS few, eq-eqb (RECORD-BYTES * n) (RECORD-BYTES * n) refl, eq-eqb l (RECORD-BYTES * n + LOG-TRAILER-BYTES) e)
+      rw (count-made, back-made, size-made, le-leb LOG-TRAILER-BYTES l (omega arith), le-leb n MOST-RECORDS few)
+      (rw (eq-eqb (RECORD-BYTES * n) (RECORD-BYTES * n) refl, eq-eqb l (RECORD-BYTES * n + LOG-TRAILER-BYTES) e))
 
 -- ---- records by their place
 

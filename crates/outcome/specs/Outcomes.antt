@@ -4,7 +4,8 @@ use mathlib.Core.Bool.{Bool, not, cond}
 use mathlib.Core.List.{List, [], _∷_}
 use lib.Dec.{eqb}
 use Rattle.outcome.specs.declared.Outcome.{Outcome}
-use Rattle.outcome.specs.declared.Outcome.the-variants.{Done, ImageLength, InputLength, AnswerLength, BrokenImage, LegCount, RouteLength, LegsApart, BrokenLog, NoRoom, BadProfile, PassThrough, BadPattern, NoRecord, RecordLength}
+use Rattle.outcome.specs.declared.Outcome.the-variants.{Done, ImageLength, InputLength, AnswerLength, BrokenImage}
+use Rattle.outcome.specs.declared.Outcome.the-variants.{LegCount, RouteLength, LegsApart, BrokenLog, NoRoom, BadProfile, PassThrough, BadPattern, NoRecord, RecordLength}
 
 abbrev pub number : Outcome → ℕ
 number Done = 0

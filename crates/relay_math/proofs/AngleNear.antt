@@ -78,7 +78,9 @@ module _ (S C : Float) (R : ℕ) (sin : Near 23 S (sinAt false R)) (cos : Near 2
 
   pub quarters : (s b : Bool) (n : ℕ) → n < 4 → Near 23 (turned s n b S C) (sineBy (cond s (3 * n % 4) n) (unlike s b) R) × Near 23 (turned false ((n + 1) % 4) b S C)
       (cosineBy (cond s (3 * n % 4) n) (unlike s b) R)
-  quarters s b n l = let e = exact R n l s b in (subst (Near 23 (turned s n b S C)) (e .0) (turned-near s n b), subst (Near 23 (turned false ((n + 1) % 4) b S C)) (e .1) (turned-near false ((n + 1) % 4) b))
+  quarters s b n l =
+      let e = exact R n l s b in
+      (subst (Near 23 (turned s n b S C)) (e .0) (turned-near s n b), subst (Near 23 (turned false ((n + 1) % 4) b S C)) (e .1) (turned-near false ((n + 1) % 4) b))
 
 -- ---- rounding adds at most 2 ^ -24
 rounded-near : (v : ℕ) (x : Nest) → v ≤ One → Close One Err v x → Near 23 (toFloat v) (valueOf x)

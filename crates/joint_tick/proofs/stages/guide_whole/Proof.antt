@@ -9,8 +9,9 @@ returns c =
     let w = p .before .before in
     let d = w .before .before in
     let t = d .before .before in
-    simp (c .sanitise3 .ensures, m .margin .ensures, m .before .rate-sq .ensures, e .rate-error .ensures, p .psi-of .ensures, p .before .plus .ensures, w .rate-toward .ensures, w .before .feedforward-on .ensures, d .attitude-on .ensures, d .before .quat-to-rotmat .ensures, t .thrust-of .ensures, t .before .clean .ensures)
-    (guided-once _ _ _ _ _)
+    simp (c .sanitise3 .ensures, m .margin .ensures, m .before .rate-sq .ensures, e .rate-error .ensures, p .psi-of .ensures, p .before .plus .ensures)
+    (simp (w .rate-toward .ensures, w .before .feedforward-on .ensures, d .attitude-on .ensures, d .before .quat-to-rotmat .ensures, t .thrust-of .ensures, t .before .clean .ensures)
+    (guided-once _ _ _ _ _))
 
 pub guide-whole-spec : {M : Type 1} → statement M
 guide-whole-spec =

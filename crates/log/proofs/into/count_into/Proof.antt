@@ -11,7 +11,9 @@ count-into-spec =
     (λ c κs. search needs)
     (λ c. let i = c .before in simp (← i .is-log .ensures, not-true (i .is-log .result) (c .if2 .taken), eq-eqb _ _ (i .before .if1 .left)))
     (λ c κs. let i = c .before .before in is-a-log _ (sym (i .is-log .ensures) ∙ not-false (i .is-log .result) (c .before .if2 .left)) .trailer)
-    (λ c. let i = c .before .before .before in record { fits = omega (arith, is-a-log _ (sym (i .is-log .ensures) ∙ not-false (i .is-log .result) (c .before .before .if2 .left)) .few, c .record-count .ensures) })
+    (λ c.
+    let i = c .before .before .before in
+    record { fits = omega (arith, is-a-log _ (sym (i .is-log .ensures) ∙ not-false (i .is-log .result) (c .before .before .if2 .left)) .few, c .record-count .ensures) })
     (λ c κs. search needs) (λ c. search needs)
     (λ c. let n = c .before .before .before in let i = n .before .before .before in simp (
       whole (c .before .before .put-word .ensures) (i .before .if1 .left),

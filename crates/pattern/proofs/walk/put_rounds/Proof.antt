@@ -39,7 +39,8 @@ loop-again c =
     let inv = turn .before .loop .inv in
     let few = turn .before .before in
     let pre = few .before .before .before .pre in
-    (omega arith, omega arith, simp length-set (inv .2), rw (inv .3) (rounds-on _ _ _ _ (pre .0) (pre .3) (pre .1) (few .before .at-most-33 .ensures) (few .if1 .left) _ (inv .0) (turn .loop-test .taken)))
+    let on = rounds-on _ _ _ _ (pre .0) (pre .3) (pre .1) (few .before .at-most-33 .ensures) (few .if1 .left) _ (inv .0) (turn .loop-test .taken) in
+    (omega arith, omega arith, simp length-set (inv .2), rw (inv .3) on)
 
 returns-2 : Need-returns-2 Inv-loop μ-loop
 returns-2 c =

@@ -28,6 +28,7 @@ either-poly-spec =
     let d = c .before in
     let b = d .before .before .before .before in
     let a = b .before .args in (
-      c .poly-of .ensures .0 ∙ simp (d .pick-of5 .ensures, d .before .pick-of4 .ensures, d .before .before .pick-of3 .ensures, d .before .before .before .pick-of2 .ensures, b .pick-of .ensures) (one (a .sine) (a .r) (a .z)),
+      c .poly-of .ensures .0 ∙ simp (d .pick-of5 .ensures, d .before .pick-of4 .ensures, d .before .before .pick-of3 .ensures)
+          (simp (d .before .before .before .pick-of2 .ensures, b .pick-of .ensures) (one (a .sine) (a .r) (a .z))),
       c .poly-of .ensures .1,
     )))

@@ -9,4 +9,5 @@ large-of-spec =
     close (spec (λ c κs. search needs) (λ c κs. search needs) (λ c κs. search needs) (λ c κs. search needs) (λ c κs. search needs) (λ c. search needs) (λ c κs. search needs)
     (λ c.
     let d = c .before .before .before in
-    simp (c .turned-of2 .ensures, c .before .before .turned-of .ensures, d .either-poly2 .ensures .0, d .before .either-poly .ensures .0, d .before .before .reduce .ensures .0, d .before .before .before .fixed-of .ensures .0)))
+    simp (c .turned-of2 .ensures, c .before .before .turned-of .ensures)
+    (simp (d .either-poly2 .ensures .0, d .before .either-poly .ensures .0, d .before .before .reduce .ensures .0, d .before .before .before .fixed-of .ensures .0))))

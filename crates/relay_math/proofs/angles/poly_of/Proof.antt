@@ -5,4 +5,6 @@ use Rattle.relay_math.proofs.angles.poly_of.{Statement.statement, Tie.{
 pub poly-of-spec : {M : Type 1} → statement M
 poly-of-spec =
     close (spec (λ c κs. search needs) (λ c. search needs) (λ c κs. search needs) (λ c. search needs) (λ c κs. search needs) (λ c. search needs) (λ c κs. search needs) (λ c κs. search needs)
-    (λ c. (simp (c .less-part .ensures .0, c .before .part-of4 .ensures .0, c .before .before .part-of3 .ensures .0, c .before .before .before .part-of2 .ensures .0, c .before .before .before .before .part-of .ensures .0), omega arith)))
+    (λ c.
+    let k = c .before .before in
+    (simp (c .less-part .ensures .0, c .before .part-of4 .ensures .0, k .part-of3 .ensures .0, k .before .part-of2 .ensures .0, k .before .before .part-of .ensures .0), omega arith)))

@@ -10,4 +10,6 @@ pub reduce-spec : {M : Type 1} → statement M
 unfolding reduceOf cutSquare
 reduce-spec =
     close (spec (λ c. search needs) (λ c. search needs) (λ c κs. search needs) (λ c κs. omega (arith, c .gap-of .ensures)) (λ c. search needs)
-    (λ c. (simp (c .part-of .ensures .0, c .before .gap-of .ensures, kept (c .before .before .args .x) (c .before .before .pre)), (omega arith, omega (arith, c .before .gap-of .ensures), c .part-of .ensures .1 .0))))
+    (λ c.
+    let k = c .before .before in
+    (simp (c .part-of .ensures .0, c .before .gap-of .ensures, kept (k .args .x) (k .pre)), (omega arith, omega (arith, c .before .gap-of .ensures), c .part-of .ensures .1 .0))))

@@ -6,4 +6,7 @@ pub step-spec : {M : Type 1} → statement M
 unfolding filterStep
 step-spec =
     close (spec (λ c κs. search needs) (λ c κs. search needs) (λ c κs. search needs) (λ c κs. search needs) (λ c κs. search needs) (λ c κs. search needs)
-    (λ c. simp (c .clamp-sym2 .ensures, c .before .clamp-sym .ensures, c .before .before .finite-or3 .ensures, c .before .before .before .finite-or2 .ensures, c .before .before .before .before .finite-or .ensures, c .before .before .before .before .before .mend-dt .ensures)))
+    (λ c.
+    let k = c .before .before in
+    simp (c .clamp-sym2 .ensures, c .before .clamp-sym .ensures)
+    (simp (k .finite-or3 .ensures, k .before .finite-or2 .ensures, k .before .before .finite-or .ensures, k .before .before .before .mend-dt .ensures))))

@@ -7,4 +7,6 @@ unfolding margin
 margin-spec = close (spec (λ c κs. search needs) (λ c κs. search needs)
     (λ c. simp (← c .before .before .unknown .ensures, c .before .if1 .taken, c .minus-infinity .ensures))
     (λ c κs. search needs) (λ c κs. search needs) (λ c κs. search needs)
-    (λ c. simp (c .finite-or .ensures, c .before .minus-infinity2 .ensures, c .before .before .smaller .ensures, ← c .before .before .before .before .before .before .before .unknown .ensures, c .before .before .before .before .before .before .if1 .left)))
+    (λ c.
+    let k = c .before .before .before .before .before .before in
+    simp (c .finite-or .ensures, c .before .minus-infinity2 .ensures, c .before .before .smaller .ensures, ← k .before .unknown .ensures, k .if1 .left)))

@@ -139,7 +139,9 @@ module _ {M : Type 1} (𝓤 : URA M) (H : Heap 𝓤) (A : Atoms 𝓤) (W : Given
       (λ κs qs bounds a g are. via 𝓤 _ (fst∗ 𝓤 _ (emp 𝓤)) (walk 𝓤 H A W at-mem run (κs .0) (qs .0) (a .0 .ptr .0) (a .0 .ptr .1) (a .0 .name) (a .0 .now) (a .1) (are .1) C Λ fm known))
 
   goes : AllGo 𝓤 H A W 1 (lent.signature .params) (lent.ended .kept) stayed
-  goes = (goes-ref 𝓤 H A W 1 0 tt (plain (λ _. T.the-row)), (goes-none 𝓤 H A W 1 (λ _. f32) yes (λ κs x f. refl), (goes-none 𝓤 H A W 1 (λ _. B.the-row) yes (λ κs x f. refl), (goes-none 𝓤 H A W 1 (λ _. B.the-row) yes (λ κs x f. refl), tt))))
+  goes =
+      let rates = goes-none 𝓤 H A W 1 (λ _. B.the-row) yes (λ κs x f. refl) in
+      (goes-ref 𝓤 H A W 1 0 tt (plain (λ _. T.the-row)), (goes-none 𝓤 H A W 1 (λ _. f32) yes (λ κs x f. refl), (rates, (rates, tt))))
 
   lent-meets : (𝓣 : Tables 𝓤 H) → Triple 𝓤 (𝓣 .C #step) (Step 𝓤 H A at-mem run) → Meets 𝓤 H A lent.signature (WpFn 𝓤 H (𝓣 .C) (𝓣 .Λ) code.function) (lent.spec 𝓤 H A at-mem run)
   lent-meets 𝓣 known = walk-meets 𝓤 H A lent.ended stayed W goes (lent.clauses 𝓤 H A at-mem run) (WpFn 𝓤 H (𝓣 .C) (𝓣 .Λ) code.function) (WpFn-mono 𝓤 H (W .laws) 𝓣 code.function)

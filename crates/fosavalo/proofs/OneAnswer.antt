@@ -11,6 +11,7 @@ use Rattle.fosavalo.proofs.fosavalo_exchange
 use Rattle.fosavalo.proofs.fosavalo_tick
 use Rattle.fosavalo.proofs.fosavalo_tick_refusal
 use Rattle.fosavalo.proofs.fosavalo_route_tick
+use Rattle.fosavalo.proofs.fosavalo_route_sample
 use Rattle.fosavalo.proofs.fosavalo_log_append
 use Rattle.fosavalo.proofs.fosavalo_log_count
 use Rattle.fosavalo.proofs.fosavalo_log_record
@@ -49,6 +50,11 @@ pub fosavalo-route-tick-once : OneAnswer fosavalo_route_tick.ended fosavalo_rout
 fosavalo-route-tick-once κs a x y v w p q =
     let e = no-second p q in
     (ap (λ (c : Left ℕ Lent). c .outcome) e, both (ap (λ (c : Left ℕ Lent). c .later .image) e) (both refl (both refl (both (ap (λ (c : Left ℕ Lent). c .later .answer) e) refl))))
+
+pub fosavalo-route-sample-once : OneAnswer fosavalo_route_sample.ended fosavalo_route_sample.Reads.Post
+fosavalo-route-sample-once κs a x y v w p q =
+    let e = no-second p q in
+    (ap (λ (f : Left ℕ (List ℕ)). f .outcome) e, both refl (both refl (both (ap (λ (f : Left ℕ (List ℕ)). f .later) e) refl)))
 
 pub fosavalo-log-append-once : OneAnswer fosavalo_log_append.ended fosavalo_log_append.Reads.Post
 fosavalo-log-append-once κs a x y v w p q =

@@ -5,7 +5,7 @@ ghost use Rattle.relay_math.specs.Steps.{sinf, cosf};
 ghost use Rattle.outcome.specs.Outcomes.{left, lent, number, numbered};
 ghost use Rattle.lent_tick.specs.Tick.{tickRefusal};
 ghost use Rattle.calls.specs.Entry.{setUpCall, exchangeCall, tickCall};
-ghost use Rattle.route.specs.Entry.{routeCall};
+ghost use Rattle.route.specs.Entry.{routeCall, sampleCall};
 ghost use Rattle.log.specs.Entry.{appendCall, countCall, recordCall};
 ghost use Rattle.slow.specs.Entry.{flagsCall};
 ghost use Rattle.audit.specs.Entry.{checkCall};
@@ -14,9 +14,9 @@ ghost use Rattle.pattern.specs.Entry.{buffers, expandCall};
 // The version that this was built as: 65536 times its first number, 256 times its second, and its third.
 #[no_mangle]
 pub extern "C" fn fosavalo_version() -> u32
-    ensures { λ r. ⌜ r ≡ 0x0e00 ⌝ }
+    ensures { λ r. ⌜ r ≡ 0x0f00 ⌝ }
 {
-    0x0e00
+    0x0f00
 }
 
 // The sine of x, as `relay_math::sinf` has it.
@@ -80,6 +80,14 @@ pub extern "C" fn fosavalo_route_tick(
     ensures { λ r. ⌜ left r (lent (now (image .exit)) (now (answer .exit))) ≡ numbered (routeCall (now (image .entry)) (now (input .entry)) (now (route .entry)) (now (answer .entry))) ⌝ }
 {
     outcome::number(route::route_tick(image, input, route, answer))
+}
+
+// Where the craft should be on a route at a time: the number of the outcome, and the sample's buffer as `route::route_sample` leaves it.
+#[no_mangle]
+pub extern "C" fn fosavalo_route_sample(route: &[u8], time: f32, sample: &mut [u8]) -> u32
+    ensures { λ r. ⌜ left r (now (sample .exit)) ≡ numbered (sampleCall (now (route .entry)) time (now (sample .entry))) ⌝ }
+{
+    outcome::number(route::route_sample(route, time, sample))
 }
 
 // One record more in a log: the number of the outcome, and the buffer as `log::append` leaves it. A length of 64 bits is a slice's own.

@@ -31,3 +31,6 @@ reference-at-once κs a x y v w p q = (no-second p q, refl)
 
 pub guide-pick-follow-once : OneAnswer stages.guide_pick_follow.ended stages.guide_pick_follow.Reads.Post
 guide-pick-follow-once κs a x y v w p q = (no-second p q, refl)
+
+pub sample-at-once : OneAnswer stages.sample_at.ended stages.sample_at.Reads.Post
+sample-at-once κs a x y v w p q = (no-second p q, refl)

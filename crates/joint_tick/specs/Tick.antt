@@ -27,6 +27,7 @@ use Rattle.relay_geo.specs.Controller.{psi, attitudeErrorReduced, desiredRate}
 use Rattle.relay_geo.specs.Set.{minusInfinity, margin}
 use Rattle.relay_geo.specs.Shield.{step}
 use Rattle.relay_traj.specs.declared.segment.Segment3.{Segment3}
+use Rattle.relay_traj.specs.declared.segment.Sample3.{Sample3}
 use Rattle.relay_traj.specs.Governor.{advance}
 use Rattle.relay_traj.specs.Segment.{duration, eval3}
 use Rattle.joint_tick.specs.declared.profile.Profile.{Profile}
@@ -77,10 +78,15 @@ prepare profile m i =
 abbrev pub sampleTime : Segment3 → Float → Float
 sampleTime g time = cond (eq time ∞) (duration g) time
 
+abbrev pub sampleAt3 : Segment3 → Float → Sample3
+sampleAt3 g time = eval3 g (sampleTime g time)
+
+-- what guides a tick of it
+abbrev pub referenceIn : Sample3 → Reference
+referenceIn s = record { acc = s .acc; jerk = s .jerk }
+
 unfoldable pub referenceAt : Segment3 → Float → Reference
-referenceAt g time =
-    let s = eval3 g (sampleTime g time) in
-    record { acc = s .acc; jerk = s .jerk }
+referenceAt g time = referenceIn (sampleAt3 g time)
 
 -- ---- guide by the old rules: "make non-finite acceleration and jerk zero; build R and R_d" ..
 

@@ -17,6 +17,7 @@ pub use stages::Ticked;
 pub use stages::guide_pick_follow;
 pub use stages::prepare;
 pub use stages::reference_at;
+pub use stages::sample_at;
 pub use state::Answer;
 pub use state::Fixed;
 pub use state::Leg;

@@ -29,10 +29,11 @@ use relay_geo::thrust_of;
 use relay_math::BodyRate;
 use relay_math::Torque;
 use relay_math::Vec3;
+use relay_traj::Sample3;
 use relay_traj::Segment3;
 ghost use mathlib.Core.Path.{_≡_};
 ghost use mathlib.Core.Bool.{cond};
-ghost use Rattle.joint_tick.specs.Tick.{fractionThird, fractions, prepare, sampleTime, referenceAt, cleaned, withFeedforward, commanded, rateError, rateSq, psiOf, guideWhole, rateTowardAxis, psiToAxis, tiltRateSq, guideLostRotor, guide, guidePickFollow};
+ghost use Rattle.joint_tick.specs.Tick.{fractionThird, fractions, prepare, sampleTime, sampleAt3, referenceAt, cleaned, withFeedforward, commanded, rateError, rateSq, psiOf, guideWhole, rateTowardAxis, psiToAxis, tiltRateSq, guideLostRotor, guide, guidePickFollow};
 ghost use Rattle.joint_tick.specs.Inner.{observeThird, observe, actThird, followOn, pickOn};
 
 // What moves, with its fractions, filters and clock moved on, the filtered rate and the governor's time.
@@ -129,6 +130,26 @@ fn sample_time(segment: Segment3, time: f32) -> f32
         segment.duration()
     } else {
         time
+    }
+}
+
+// Position and velocity too, for whoever asks where the craft should be. Axis by axis: with a second caller the compiler does not inline the segment's own `eval` into
+// `reference_at`, and every tick works out a position and a velocity that nobody reads (114 instructions on x86-64).
+pub fn sample_at(segment: Segment3, time: f32) -> Sample3
+    ensures { λ r. ⌜ r ≡ sampleAt3 segment time ⌝ }
+{
+    let t = sample_time(segment, time);
+    let q0 = segment.0;
+    let q1 = segment.1;
+    let q2 = segment.2;
+    let x = q0.eval(t);
+    let y = q1.eval(t);
+    let z = q2.eval(t);
+    Sample3 {
+        pos: Vec3(x.p, y.p, z.p),
+        vel: Vec3(x.v, y.v, z.v),
+        acc: Vec3(x.a, y.a, z.a),
+        jerk: Vec3(x.j, y.j, z.j),
     }
 }
 

@@ -3,7 +3,7 @@ use Rattle.laws.proofs.Prelude.{_≡_, refl, sym, ap, _∙_, Bool, true, false,
 use Rattle.outcome.{specs.{declared.Outcome.{Outcome, the-variants.{Done, BrokenImage}}, Outcomes.{isDone, left, lent}}, proofs.Tables.{done-none, in-turn, same, refused-keeps}}
 use Rattle.image.specs.Layout.{IMAGE-BYTES, LEG-BYTES, INPUT-BYTES, ANSWER-BYTES}
 use Rattle.lent_tick.specs.{Unbroken.unbroken, Tick.{tickTable, tickRefusal, tickFrom}}
-use Rattle.route.specs.{Form.{ROUTE-TRAILER-BYTES, legCount, formTable, formRefusal}, Entry.{routeRefusal, routeCall}}
+use Rattle.route.specs.{Form.{MOST-LEGS, ROUTE-TRAILER-BYTES, legCount, formTable, formRefusal}, Entry.{SAMPLE-BYTES, routeRefusal, routeCall, sampleRefusal}}
 
 -- a tick's rows, then the route's own
 pub in-their-turn : (image : List ℕ) (inputLen answerLen : ℕ) (route : List ℕ)
@@ -29,6 +29,7 @@ broken image input route answer l i a e n = simp (← e, n, eq-eqb (length image
 pub record Formed (route : List ℕ) : Type 0 where
   pub trailer : ROUTE-TRAILER-BYTES ≤ length route
   pub some : 0 < legCount route
+  pub few : legCount route ≤ MOST-LEGS
   pub whole : LEG-BYTES * legCount route ≤ length route
 
 -- a function was asked for the form, and said f (t is whether f is done)
@@ -41,6 +42,7 @@ module _ (route : List ℕ) {f : Outcome} {t : Bool} (e : f ≡ formRefusal rout
       record {
         trailer = ltb-false (length route) ROUTE-TRAILER-BYTES (r 0);
         some = pos count (eqb-false count 0 (r 1));
+        few = ltb-false MOST-LEGS count (r 2);
         whole = omega (arith, same (length route) (LEG-BYTES * count + ROUTE-TRAILER-BYTES) (r 4));
       }
     where
@@ -55,3 +57,8 @@ module _ (route : List ℕ) {f : Outcome} {t : Bool} (e : f ≡ formRefusal rout
   formless image input answer h n =
       let p = form-decides image (length input) (length answer) h in
       rw p (sym (refused-changes-nothing image input route answer (ap isDone (sym p) ∙ sym d ∙ not-true t n)))
+
+  -- so where a sample's length is right
+  pub form-decides-sample : (n : ℕ) → n ≡ SAMPLE-BYTES → f ≡ sampleRefusal route n
+  unfolding sampleRefusal formRefusal
+  form-decides-sample n h = e ∙ rw (eq-eqb n SAMPLE-BYTES h)

@@ -8,7 +8,7 @@ use Rattle.relay_math.proofs.Sums.{round-own}
 use Rattle.relay_traj.{specs.{Governor.Running, Quintic.{Lasts, timeOn}}, proofs.{GovernorClock.never-nan, Leg.mended-lasts}}
 use Rattle.joint_tick.{specs.{SetUp.segmentOf, Tick.sampleTime}, proofs.FractionAndSample.finite-time-as-it-is}
 use Rattle.image.specs.{Layout.LEG-WORDS, Parts.legAt}
-use Rattle.route.specs.{Form.legOf, Legs.{durationOf, flownFrom, legFlown, endOf, FirstAbove, PastAll}}
+use Rattle.route.specs.{Form.legOf, Legs.{durationOf, flownFrom, legFlown, sampleOf, sampleOn, endOf, FirstAbove, PastAll}}
 use Rattle.route.proofs.LocalTime.{lasts-plus, sum-unsigned, local-time}
 
 -- ---- durations and ends
@@ -92,6 +92,11 @@ module _ (b : List ℕ) where
         go p true e = inl (n, record { within = omega arith; above = e; earlier = p .none })
         go p false e =
             inr record { none = λ j h. elim (eq-or-lt-of-le (le-of-suc-le-suc h)) [ inl q ↦ subst (λ (x : ℕ). lt time (endOf b (suc x)) ≡ false) (sym q) e | inr l ↦ p .none j l ] }
+
+    -- the leg flown is one of them
+    pub one-of-them : (n : ℕ) → 0 < n → sampleOn b n time .leg < n
+    unfolding sampleOn sampleOf
+    one-of-them n h = elim (above-or-past n) [ inl f ↦ rw (the-leg-flown n (f .0) (f .1)) (f .1 .within) | inr p ↦ rw (past-all-ends n p) (omega (arith, h)) ]
 
     -- ---- the time on the leg lies within 0 and the leg's duration
 

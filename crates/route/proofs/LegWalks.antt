@@ -1,8 +1,8 @@
 -- One turn of each walk over a route's legs. Assumes nothing.
-use Rattle.laws.proofs.Prelude.{_≡_, Bool, true, false, _&&_, List, ℕ, suc, _+_, _-_, _<_, _≤_, add-one, arith, Float, eq, lt}
+use Rattle.laws.proofs.Prelude.{_≡_, sym, ap, _∙_, Bool, true, false, _&&_, List, ℕ, suc, _+_, _-_, _<_, _≤_, add-one, arith, Float, eq, lt}
 use Rattle.words.specs.Words.{word, float, floatOf}
 use Rattle.relay_math.specs.F32.{_⊕_, _⊖_}
-use Rattle.route.specs.{Form.{legOf, legsMeet, meetFrom}, Legs.{durationOf, flownFrom}}
+use Rattle.route.specs.{Form.{legOf, legsMeet, meetFrom}, Legs.{Flown, durationOf, flownFrom}}
 
 -- ---- three tests one after another
 
@@ -20,6 +20,10 @@ pub met : (a : List ℕ) (j : ℕ) (b : List ℕ) (k : ℕ) {w x : ℕ} {r t : B
     → eq (float a j) (float b k) ≡ t
 unfolding float
 met a j b k p q e f = rw (← p, ← q, ← e) f
+
+-- the leg that was found is the one of which something is taken
+pub of-the-found : {A : Type 0} (g : ℕ → Float → A) {r : A} {f h : Flown} → r ≡ g (f .leg) (f .at) → h ≡ f → r ≡ g (h .leg) (h .at)
+of-the-found g e p = e ∙ ap (λ (f : Flown). g (f .leg) (f .at)) (sym p)
 
 -- ---- what is left
 

@@ -1,6 +1,6 @@
 -- The leg flown (request One of document 02), over any count. Definitions only.
 use mathlib.Core.Path.{_≡_}
-use Prim.Native.Nat.{ℕ, zero, suc, _-_, _<_}
+use Prim.Native.Nat.{ℕ, zero, suc, _-_, _<_, _≤_}
 use mathlib.Core.Bool.{true, false, cond}
 use mathlib.Core.List.{List}
 use lib.Ieee.{Float, lt}
@@ -8,7 +8,9 @@ use Rattle.relay_math.specs.F32.{_⊕_, _⊖_, 0·0}
 use Rattle.relay_traj.specs.Quintic.{mendedDuration}
 use Rattle.joint_tick.specs.declared.stages.Reference.{Reference}
 use Rattle.joint_tick.specs.SetUp.{segmentOf}
-use Rattle.joint_tick.specs.Tick.{referenceAt}
+use Rattle.joint_tick.specs.Tick.{sampleAt3, referenceIn}
+use Rattle.route.specs.declared.legs.Behind.{Behind}
+use Rattle.route.specs.declared.legs.Sampled.{Sampled}
 use Rattle.route.specs.Form.{legOf}
 
 unfoldable pub durationOf : List ℕ → ℕ → Float
@@ -33,12 +35,27 @@ unfolding flownFrom
 legFlown b n time = flownFrom b time n 0 0·0
 
 -- the base's own sample, of a leg in place of the stored segment
+unfoldable pub sampleOf : List ℕ → ℕ → Float → Sampled
+sampleOf b i at = record { leg = i; sample = sampleAt3 (segmentOf (legOf b i)) at }
+
+-- where the craft should be: the leg flown, and its sample at the time on it
+unfoldable pub sampleOn : List ℕ → ℕ → Float → Sampled
+unfolding legFlown sampleOf
+sampleOn b n time = let f = legFlown b n time in sampleOf b (f .leg) (f .at)
+
+-- what guides a tick of each
 unfoldable pub referenceOf : List ℕ → ℕ → Float → Reference
-referenceOf b i at = referenceAt (segmentOf (legOf b i)) at
+unfolding sampleOf
+referenceOf b i at = referenceIn (sampleOf b i at .sample)
 
 unfoldable pub referenceOn : List ℕ → ℕ → Float → Reference
-unfolding legFlown referenceOf
-referenceOn b n time = let f = legFlown b n time in referenceOf b (f .leg) (f .at)
+unfolding sampleOn
+referenceOn b n time = referenceIn (sampleOn b n time .sample)
+
+-- what the walk of both says: the leg that it came to is the leg flown, if it is one of the n; if not, the time is past all ends
+pub record PassedBy (b : List ℕ) (n : ℕ) (time : Float) (p : Behind) : Type 0 where
+  pub on : p .legs < n → legFlown b n time ≡ record { leg = p .legs; at = time ⊖ p .end }
+  pub past : n ≤ p .legs → legFlown b n time ≡ record { leg = n - 1; at = durationOf b (n - 1) }
 
 -- ---- what the theorems in proofs/ speak of
 

@@ -3,9 +3,9 @@ use Rattle.laws.proofs.Prelude.{needs, _≡_, List, ℕ, _+_, Float}
 use native.Mathlib.Nat.{add-right-comm}
 use Rattle.words.specs.Words.{float, vec}
 use Rattle.relay_traj.specs.{declared.quintic.Quintic.Quintic, Quintic.{mendEnds, ofMended, quintic}, Segment.segment}
-use Rattle.joint_tick.specs.SetUp.{segmentOf}
+use Rattle.joint_tick.specs.{SetUp.segmentOf, Tick.referenceAt}
 use Rattle.image.specs.Parts.{legAt}
-use Rattle.route.specs.Legs.{referenceOf}
+use Rattle.route.specs.Legs.{sampleOf, referenceOf}
 use Rattle.route.proofs.legs.reference_of.{Statement.statement, Tie.{Need-returns, close, spec}}
 
 abbrev axis : List ℕ → ℕ → ℕ → Quintic
@@ -21,7 +21,7 @@ unfolding segmentOf segment quintic legAt vec
 axes b k = rw (axis-of b k 1, axis-of b k 2)
 
 returns : Need-returns
-unfolding referenceOf
+unfolding referenceOf sampleOf referenceAt
 returns c =
     let y = c .before .before .before in
     let x = y .before .before in

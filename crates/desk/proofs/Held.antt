@@ -39,7 +39,7 @@ call-moves s desk (Ticks t) p =
     (λ e. rw (ap done (sym p) ∙ e) record { size = p; filter = refl })
   where
     refusal : ℕ → DeskOutcome
-    refusal n = tickRefusalAt n (length (t .sticks)) (t .image) (length (t .input)) (length (t .answer))
+    refusal n = tickRefusalAt (t .course) n (length (t .sticks)) (t .image) (length (t .input)) (length (t .answer))
 
     done : ℕ → Bool
     done n = deskDone (refusal n)

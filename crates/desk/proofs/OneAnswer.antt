@@ -25,3 +25,11 @@ tick-once κs a x y v w p q =
       both (ap (λ (l : Left DeskOutcome LentToDesk). l .later .desk) e) (both refl (both (ap (λ (l : Left DeskOutcome LentToDesk). l .later .image) e)
           (both (ap (λ (l : Left DeskOutcome LentToDesk). l .later .input) e) (both (ap (λ (l : Left DeskOutcome LentToDesk). l .later .answer) e) refl)))),
     )
+
+pub route-tick-once : OneAnswer entry.route_tick.ended entry.route_tick.Reads.Post
+route-tick-once κs a x y v w p q =
+    let e = no-second p q in (
+      ap (λ (l : Left DeskOutcome LentToDesk). l .outcome) e,
+      both (ap (λ (l : Left DeskOutcome LentToDesk). l .later .desk) e) (both refl (both (ap (λ (l : Left DeskOutcome LentToDesk). l .later .image) e)
+          (both (ap (λ (l : Left DeskOutcome LentToDesk). l .later .input) e) (both refl (both (ap (λ (l : Left DeskOutcome LentToDesk). l .later .answer) e) refl))))),
+    )

@@ -8,7 +8,7 @@ use Rattle.relay_adrc.{specs.{declared.filter.CommandFilter.CommandFilter, Filt
 use Rattle.lent_tick.proofs.TickLeaves.{taken-unbroken}
 use Rattle.desk.specs.{declared.entry.DeskOutcome.DeskOutcome, Filters.deskAt, Entry.{deskDone, LentToDesk, moved, tickRefusalAt, deskTickCall}}
 use Rattle.desk.specs.Runs.{Stick, Heading, Turn, place, filterOf, omegaGiven, magLimit, rateLimit, DeskTick, DeskCall, deskAfter, deskStart, eventsAlong}
-use Rattle.desk.proofs.{DeskCalls.done-asked, Held.{stick-runs, start-length, fresh, stepped-by}, HeadingWritten.flown-heading}
+use Rattle.desk.proofs.{DeskTickLeaves.also-a-tick, DeskCalls.done-asked, Held.{stick-runs, start-length, fresh, stepped-by}, HeadingWritten.flown-heading}
 
 module _ (s : Stick) (setup : List ℕ) (calls : List DeskCall) where
   abbrev filter : CommandFilter
@@ -40,16 +40,17 @@ module _ (s : Stick) (setup : List ℕ) (calls : List DeskCall) where
 
 -- What an accepted tick leaves in the input, after any calls: the heading within the first stick's limit of set-up, its rate within the second's.
 pub flown-within : (setup : List ℕ) (calls : List DeskCall) (t : DeskTick)
-    → let call = deskTickCall (deskAfter (deskStart setup) calls) (t .sticks) (t .image) (t .input) (t .answer) in
+    → let call = deskTickCall (t .course) (deskAfter (deskStart setup) calls) (t .sticks) (t .image) (t .input) (t .answer) in
     deskDone (call .outcome) ≡ true
     → (Limit (magLimit Heading setup) → Within (neg (magLimit Heading setup)) (magLimit Heading setup) (float (call .later .input) YAW))
     × (Limit (magLimit Turn setup) → Within (neg (magLimit Turn setup)) (magLimit Turn setup) (float (call .later .input) YAW-RATE))
 unfolding deskTickCall
 flown-within setup calls t =
     by-test (λ (l : Left DeskOutcome LentToDesk). deskDone (l .outcome) ≡ true → Flown (l .later .input))
-    (deskDone (tickRefusalAt (length desk) (length (t .sticks)) (t .image) (length (t .input)) (length (t .answer))))
+    (deskDone (tickRefusalAt (t .course) (length desk) (length (t .sticks)) (t .image) (length (t .input)) (length (t .answer))))
     (λ e d.
-    let i = taken-unbroken (t .image) (length (t .input)) (length (t .answer)) (done-asked desk (t .sticks) (t .image) (t .input) (t .answer) e) .1 in
+    let a = also-a-tick (t .course) (t .image) (length (t .input)) (length (t .answer)) (done-asked (t .course) desk (t .sticks) (t .image) (t .input) (t .answer) e) in
+    let i = taken-unbroken (t .image) (length (t .input)) (length (t .answer)) a .1 in
     let w = flown-heading desk (t .sticks) (t .input) i in
     rw (w .0, w .1) (stepped Heading setup calls (t .sticks) (t .input), stepped Turn setup calls (t .sticks) (t .input)))
     (λ e d. no (sym e ∙ d))

@@ -1,5 +1,6 @@
--- The calls on a desk: what is refused, and what each call leaves. Of the core they name `tickRefusal` and `tickCall`. Definitions only.
+-- The calls on a desk: what is refused, and what each call leaves. Of the core they name a tick's and a route tick's refusal and call. Definitions only.
 use Prim.Native.Nat.{ℕ, _*_}
+use mathlib.Core.Path.{_≡_}
 use mathlib.Core.Bool.{Bool, cond}
 use mathlib.Core.List.{List, [], _∷_}
 use lib.Dec.{eqb}
@@ -8,10 +9,13 @@ use lib.ListN.{length}
 use lib.Seq.{sets}
 use Rattle.words.specs.Words.{float, vec, bits, bytesOf}
 use Rattle.image.specs.Layout.{YAW, DT}
+use Rattle.outcome.specs.declared.Outcome.{Outcome}
 use Rattle.outcome.specs.declared.Outcome.the-variants.{Done}
-use Rattle.outcome.specs.Outcomes.{number, differs, Left, left}
+use Rattle.outcome.specs.Outcomes.{number, differs, Left, left, Called}
 use Rattle.lent_tick.specs.Tick.{tickRefusal}
 use Rattle.calls.specs.Entry.{tickCall}
+use Rattle.route.specs.Form.{formRefusal}
+use Rattle.route.specs.Entry.{routeRefusal, routeCall}
 use Rattle.desk.specs.declared.filters.Desk.{Desk}
 use Rattle.desk.specs.declared.entry.DeskOutcome.{DeskOutcome}
 use Rattle.desk.specs.declared.entry.DeskOutcome.the-variants.{DeskLength, SticksLength, Core}
@@ -75,13 +79,34 @@ pub record LentToDesk : Type 0 where
 abbrev pub lentToDesk : List ℕ → List ℕ → List ℕ → List ℕ → LentToDesk
 lentToDesk desk image input answer = record { desk = desk; image = image; input = input; answer = answer }
 
-unfoldable pub tickRefusalAt : ℕ → ℕ → List ℕ → ℕ → ℕ → DeskOutcome
-tickRefusalAt deskLen sticksLen image inputLen answerLen = deskRefusal deskLen sticksLen STICKS-BYTES (Core (tickRefusal image inputLen answerLen))
+-- what a desk tick flies: the segment that the image holds, or a route
+pub data DeskCourse : Type 0 where
+  OnSegment : DeskCourse
+  OnRoute : List ℕ → DeskCourse
 
-unfoldable pub deskTickCall : List ℕ → List ℕ → List ℕ → List ℕ → List ℕ → Left DeskOutcome LentToDesk
+-- what the core refuses there, and what its tick leaves
+abbrev pub coreRefusal : DeskCourse → List ℕ → ℕ → ℕ → Outcome
+coreRefusal OnSegment image inputLen answerLen = tickRefusal image inputLen answerLen
+coreRefusal (OnRoute route) image inputLen answerLen = routeRefusal image inputLen answerLen route
+
+abbrev pub coreCall : DeskCourse → List ℕ → List ℕ → List ℕ → Called
+coreCall OnSegment image input answer = tickCall image input answer
+coreCall (OnRoute route) image input answer = routeCall image input route answer
+
+unfoldable pub tickRefusalAt : DeskCourse → ℕ → ℕ → List ℕ → ℕ → ℕ → DeskOutcome
+tickRefusalAt course deskLen sticksLen image inputLen answerLen = deskRefusal deskLen sticksLen STICKS-BYTES (Core (coreRefusal course image inputLen answerLen))
+
+unfoldable pub deskTickCall : DeskCourse → List ℕ → List ℕ → List ℕ → List ℕ → List ℕ → Left DeskOutcome LentToDesk
 unfolding tickRefusalAt flownInput moved deskOf
-deskTickCall desk sticks image input answer =
+deskTickCall course desk sticks image input answer =
     let flown = flownInput desk sticks input in
-    let core = tickCall image flown answer .later in
-    deskLeft (tickRefusalAt (length desk) (length sticks) image (length input) (length answer))
+    let core = coreCall course image flown answer .later in
+    deskLeft (tickRefusalAt course (length desk) (length sticks) image (length input) (length answer))
     (lentToDesk (deskOf (moved desk sticks input)) (core .image) flown (core .answer)) (lentToDesk desk image input answer)
+
+-- ---- what the theorems in proofs/ speak of
+
+-- a course that the core takes: of a route, its form
+abbrev pub GoodCourse : DeskCourse → Type 0
+GoodCourse OnSegment = Unit
+GoodCourse (OnRoute route) = formRefusal route ≡ Done

@@ -1,3 +1,4 @@
 pub mod Filters
 pub mod Entry
 pub mod Runs
+pub mod Inner

@@ -10,7 +10,7 @@ use Rattle.relay_adrc.specs.declared.filter.CommandFilter.{CommandFilter}
 use Rattle.relay_adrc.specs.Filter.{Event, Step, Reset}
 use Rattle.desk.specs.declared.filters.Desk.{Desk}
 use Rattle.desk.specs.Filters.{NEW-WORDS, DESK-BYTES, deskOf, deskSetUp}
-use Rattle.desk.specs.Entry.{deskDone, centreCall, tickRefusalAt, deskTickCall}
+use Rattle.desk.specs.Entry.{deskDone, centreCall, DeskCourse, tickRefusalAt, deskTickCall}
 
 -- ---- the sticks, by number: their filters, and the limits that set-up is given for each
 
@@ -40,8 +40,9 @@ rateLimit s setup = float setup (NEW-WORDS * place s + 2)
 
 -- ---- the calls
 
--- A desk tick, by what it is given beside the desk: any bytes of any length.
+-- A desk tick, by what it is given beside the desk: what it flies, and any bytes of any length.
 pub record DeskTick : Type 0 where
+  pub course : DeskCourse
   pub sticks : List ℕ
   pub image : List ℕ
   pub input : List ℕ
@@ -53,7 +54,7 @@ pub data DeskCall : Type 0 where
 
 -- the desk that a call leaves; a refused one leaves it as it was
 unfoldable pub deskBy : List ℕ → DeskCall → List ℕ
-deskBy desk (Ticks t) = deskTickCall desk (t .sticks) (t .image) (t .input) (t .answer) .later .desk
+deskBy desk (Ticks t) = deskTickCall (t .course) desk (t .sticks) (t .image) (t .input) (t .answer) .later .desk
 deskBy desk Centres = centreCall desk .later
 
 unfoldable pub deskAfter : List ℕ → List DeskCall → List ℕ
@@ -71,7 +72,7 @@ deskStart setup = deskOf (deskSetUp setup)
 unfoldable pub eventsBy : Stick → DeskCall → List Event
 unfolding tickRefusalAt
 eventsBy s (Ticks t) =
-    cond (deskDone (tickRefusalAt DESK-BYTES (length (t .sticks)) (t .image) (length (t .input)) (length (t .answer))))
+    cond (deskDone (tickRefusalAt (t .course) DESK-BYTES (length (t .sticks)) (t .image) (length (t .input)) (length (t .answer))))
     (Step (float (t .sticks) (place s)) (float (t .input) DT) ∷ []) []
 eventsBy s Centres = Reset ∷ []
 

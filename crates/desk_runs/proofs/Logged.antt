@@ -8,8 +8,9 @@ use Rattle.log.specs.{Form.isLog, Records.records, Runs.recordsOf}
 use Rattle.runs.specs.Runs.{Call, flying, leftBy, start, Ticks as CoreTicks}
 use Rattle.audit.specs.Entry.{checkCall}
 use Rattle.own.{specs.Own.{keepsOf, keepsAlong, ticksKept}, proofs.Own.{next-kept, any-log-accepted}}
-use Rattle.desk.{specs.Entry.{deskDone, LentToDesk}, proofs.DeskCalls.{is-core-tick, refused-changes-nothing}}
-use Rattle.desk_runs.specs.Runs.{DeskAndImage, deskAndImage, DeskGiven, AnyCall, ByDesk, Button, OnCore, deskTick, heldBy, flownTick, coreCalls, coreAlong, recordsBy, recordsAlong}
+use Rattle.desk.{specs.Entry.{deskDone, LentToDesk}, proofs.DeskCalls.refused-changes-nothing}
+use Rattle.desk_runs.specs.Runs.{DeskAndImage, deskAndImage, DeskGiven, byDesk, AnyCall, ByDesk, Button, OnCore, deskTick, heldBy, flownTick, coreCalls, coreAlong, recordsBy, recordsAlong}
+use Rattle.desk_runs.proofs.Seen.{flown-by-core}
 
 -- an accepted desk tick is logged as the core's tick of the input that it left, which leaves the same image
 kept : (h : DeskAndImage) (g : DeskGiven) → deskDone (deskTick h g .outcome) ≡ true
@@ -17,7 +18,7 @@ kept : (h : DeskAndImage) (g : DeskGiven) → deskDone (deskTick h g .outcome) �
     × (leftBy (h .image) (CoreTicks (flownTick h g)) ≡ deskTick h g .later .image)
 unfolding keepsOf recordsOf leftBy flying
 kept h g e =
-    let s = is-core-tick (h .desk) (g .sticks) (h .image) (g .input) (g .answer) e in
+    let s = flown-by-core h g e in
     (rw s, ap (λ (c : Called). c .later .image) s)
 
 -- the records are those of the run that the core sees
@@ -46,7 +47,7 @@ records-are h (ByDesk g ∷ calls) = go (deskDone (deskTick h g .outcome)) refl 
         ap (λ (l : List (List ℕ)). l ++ recordsAlong after calls) (sym (k .0))
         ∙ ap (λ (l : List (List ℕ)). recordsOf (keepsOf (h .image) c) ++ l) (more ∙ ap (λ (image : List ℕ). ticksKept image rest) (sym (k .1)))
         ∙ sym (next-kept (h .image) c rest)
-    go false e more = more ∙ ap (λ (l : LentToDesk). ticksKept (l .image) rest) (refused-changes-nothing (h .desk) (g .sticks) (h .image) (g .input) (g .answer) e)
+    go false e more = more ∙ ap (λ (l : LentToDesk). ticksKept (l .image) rest) (refused-changes-nothing (byDesk (g .course)) (h .desk) (g .sticks) (h .image) (g .input) (g .answer) e)
 
 -- Request Ten's completeness for the desk: any bytes whose records are those of a run of desk ticks, the button and calls on the core alone, from any desk.
 pub desk-log-accepted : (desk setup : List ℕ) (calls : List AnyCall) → isProfile (word setup SETUP-PROFILE) ≡ true

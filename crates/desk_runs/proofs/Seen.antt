@@ -1,14 +1,24 @@
 -- A run with a desk is, for the core, a run of its own calls, and for the desk one of the desk's. Assumes nothing.
 use Rattle.laws.proofs.Prelude.{_≡_, refl, sym, ap, _∙_, Bool, true, false, cond, List, [], _∷_, _++_, ℕ, length, neg}
-use Rattle.outcome.specs.Outcomes.{Called}
-use Rattle.runs.specs.Runs.{Call, flying, leftBy, imageAfter, Ticks as CoreTicks}
+use Rattle.outcome.specs.{declared.Outcome.the-variants.Done, Outcomes.{left, lent, Called}}
+use Rattle.runs.specs.Runs.{Course, Segment, Route, Call, flying, tickOf, leftBy, imageAfter, Ticks as CoreTicks}
 use Rattle.relay_math.specs.F32.{Within as Between}
 use Rattle.relay_adrc.proofs.FilterLimits.{Limit, Held as Within}
-use Rattle.desk.specs.{Entry.{deskDone, LentToDesk}, Filters.{DESK-BYTES, deskAt}, Runs.{Stick, filterOf, magLimit, rateLimit, DeskCall, deskBy, deskAfter, deskStart}}
+use Rattle.desk.specs.{Entry.{deskDone, LentToDesk, coreCall}, Filters.{DESK-BYTES, deskAt}, Runs.{Stick, filterOf, magLimit, rateLimit, DeskCall, deskBy, deskAfter, deskStart}}
 use Rattle.desk.proofs.{DeskCalls.{refused-changes-nothing, is-core-tick}, Held.{size-kept, sticks-held}, Within.sticks-within}
-use Rattle.desk_runs.specs.Runs.{DeskAndImage, deskAndImage, AnyCall, ByDesk, Button, OnCore, deskTick, heldBy, heldAfter, flownTick, coreCalls, coreAlong, deskCalls, deskAlong}
+use Rattle.desk_runs.specs.Runs.{DeskAndImage, deskAndImage, DeskGiven, byDesk, AnyCall, ByDesk, Button, OnCore, deskTick, heldBy, heldAfter, flownTick, coreCalls, coreAlong, deskCalls, deskAlong}
 
 -- ---- the core
+
+-- an accepted desk tick is the core's tick of the input that it left, on the same course
+pub flown-by-core : (h : DeskAndImage) (g : DeskGiven) → deskDone (deskTick h g .outcome) ≡ true
+    → let l = deskTick h g .later in tickOf (h .image) (flownTick h g) ≡ left Done (lent (l .image) (l .answer))
+unfolding flying
+flown-by-core h g e = flies (g .course) _ _ _ ∙ is-core-tick (byDesk (g .course)) (h .desk) (g .sticks) (h .image) (g .input) (g .answer) e
+  where
+    flies : (c : Course) (image input answer : List ℕ) → flying c image input answer ≡ coreCall (byDesk c) image input answer
+    flies Segment image input answer = refl
+    flies (Route route) image input answer = refl
 
 image-by : (h : DeskAndImage) (c : AnyCall) → heldBy h c .image ≡ imageAfter (h .image) (coreCalls h c)
 unfolding heldBy coreCalls imageAfter leftBy flying
@@ -17,8 +27,8 @@ image-by h Button = refl
 image-by h (ByDesk g) = go (deskDone (deskTick h g .outcome)) refl
   where
     go : (t : Bool) → deskDone (deskTick h g .outcome) ≡ t → deskTick h g .later .image ≡ imageAfter (h .image) (cond t (CoreTicks (flownTick h g) ∷ []) [])
-    go true e = sym (ap (λ (c : Called). c .later .image) (is-core-tick (h .desk) (g .sticks) (h .image) (g .input) (g .answer) e))
-    go false e = ap (λ (l : LentToDesk). l .image) (refused-changes-nothing (h .desk) (g .sticks) (h .image) (g .input) (g .answer) e)
+    go true e = sym (ap (λ (c : Called). c .later .image) (flown-by-core h g e))
+    go false e = ap (λ (l : LentToDesk). l .image) (refused-changes-nothing (byDesk (g .course)) (h .desk) (g .sticks) (h .image) (g .input) (g .answer) e)
 
 after-append : (image : List ℕ) (a b : List Call) → imageAfter (imageAfter image a) b ≡ imageAfter image (a ++ b)
 unfolding imageAfter

@@ -3,12 +3,12 @@ use mathlib.Core.Bool.{cond}
 use mathlib.Core.List.{List, [], _∷_, _++_}
 use Prim.Native.Nat.{ℕ}
 use Rattle.outcome.specs.Outcomes.{Left}
-use Rattle.runs.specs.Runs.{Segment, Tick, Call, leftBy}
+use Rattle.runs.specs.Runs.{Course, Segment, Route, Tick, Call, leftBy}
 use Rattle.runs.specs.Runs.{Ticks as CoreTicks}
 use Rattle.log.specs.Runs.{recordsOf}
 use Rattle.own.specs.Own.{keepsOf}
 use Rattle.desk.specs.declared.entry.DeskOutcome.{DeskOutcome}
-use Rattle.desk.specs.Entry.{deskDone, centreCall, LentToDesk, deskTickCall}
+use Rattle.desk.specs.Entry.{deskDone, centreCall, LentToDesk, DeskCourse, OnSegment, OnRoute, deskTickCall}
 use Rattle.desk.specs.Runs.{DeskCall, Ticks, Centres}
 
 pub record DeskAndImage : Type 0 where
@@ -18,14 +18,20 @@ pub record DeskAndImage : Type 0 where
 abbrev pub deskAndImage : List ℕ → List ℕ → DeskAndImage
 deskAndImage desk image = record { desk = desk; image = image }
 
--- what a desk tick is given beside them: any bytes of any length
+-- what a desk tick is given beside them: what it flies, and any bytes of any length
 pub record DeskGiven : Type 0 where
+  pub course : Course
   pub sticks : List ℕ
   pub input : List ℕ
   pub answer : List ℕ
 
+-- a course as the desk's definitions have it, which know no runs
+abbrev pub byDesk : Course → DeskCourse
+byDesk Segment = OnSegment
+byDesk (Route route) = OnRoute route
+
 abbrev pub deskTick : DeskAndImage → DeskGiven → Left DeskOutcome LentToDesk
-deskTick h g = deskTickCall (h .desk) (g .sticks) (h .image) (g .input) (g .answer)
+deskTick h g = deskTickCall (byDesk (g .course)) (h .desk) (g .sticks) (h .image) (g .input) (g .answer)
 
 -- A call: a desk tick, the centre button, or one on the core alone, of any kind that crate `runs` has.
 pub data AnyCall : Type 0 where
@@ -43,10 +49,10 @@ unfolding heldBy
 heldAfter h [] = h
 heldAfter h (c ∷ calls) = heldAfter (heldBy h c) calls
 
--- ---- what the core sees: an accepted desk tick is a tick on the image's segment, of the input as the desk left it
+-- ---- what the core sees: an accepted desk tick is a tick on the same course, of the input as the desk left it
 
 abbrev pub flownTick : DeskAndImage → DeskGiven → Tick
-flownTick h g = record { course = Segment; input = deskTick h g .later .input; answer = g .answer }
+flownTick h g = record { course = g .course; input = deskTick h g .later .input; answer = g .answer }
 
 unfoldable pub coreCalls : DeskAndImage → AnyCall → List Call
 coreCalls h (ByDesk g) = cond (deskDone (deskTick h g .outcome)) (CoreTicks (flownTick h g) ∷ []) []
@@ -61,7 +67,7 @@ coreAlong h (c ∷ calls) = coreCalls h c ++ coreAlong (heldBy h c) calls
 -- ---- what the desk sees
 
 unfoldable pub deskCalls : DeskAndImage → AnyCall → List DeskCall
-deskCalls h (ByDesk g) = Ticks record { sticks = g .sticks; image = h .image; input = g .input; answer = g .answer } ∷ []
+deskCalls h (ByDesk g) = Ticks record { course = byDesk (g .course); sticks = g .sticks; image = h .image; input = g .input; answer = g .answer } ∷ []
 deskCalls h Button = Centres ∷ []
 deskCalls h (OnCore c) = []
 

@@ -18,10 +18,10 @@
 extern "C" {
 #endif
 
-/* The version of this header; fosavalo_version() is the archive's. The second number is that of the last change request which both have: a request may
- * change what a word means and leave every length. */
+/* The version of this header; fosavalo_version() is the archive's. The second number rises with every change of what a call does or a word means, which may
+ * leave every length. */
 #define FOSAVALO_VERSION_MAJOR 0
-#define FOSAVALO_VERSION_MINOR 14
+#define FOSAVALO_VERSION_MINOR 15
 #define FOSAVALO_VERSION_PATCH 0
 #define FOSAVALO_VERSION_NUMBER ((FOSAVALO_VERSION_MAJOR << 16) + (FOSAVALO_VERSION_MINOR << 8) + FOSAVALO_VERSION_PATCH)
 #define FOSAVALO_VERSION FOSAVALO_TEXT(FOSAVALO_VERSION_MAJOR) "." FOSAVALO_TEXT(FOSAVALO_VERSION_MINOR) "." FOSAVALO_TEXT(FOSAVALO_VERSION_PATCH)
@@ -108,6 +108,7 @@ float fosavalo_cosf(float x);
 #define FOSAVALO_LEG_BYTES 76
 #define FOSAVALO_ROUTE_TRAILER_BYTES 8
 #define FOSAVALO_MOST_LEGS 32
+#define FOSAVALO_SAMPLE_BYTES 52
 #define FOSAVALO_RECORD_BYTES 108
 #define FOSAVALO_LOG_TRAILER_BYTES 12
 #define FOSAVALO_MOST_RECORDS 65535
@@ -119,11 +120,11 @@ float fosavalo_cosf(float x);
 #define FOSAVALO_DONE 0                 /* what the call writes is written: the image, at a tick the answer too, what a log's call tells */
 #define FOSAVALO_WRONG_IMAGE_LENGTH 1   /* image_len is not FOSAVALO_IMAGE_BYTES */
 #define FOSAVALO_WRONG_INPUT_LENGTH 2   /* input_len is not FOSAVALO_SETUP_BYTES, at a tick and an append FOSAVALO_TICK_BYTES; segment_len is not FOSAVALO_LEG_BYTES; count_len, verdict_len or written_len is not 4 */
-#define FOSAVALO_WRONG_ANSWER_LENGTH 3  /* ticks and append: answer_len is not FOSAVALO_ANSWER_BYTES */
+#define FOSAVALO_WRONG_ANSWER_LENGTH 3  /* ticks and append: answer_len is not FOSAVALO_ANSWER_BYTES; sample: sample_len is not FOSAVALO_SAMPLE_BYTES */
 #define FOSAVALO_BROKEN_IMAGE 4         /* ticks and exchange: no call leaves such an image */
-#define FOSAVALO_WRONG_LEG_COUNT 5      /* route tick: the count is 0 or above FOSAVALO_MOST_LEGS; expand: so is the number of legs flown */
-#define FOSAVALO_WRONG_ROUTE_LENGTH 6   /* route tick only: under 8 bytes, or the bytes back or the length do not go with the count */
-#define FOSAVALO_LEGS_APART 7           /* route tick and expand: a leg does not start where the one before it ends */
+#define FOSAVALO_WRONG_LEG_COUNT 5      /* route tick and sample: the count is 0 or above FOSAVALO_MOST_LEGS; expand: so is the number of legs flown */
+#define FOSAVALO_WRONG_ROUTE_LENGTH 6   /* route tick and sample: under 8 bytes, or the bytes back or the length do not go with the count */
+#define FOSAVALO_LEGS_APART 7           /* route tick, sample and expand: a leg does not start where the one before it ends */
 #define FOSAVALO_BROKEN_LOG 8           /* log only: the log's length and its three words do not go together */
 #define FOSAVALO_NO_ROOM 9              /* append: under 108 bytes beyond the log, or FOSAVALO_MOST_RECORDS in it; flags: lengths; expand: the route is longer than its buffer */
 #define FOSAVALO_WRONG_PROFILE 10       /* set-up and the check of a log: the profile is neither 0 nor 1 */
@@ -143,7 +144,7 @@ static inline const char *fosavalo_meaning(uint32_t number) {
         return "the input is not " FOSAVALO_TEXT(FOSAVALO_SETUP_BYTES) " bytes long at set-up, " FOSAVALO_TEXT(FOSAVALO_LEG_BYTES)
                " at an exchange, " FOSAVALO_TEXT(FOSAVALO_TICK_BYTES) " at a tick and in a log, or what takes a log's count, its verdict or a route's length is not 4";
     case FOSAVALO_WRONG_ANSWER_LENGTH:
-        return "the answer is not " FOSAVALO_TEXT(FOSAVALO_ANSWER_BYTES) " bytes long";
+        return "the answer is not " FOSAVALO_TEXT(FOSAVALO_ANSWER_BYTES) " bytes long, or the sample not " FOSAVALO_TEXT(FOSAVALO_SAMPLE_BYTES);
     case FOSAVALO_BROKEN_IMAGE:
         return "the image is none that set-up, a tick or an exchange leaves";
     case FOSAVALO_WRONG_LEG_COUNT:
@@ -224,6 +225,13 @@ static inline const char *fosavalo_meaning(uint32_t number) {
 #define FOSAVALO_ANSWER_TIME 7    /* the governor's, s */
 #define FOSAVALO_ANSWER_PSI 8
 #define FOSAVALO_ANSWER_MARGIN 9
+
+/* Where a route is at a time. */
+#define FOSAVALO_SAMPLE_LEG 0           /* a whole number: the leg flown, counted from 0 */
+#define FOSAVALO_SAMPLE_POSITION 1      /* 3: m */
+#define FOSAVALO_SAMPLE_VELOCITY 4      /* 3: m/s */
+#define FOSAVALO_SAMPLE_ACCELERATION 7  /* 3: m/s^2 */
+#define FOSAVALO_SAMPLE_JERK 10         /* 3: m/s^3 */
 
 /* The image. To look at: only set-up, the exchange and the ticks write one. */
 #define FOSAVALO_IMAGE_COUNT 0    /* a whole number: how many words an image has */
@@ -321,6 +329,17 @@ uint32_t fosavalo_tick_refusal(const uint8_t *image, uint64_t image_len, uint64_
  * changed; the input and the route never are. Each pointer has to be good for its length, whatever that is, and no two of the four buffers
  * may overlap, but for the input and the route, which are only read. */
 uint32_t fosavalo_route_tick(uint8_t *image, uint64_t image_len, const uint8_t *input, uint64_t input_len, const uint8_t *route, uint64_t route_len, uint8_t *answer, uint64_t answer_len);
+
+/* Where the aircraft should be: the leg of a route that is flown at a time, and its position, velocity, acceleration and jerk there, the words
+ * FOSAVALO_SAMPLE_.. The distance between that position and the aircraft's is the tracking error that a tick is given. A segment is a route of one leg.
+ *
+ * time: seconds on the governor's clock, the word FOSAVALO_ANSWER_TIME of the last answer. Every bit pattern is taken, as a route tick takes its own: below 0
+ * it is the first leg's start, and past the end, or where it is no number, the last leg's end. A route tick is guided by this acceleration and this jerk at
+ * its own time.
+ *
+ * Returns 0; 3 if sample_len is not FOSAVALO_SAMPLE_BYTES; then 6 for a route under 8 bytes, then 5, then 6, then 7. Unless it is 0 no byte is changed; the route
+ * never is. Each pointer has to be good for its length, whatever that is, and the two buffers must not overlap. */
+uint32_t fosavalo_route_sample(const uint8_t *route, uint64_t route_len, float time, uint8_t *sample, uint64_t sample_len);
 
 /* A flight log is 0 to 65,535 records of 108 bytes, each a tick's input and then its answer, and behind them three words: the count, how many
  * bytes back from there the first record starts (108 times the count), and 108. It tells neither the thresholds nor the profile. A log of no record is

@@ -1,5 +1,6 @@
 /* Fosavalo's operator's desk: three sticks, each through a command filter, above the flight core. Link libfosavalo_desk.a, which brings the core that it was proved
  * with. libfosavalo.a may stand beside it in one program, in either order: neither shows the other a name, and both are to be of one version.
+ * fosavalo_desk_header_fits() asks this archive, as fosavalo_header_fits() asks the core's.
  *
  * As in fosavalo.h, every call is defined for every argument, nothing here allocates, keeps state or writes anywhere but where it says, a buffer of length 0 may be
  * NULL, and what is proved holds in the floating-point environment that fosavalo_float_environment() asks for. */
@@ -11,6 +12,12 @@
 #ifdef __cplusplus
 extern "C" {
 #endif
+
+/* The desk's archive's version, as FOSAVALO_VERSION_NUMBER. */
+uint32_t fosavalo_desk_version(void);
+
+/* Whether the desk's archive is of this header's version: 1, or 0 where words or lengths may differ. To be asked once, at the start. */
+static inline int fosavalo_desk_header_fits(void) { return fosavalo_desk_version() == FOSAVALO_VERSION_NUMBER; }
 
 /* The lengths of the desk's buffers, in bytes. */
 #define FOSAVALO_DESK_BYTES 60
@@ -72,6 +79,14 @@ uint32_t fosavalo_desk_centre(uint8_t *desk, uint64_t desk_len);
  * Returns 0; else 15, then 16, then what fosavalo_tick would return, 1 to 4. Unless it is 0 no byte of any buffer is changed; the sticks never are. Each pointer
  * has to be good for its length, whatever that is, and no two of the five buffers may overlap. */
 uint32_t fosavalo_desk_tick(uint8_t *desk, uint64_t desk_len, const uint8_t *sticks, uint64_t sticks_len, uint8_t *image, uint64_t image_len, uint8_t *input, uint64_t input_len, uint8_t *answer, uint64_t answer_len);
+
+/* One desk tick toward a route in place of the image's segment: as fosavalo_desk_tick, with fosavalo_route_tick in place of fosavalo_tick. Desk ticks of both kinds
+ * and ticks of the core alone may follow each other in any order.
+ *
+ * Returns 0; else 15, then 16, then what fosavalo_route_tick would return, 1 to 7. Unless it is 0 no byte of any buffer is changed; the sticks and the route never
+ * are. Each pointer has to be good for its length, whatever that is, and no two of the six buffers may overlap, but for the sticks and the route, which are only
+ * read. */
+uint32_t fosavalo_desk_route_tick(uint8_t *desk, uint64_t desk_len, const uint8_t *sticks, uint64_t sticks_len, uint8_t *image, uint64_t image_len, uint8_t *input, uint64_t input_len, const uint8_t *route, uint64_t route_len, uint8_t *answer, uint64_t answer_len);
 
 #ifdef __cplusplus
 }

@@ -5,7 +5,7 @@
 static uint8_t image[FOSAVALO_IMAGE_BYTES], input[FOSAVALO_TICK_BYTES], answer[FOSAVALO_ANSWER_BYTES], setup[FOSAVALO_SETUP_BYTES];
 static uint8_t route[FOSAVALO_MOST_LEGS * FOSAVALO_LEG_BYTES + FOSAVALO_ROUTE_TRAILER_BYTES], pattern[400];
 static uint8_t log[100 * FOSAVALO_RECORD_BYTES + FOSAVALO_LOG_TRAILER_BYTES], record[FOSAVALO_RECORD_BYTES];
-static uint8_t margins[1200], flags[300], word[4];
+static uint8_t margins[1200], flags[300], word[4], sample[FOSAVALO_SAMPLE_BYTES];
 
 /* ---- the stored answers */
 
@@ -79,6 +79,11 @@ static void one_call(void) {
     }
     mix_said(said);
     if (said == FOSAVALO_BROKEN_IMAGE) image[damaged] ^= (uint8_t)flip;
+    if (kind > 5) {
+        uint32_t length = any_route(route, FOSAVALO_MOST_LEGS), time = any_word() % 2 ? any_number() : small();
+        mix_said(fosavalo_route_sample(route, length, number(time), sample, sizeof sample - any_word() % 16 / 15));
+        mix(sample, sizeof sample);
+    }
     mix(image, sizeof image);
     mix(answer, sizeof answer);
     uint32_t angles[2] = {any_number(), bits(number(small()) * 4096.0f)};

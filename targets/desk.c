@@ -4,6 +4,7 @@
 
 static uint8_t desk[FOSAVALO_DESK_BYTES], sticks[FOSAVALO_STICKS_BYTES], setup[FOSAVALO_DESK_SETUP_BYTES];
 static uint8_t image[FOSAVALO_IMAGE_BYTES], input[FOSAVALO_TICK_BYTES], answer[FOSAVALO_ANSWER_BYTES];
+static uint8_t route[FOSAVALO_MOST_LEGS * FOSAVALO_LEG_BYTES + FOSAVALO_ROUTE_TRAILER_BYTES];
 
 static void copy(uint8_t *to, const uint8_t *from, uint32_t count) {
     for (uint32_t k = 0; k < count; k++) to[k] = from[k];
@@ -22,6 +23,13 @@ static void one_call(void) {
         said = fosavalo_desk_setup(desk, sizeof desk, setup, sizeof setup);
         break;
     case 1: said = fosavalo_desk_centre(desk, sizeof desk - any_word() % 2); break;
+    case 2:
+    case 3:
+    case 4: {
+        uint32_t length = any_route(route, FOSAVALO_MOST_LEGS);
+        said = fosavalo_desk_route_tick(desk, sizeof desk, sticks, sizeof sticks - any_word() % 32 / 31, image, sizeof image, input, sizeof input, route, length, answer, sizeof answer);
+        break;
+    }
     default: said = fosavalo_desk_tick(desk, sizeof desk, sticks, sizeof sticks - any_word() % 32 / 31, image, sizeof image, input, sizeof input, answer, sizeof answer);
     }
     mix_said(said);
@@ -35,6 +43,7 @@ static void one_call(void) {
 static void driven(uint32_t seed, uint32_t rounds, const uint8_t *first, uint32_t rows) {
     const uint8_t *row = first;
     begin(seed);
+    mix_word(fosavalo_desk_version());
     for (uint32_t round = 0; round < rounds; round++) {
         row = round % rows == 0 ? first : behind(row);
         copy(image, row + 8, sizeof image);

@@ -12,6 +12,7 @@ export const ANSWER_BYTES: 40;
 export const LEG_BYTES: 76;
 export const ROUTE_TRAILER_BYTES: 8;
 export const MOST_LEGS: 32;
+export const SAMPLE_BYTES: 52;
 export const DEEPEST_REPEAT: 4;
 export const RECORD_BYTES: 108;
 export const LOG_TRAILER_BYTES: 12;
@@ -134,6 +135,18 @@ export interface Answer {
 }
 export const Answer: Struct<Answer, Answer>;
 
+/** Where a route is at a time: north, east, down, in metres and seconds. Its distance from the aircraft is a tick's tracking error. */
+export interface Sample {
+    /** The leg flown, counted from 0. */
+    readonly leg: number;
+    readonly position: Three;
+    readonly velocity: Three;
+    /** With the jerk what a tick at that time is guided by. */
+    readonly acceleration: Three;
+    readonly jerk: Three;
+}
+export const Sample: Struct<Sample, Sample>;
+
 /** One tick of a log: what it was given and what it answered. */
 export interface Record {
     readonly input: Readonly<TickInput> & Bits;
@@ -150,6 +163,7 @@ export interface Calls {
     exchange(image: Uint8Array, segment: Uint8Array): number;
     tick(image: Uint8Array, input: Uint8Array, answer: Uint8Array): number;
     routeTick(image: Uint8Array, input: Uint8Array, route: Uint8Array, answer: Uint8Array): number;
+    routeSample(route: Uint8Array, time: number, sample: Uint8Array): number;
     tickRefusal(image: Uint8Array, inputLen: number | bigint, answerLen: number | bigint): number;
     logAppend(buffer: Uint8Array, logLen: number | bigint, input: Uint8Array, answer: Uint8Array): number;
     logCount(log: Uint8Array, count: Uint8Array): number;
@@ -168,6 +182,8 @@ export class Core {
     /** In radians: within 2^-23 up to 8192 in size; +0 beyond it and for what is no number. */
     readonly sinf: (x: number) => number;
     readonly cosf: (x: number) => number;
+    /** Where a route, or a leg by itself, is at a time on the governor's clock: below 0 its start; past the end, and at NaN, its end. */
+    sample(route: Route | Readonly<Leg> | Uint8Array, time: number): Sample & Bits;
     /** Who flies at each of these margins, by looking back; refused (9) above MOST_MARGINS. */
     lookedBack(margins: Numbers | Uint8Array, enter: number, exit: number): Pilot[];
 }
@@ -263,12 +279,14 @@ export const Sticks: Struct<Sticks, Readonly<Sticks>> & { default(): Sticks };
 
 /** The C calls of include/fosavalo_desk.h. */
 export interface DeskCalls {
+    version(): number;
     setup(desk: Uint8Array, input: Uint8Array): number;
     centre(desk: Uint8Array): number;
     tick(desk: Uint8Array, sticks: Uint8Array, image: Uint8Array, input: Uint8Array, answer: Uint8Array): number;
+    routeTick(desk: Uint8Array, sticks: Uint8Array, image: Uint8Array, input: Uint8Array, route: Uint8Array, answer: Uint8Array): number;
 }
 
-/** The desk's own WebAssembly. It tells no version: take it from the core's release. */
+/** The desk's own WebAssembly. Another version than VERSION is refused. */
 export class DeskCore {
     private constructor();
     static from(source: BufferSource | WebAssembly.Module): Promise<DeskCore>;
@@ -284,6 +302,8 @@ export class Desk {
     centre(): void;
     /** The filters step, the heading and its rate are written into the input, and the core ticks on it. A frozen input is a TypeError. */
     tick(sticks: Readonly<Sticks> | Uint8Array, image: Image, input: TickInput | Uint8Array): Answer & Bits;
+    /** The same toward a route in place of the segment. */
+    routeTick(sticks: Readonly<Sticks> | Uint8Array, image: Image, input: TickInput | Uint8Array, route: Route | Uint8Array): Answer & Bits;
     readonly heading: number;
     readonly turn: number;
     readonly zoomRate: number;

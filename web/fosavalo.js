@@ -6,10 +6,10 @@
 // call to call.
 
 /** This module's version; a core of another is refused. */
-export const VERSION = '0.14.0';
+export const VERSION = '0.15.0';
 
 export const [IMAGE_BYTES, SETUP_BYTES, TICK_BYTES, ANSWER_BYTES] = [396, 204, 68, 40];
-export const [LEG_BYTES, ROUTE_TRAILER_BYTES, MOST_LEGS, DEEPEST_REPEAT] = [76, 8, 32, 4];
+export const [LEG_BYTES, ROUTE_TRAILER_BYTES, MOST_LEGS, SAMPLE_BYTES, DEEPEST_REPEAT] = [76, 8, 32, 52, 4];
 export const [RECORD_BYTES, LOG_TRAILER_BYTES, MOST_RECORDS, MOST_MARGINS, LOG_RIGHT] = [108, 12, 65535, 65535, 0xffffffff];
 export const [DESK_BYTES, DESK_SETUP_BYTES, STICKS_BYTES] = [60, 36, 12];
 
@@ -18,7 +18,7 @@ const MEANINGS = [
     `the image is not ${IMAGE_BYTES} bytes long`,
     `the input is not ${SETUP_BYTES} bytes long at set-up, ${LEG_BYTES} at an exchange, ${TICK_BYTES} at a tick and in a log, ` +
         "or what takes a log's count, its verdict or a route's length is not 4",
-    `the answer is not ${ANSWER_BYTES} bytes long`,
+    `the answer is not ${ANSWER_BYTES} bytes long, or the sample not ${SAMPLE_BYTES}`,
     'the image is none that set-up, a tick or an exchange leaves',
     `a route has 1 to ${MOST_LEGS} legs`,
     `the route's length or its bytes back do not go with its count of legs of ${LEG_BYTES} bytes, with ${ROUTE_TRAILER_BYTES} more`,
@@ -71,8 +71,8 @@ export const Pilot = Object.freeze({ planner: 'planner', fallback: 'fallback' })
 export const Profile = Object.freeze({ whole: 'whole', lostRotor: 'lostRotor' });
 const [PILOTS, PROFILES] = [Object.values(Pilot), Object.values(Profile)];
 
-// Words in bytes, little-endian. What they are is told by a sample: a number is a float, a name stands by its place in its list, and an
-// array or an object has its parts one after another.
+// Words in bytes, little-endian. What they are is told by a sample: a number is a float, a bigint a whole number, a name stands by its place in its list, and
+// an array or an object has its parts one after another.
 const viewOf = (bytes) => new DataView(bytes.buffer, bytes.byteOffset, bytes.byteLength);
 const wordAt = (bytes, at) => viewOf(bytes).getUint32(4 * at, true);
 const floatAt = (bytes, at) => viewOf(bytes).getFloat32(4 * at, true);
@@ -88,6 +88,7 @@ const put = (sample, value, name, view, at) => {
         if (Number.isNaN(value)) view.setUint32(at, 0x7fc00000, true);
         return at + 4;
     }
+    if (typeof sample === 'bigint') return view.setUint32(at, NUMBERS.u32(value, name), true), at + 4;
     if (typeof sample === 'string') return view.setUint32(at, among(namesOf(sample), value, name), true), at + 4;
     if (Array.isArray(sample)) {
         need(isList(value) && value.length === sample.length, value, name, `an array of length ${sample.length}`);
@@ -108,6 +109,7 @@ const written = (sample, value, name) => {
 };
 const take = (sample, view, at) => {
     if (typeof sample === 'number') return view.getFloat32(at, true);
+    if (typeof sample === 'bigint') return view.getUint32(at, true);
     if (typeof sample === 'string') {
         const [names, word] = [namesOf(sample), view.getUint32(at, true)];
         // a flag that is neither 0 nor 1, which no tick writes, counts as the fallback's
@@ -185,6 +187,7 @@ export const Leg = struct('leg', LEG, 2);
 export const SetUp = struct('setUp', FALCON_QUAD, 2, { falconQuad: () => structuredClone(FALCON_QUAD) });
 export const TickInput = struct('input', STILL, 2, { default: () => structuredClone(STILL) });
 export const Answer = struct('answer', ANSWER, 3);
+export const Sample = struct('sample', { leg: 0n, position: [0, 0, 0], velocity: [0, 0, 0], acceleration: [0, 0, 0], jerk: [0, 0, 0] }, 3);
 export const Record = struct('record', { input: STILL, answer: ANSWER }, 14);
 export const DeskSetUp = struct('deskSetUp', { heading: STICK, turn: STICK, zoom: STICK }, 16);
 export const Sticks = struct('sticks', STICKS, 16, { default: () => structuredClone(STICKS) });
@@ -198,6 +201,7 @@ const CORE_CALLS = {
     exchange: ['image mut', 'segment'],
     tick: ['image mut', 'input', 'answer mut'],
     route_tick: ['image mut', 'input', 'route', 'answer mut'],
+    route_sample: ['route', 'time f32', 'sample mut'],
     tick_refusal: ['image', 'inputLen u64', 'answerLen u64'],
     log_append: ['buffer mut', 'logLen u64', 'input', 'answer'],
     log_count: ['log', 'count mut'],
@@ -207,9 +211,11 @@ const CORE_CALLS = {
     pattern_expand: ['pattern', 'route mut', 'written mut'],
 };
 const DESK_CALLS = {
+    version: [],
     setup: ['desk mut', 'input'],
     centre: ['desk mut'],
     tick: ['desk mut', 'sticks', 'image mut', 'input mut', 'answer mut'],
+    route_tick: ['desk mut', 'sticks', 'image mut', 'input mut', 'route', 'answer mut'],
 };
 
 /** A buffer of which these ranges alone are copied: it is lent to a call that looks at no other byte and writes none. */
@@ -217,7 +223,7 @@ class Part {
     constructor(bytes, ...ranges) { Object.assign(this, { bytes, ranges }); }
 }
 
-/** The calls on byte arrays of any length and content; each gives its number. */
+/** The calls on byte arrays of any length and content; each gives its number. Those of another version are refused. */
 const load = async (source, what, prefix, table) => {
     // with await: a browser may refuse to compile at once on the page's own thread
     const module = source instanceof WebAssembly.Module ? source : await WebAssembly.compile(source);
@@ -249,7 +255,11 @@ const load = async (source, what, prefix, table) => {
         const camelCase = name.replace(/_(.)/g, (_, letter) => letter.toUpperCase());
         return [camelCase, (...args) => call(exports[prefix + name], parameters, args)];
     });
-    return Object.freeze(Object.fromEntries(bound));
+    const calls = Object.freeze(Object.fromEntries(bound));
+    const number = calls.version();
+    const version = [number >>> 16, (number >>> 8) & 255, number & 255].join('.');
+    if (version !== VERSION) throw new Error(`${what} is of version ${version}, this module of ${VERSION}: take both of one release`);
+    return calls;
 };
 
 /** What a call writes into a buffer of this length. */
@@ -263,12 +273,11 @@ const filled = (length, call) => {
 export class Core {
     constructor(calls) { Object.freeze(Object.assign(this, { calls, sinf: calls.sinf, cosf: calls.cosf })); }
 
-    static async from(source) {
-        const calls = await load(source, 'the flight core', 'fosavalo_', CORE_CALLS);
-        const number = calls.version();
-        const version = [number >>> 16, (number >>> 8) & 255, number & 255].join('.');
-        if (version !== VERSION) throw new Error(`the core is of version ${version}, this module of ${VERSION}: take both of one release`);
-        return new Core(calls);
+    static async from(source) { return new Core(await load(source, 'the flight core', 'fosavalo_', CORE_CALLS)); }
+
+    sample(route, time) {
+        const bytes = route instanceof Uint8Array ? route : route instanceof Route ? own(route) : routeOf(Leg.toBytes(route));
+        return Sample.fromBytes(filled(SAMPLE_BYTES, (sample) => this.calls.routeSample(bytes, time, sample)));
     }
 
     lookedBack(margins, enter, exit) {
@@ -317,12 +326,12 @@ const routeOf = (legs) => {
     return concat(legs, trailer);
 };
 
-/** Checked when it is made, by a tick of the core's: so no second judge has to agree with it. */
+/** Checked when it is made, by a sample of the core's: so no second judge has to agree with it. */
 export class Route extends Held {
     constructor(core, legs) {
         super(legs instanceof Uint8Array ? legs : routeOf(written(Array(typed(Array, legs, 'legs').length).fill(LEG), legs, 'legs')));
-        const [image, tick] = [Image.setUp(core, SetUp.falconQuad()).asBytes(), TickInput.toBytes(TickInput.default())];
-        const ask = (route) => core.calls.routeTick(image, tick, route, new Uint8Array(ANSWER_BYTES));
+        const { calls } = typed(Core, core, 'core');
+        const ask = (route) => calls.routeSample(route, 0, new Uint8Array(SAMPLE_BYTES));
         const number = ask(own(this));
         // which leg: each two are asked about in turn
         const two = (leg) => routeOf(own(this).subarray(LEG_BYTES * (leg - 1), LEG_BYTES * (leg + 1)));
@@ -434,10 +443,15 @@ export class Desk extends Held {
     }
 
     centre() { Refusal.check(this.#calls.centre(own(this))); }
-    tick(sticks, image, input) {
+    tick(sticks, image, input) { return this.#fly(this.#calls.tick, sticks, image, input); }
+    routeTick(sticks, image, input, route) {
+        return this.#fly(this.#calls.routeTick, sticks, image, input, route instanceof Uint8Array ? route : own(typed(Route, route, 'route')));
+    }
+
+    #fly(call, sticks, image, input, ...route) {
         const [desk, held] = [this.asBytes(), typed(Image, image, 'image').asBytes()];
         const [flown, answer] = [new Uint8Array(given(TickInput, input)), new Uint8Array(ANSWER_BYTES)];
-        Refusal.check(this.#calls.tick(desk, given(Sticks, sticks), held, flown, answer));
+        Refusal.check(call(desk, given(Sticks, sticks), held, flown, ...route, answer));
         // the input first: one that is frozen throws here, and nothing has changed
         if (input instanceof Uint8Array) input.set(flown);
         else Object.assign(input, { yaw: floatAt(flown, 8), yawRate: floatAt(flown, 9) });

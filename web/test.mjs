@@ -8,7 +8,7 @@ import * as fosavalo from './fosavalo.js';
 import { bare, read, typed } from './answers.mjs';
 
 const { Answer, Core, Desk, DeskCore, DeskSetUp, Image, Leg, Log, Pattern } = fosavalo;
-const { Pilot, Profile, Record, Refusal, Route, SetUp, Sticks, TickInput } = fosavalo;
+const { Pilot, Profile, Record, Refusal, Route, Sample, SetUp, Sticks, TickInput } = fosavalo;
 const folder = process.argv.slice(2).find((word) => !word.startsWith('--'));
 if (folder === undefined) {
     console.error('node web/test.mjs FOLDER [--damage]: FOLDER holds fosavalo.wasm and fosavalo_desk.wasm');
@@ -64,7 +64,7 @@ threes.forEach(([, name, first = '0', each]) => (defined[name] = [0, 1, 2].map((
 
 await group("the headers' numbers", () => {
     const names = Object.keys(fosavalo).filter((name) => /_(BYTES|LEGS|RECORDS|MARGINS|REPEAT|RIGHT)$/.test(name) || /^MOST_/.test(name));
-    assert.equal(names.length, 16);
+    assert.equal(names.length, 17);
     names.forEach((name) => assert.equal(fosavalo[name], defined[name], name));
     assert.equal(fosavalo.VERSION, ['MAJOR', 'MINOR', 'PATCH'].map((part) => defined[`VERSION_${part}`]).join('.'));
     return `${names.length} and the version, ${fosavalo.VERSION}`;
@@ -156,6 +156,9 @@ await group('where each word stands', () => {
     const image = Image.fromBytes(core, put(put(counted(396), defined.IMAGE_ENGAGED, 0), defined.IMAGE_PROFILE, 1));
     all('IMAGE', { ENTER: image.enter, EXIT: image.exit, TIME: image.time, PEAKS: image.peakAbsJerk });
     assert.deepEqual([image.pilot, image.profile, Image.fromBytes(core, bytes(396, 2)).profile], ['planner', 'lostRotor', null]);
+    const sample = there(Sample, put(counted(52), defined.SAMPLE_LEG, 7));
+    all('SAMPLE', { POSITION: sample.position, VELOCITY: sample.velocity, ACCELERATION: sample.acceleration, JERK: sample.jerk });
+    assert.equal(sample.leg, 7);
     const sticks = Object.values(there(DeskSetUp, counted(36)));
     all('DESK_SETUP', { OMEGA_N: sticks.map(({ omegaN }) => omegaN), MAX_MAG: sticks.map(({ maxMag }) => maxMag) });
     all('DESK_SETUP', { MAX_RATE: sticks.map(({ maxRate }) => maxRate) });
@@ -165,9 +168,9 @@ await group('where each word stands', () => {
     all('DESK', { VALUE: [desk.heading, desk.turn, desk.zoomRate] });
     const record = there(Record, put(counted(108), 17 + defined.ANSWER_FLAG, 1));
     assert.deepEqual([record.input.asBytes(), record.answer.asBytes()], [record.asBytes().slice(0, 68), record.asBytes().slice(68)]);
-    // those that are left are lengths, and the two whole numbers
-    const named = Object.keys(defined).filter((name) => /^(LEG|TICK|ANSWER|SETUP|DESK_SETUP)_/.test(name) && !seen.includes(name));
-    assert.deepEqual(named.filter((name) => !/_(BYTES|FLAG|PROFILE)$/.test(name)), []);
+    // those that are left are lengths, and the three whole numbers
+    const named = Object.keys(defined).filter((name) => /^(LEG|TICK|ANSWER|SAMPLE|SETUP|DESK_SETUP)_/.test(name) && !seen.includes(name));
+    assert.deepEqual(named.filter((name) => !/_(BYTES|FLAG|PROFILE|SAMPLE_LEG)$/.test(`_${name}`)), []);
     return `${seen.length} names of the headers`;
 });
 
@@ -213,20 +216,22 @@ await group('falconQuad is the Rust crate\'s', () => {
 
 await group('a core of another version, and what is none', async () => {
     const number = (defined.VERSION_MAJOR << 16) + (defined.VERSION_MINOR << 8) + defined.VERSION_PATCH;
-    assert.equal(core.calls.version(), number);
+    assert.deepEqual([core.calls.version(), deskCore.calls.version()], [number, number]);
     // `i32.const number; end`, in groups of seven bits: its lowest bit changed
     const groups = [number & 127, (number >> 7) & 127, (number >> 14) & 127];
     while (groups.at(-1) === 0 && groups.at(-2) < 64) groups.pop();
     const code = Buffer.from([0x41, ...groups.map((seven, k) => seven | (k < groups.length - 1 ? 128 : 0)), 0x0b]);
-    const at = wasm.indexOf(code);
-    assert.ok(at > 0 && wasm.indexOf(code, at + 1) < 0, 'the version stands in one place');
-    const other = Uint8Array.from(wasm);
-    other[at + 1] ^= 1;
     const version = [defined.VERSION_MAJOR, defined.VERSION_MINOR, defined.VERSION_PATCH ^ 1].join('.');
-    const sentence = `the core is of version ${version}, this module of ${fosavalo.VERSION}: take both of one release`;
-    await assert.rejects(Core.from(other), { message: sentence });
+    for (const [type, name, module] of [[Core, 'the flight core', wasm], [DeskCore, "the operator's desk", deskWasm]]) {
+        const at = module.indexOf(code);
+        assert.ok(at > 0 && module.indexOf(code, at + 1) < 0, 'the version stands in one place');
+        const other = Uint8Array.from(module);
+        other[at + 1] ^= 1;
+        const message = `${name} is of version ${version}, this module of ${fosavalo.VERSION}: take both of one release`;
+        await assert.rejects(type.from(other), { message });
+    }
     await assert.rejects(Core.from(deskWasm), { message: 'this is not the WebAssembly of the flight core: it has no fosavalo_version' });
-    const noDesk = "this is not the WebAssembly of the operator's desk: it has no fosavalo_desk_setup";
+    const noDesk = "this is not the WebAssembly of the operator's desk: it has no fosavalo_desk_version";
     await assert.rejects(DeskCore.from(wasm), { message: noDesk });
     await assert.rejects(Core.from(wasm.subarray(1)), WebAssembly.CompileError);
     await assert.rejects(Core.from('fosavalo.wasm'), TypeError);
@@ -269,6 +274,15 @@ await group("document 01's figures", () => {
     const desk = Desk.setUp(deskCore, { heading: stick, turn: stick, zoom: { ...stick, maxMag: -1 } });
     desk.tick({ heading: 1, turn: -1, zoom: 5 }, Image.setUp(core, quad), { ...still, dt: 0.0625 });
     assert.deepEqual([desk.heading, desk.turn, desk.zoomRate], [0.0078125, -0.0078125, 0]);
+    // on a route of one leg as on that leg, desk and all
+    const legs = [{ ...rest, pf: [1, 0, 0], t: 2 }];
+    const flown = [(desk, image, input) => desk.tick(Sticks.default(), image, input), (desk, image, input) => desk.routeTick(Sticks.default(), image, input, new Route(core, legs))];
+    const [plain, routed] = flown.map((fly) => fly(Desk.setUp(deskCore, bytes(36)), Image.setUp(core, { ...quad, segment: legs[0] }), { ...still, yaw: 1 }));
+    assert.deepEqual(routed, plain);
+    // from rest to rest over 1 m in 2 s: half way at 15/16 m/s, no acceleration, a jerk of -30/8
+    const half = { leg: 0, position: [0.5, 0, 0], velocity: [0.9375, 0, 0], acceleration: [0, 0, 0], jerk: [-3.75, 0, 0] };
+    [legs[0], new Route(core, legs), new Route(core, legs).asBytes()].forEach((route) => assert.deepEqual({ ...core.sample(route, 1) }, half));
+    assert.deepEqual(core.sample(new Route(core, [...legs, { ...rest, p0: [1, 0, 0], pf: [1, 0, 0] }]), NaN).leg, 1);
     const kept = Image.setUp(core, { ...quad, enter: NaN, exit: -1 });
     assert.deepEqual([kept.enter, kept.exit], [0.1, 0.2].map(Math.fround));
 });
@@ -351,6 +365,9 @@ await group('refusals in their order, and nothing changed', () => {
     order(calls.routeTick, 'image input route answer', { image: noImage, input: noInput, answer: noAnswer, route: bytes(7) }, ...toImage,
         [6, { route: routeBytes([], 33) }], [5, { route: routeBytes([]) }], [5, { route: routeBytes(apart, 2, 76) }],
         [6, { route: routeBytes(apart) }], [7, { route: routeBytes([rest, rest]) }], [0]);
+    order(calls.routeSample, 'route time sample', { route: bytes(7), time: NaN, sample: bytes(51) }, [3, { sample: bytes(52) }],
+        [6, { route: routeBytes([], 33) }], [5, { route: routeBytes([]) }], [5, { route: routeBytes(apart, 2, 76) }],
+        [6, { route: routeBytes(apart) }], [7, { route: routeBytes([rest, rest]) }], [0]);
     order(calls.tickRefusal, 'image input answer', { image: noImage, input: 67, answer: 39 }, [1, { image: bytes(396) }],
         [2, { input: 68 }], [3, { answer: 40 }], [4, { image }], [0]);
     order(calls.exchange, 'image leg', { image: noImage, leg: bytes(75) }, [1, { image: bytes(396) }], [2, { leg: bytes(76) }],
@@ -377,6 +394,9 @@ await group('refusals in their order, and nothing changed', () => {
     const noTick = { desk: bytes(59), sticks: bytes(11), image: noImage, input: noInput, answer: noAnswer };
     order(deskCore.calls.tick, 'desk sticks image input answer', noTick, [15, { desk: bytes(60) }],
         [16, { sticks: bytes(12) }], ...toImage, [0]);
+    order(deskCore.calls.routeTick, 'desk sticks image input route answer', { ...noTick, route: bytes(7) }, [15, { desk: bytes(60) }],
+        [16, { sticks: bytes(12) }], ...toImage, [6, { route: routeBytes([]) }], [5, { route: routeBytes(apart) }],
+        [7, { route: routeBytes([rest, rest]) }], [0]);
     return `${count} calls`;
 });
 
@@ -390,6 +410,8 @@ await group('the same by the typed calls', () => {
     refused(2, () => image.exchange(bytes(75)));
     refused(2, () => Leg.fromBytes(bytes(75)));
     refused(3, () => Answer.fromBytes(bytes(41)));
+    refused(3, () => Sample.fromBytes(bytes(51)));
+    refused(6, () => core.sample(bytes(7), 0));
     refused(4, () => Image.fromBytes(core, bytes(396)).check());
     refused(4, () => Image.fromBytes(core, bytes(396)).exchange(rest));
     refused(5, () => new Route(core, []));
@@ -418,6 +440,7 @@ await group('the same by the typed calls', () => {
     const [desk, blank, input] = [Desk.fromBytes(deskCore, bytes(60, 1)), Image.fromBytes(core, bytes(396)), { ...still, yaw: 0.25 }];
     refused(4, () => desk.tick(Sticks.default(), blank, input));
     refused(16, () => desk.tick(bytes(11), image, input));
+    refused(7, () => desk.routeTick(Sticks.default(), image, input, routeBytes([rest, { ...rest, p0: [1, 0, 0] }])));
     assert.throws(() => desk.tick({ heading: 1, turn: 1, zoom: 1 }, image, Object.freeze({ ...still })), TypeError);
     assert.deepEqual([desk.asBytes(), blank.asBytes(), input.yaw, image.asBytes()], [bytes(60, 1), bytes(396), 0.25, before]);
 });
@@ -452,10 +475,12 @@ await group('arguments that are none', () => {
         ['input', still, (value) => restored.tick(value)],
         ['input', still, (value) => restored.routeTick(value, new Route(core, [rest]))],
         ['input', still, (value) => desk.tick(Sticks.default(), restored, value)],
+        ['input', still, (value) => desk.routeTick(Sticks.default(), restored, value, new Route(core, [rest]))],
         ['input', still, (value) => log.append(value, answer)],
         ['answer', answer, (value) => log.append(still, value)],
         ['leg', rest, (value) => restored.exchange(value)],
         ['leg', rest, (value) => new Pattern(core).leg(value)],
+        ['leg', rest, (value) => core.sample(value, 0)],
         ['legs[1]', rest, (value) => new Route(core, [rest, value])],
         ['deskSetUp', deskSetUp, (value) => Desk.setUp(deskCore, value)],
         ['sticks', Sticks.default(), (value) => desk.tick(value, restored, still)],
@@ -495,6 +520,8 @@ await group('arguments that are none', () => {
         ['legs', () => new Route(core, rest)],
         ['route', () => image.routeTick(still, [rest])],
         ['image', () => desk.tick(Sticks.default(), before, still)],
+        ['route', () => desk.routeTick(Sticks.default(), restored, still, [rest])],
+        ['time', () => core.sample(rest, '0')],
         ['inner', () => new Pattern(core).repeat(2, [rest])],
         ['count', () => new Pattern(core).repeat(1.5, new Pattern(core))],
         ['count', () => new Pattern(core).repeat('2', new Pattern(core))],

@@ -1,14 +1,16 @@
-//! The operator's desk (request Thirteen): the archive's three calls beside relay's own `CommandFilter` and the joint tick of Rust objects, every byte after
-//! every call.
+//! The operator's desk (request Thirteen), on the image's segment and on a route: the archive's calls beside relay's own `CommandFilter` and the joint tick of Rust
+//! objects, every byte after every call.
 
 use crate::faults::faults;
 use crate::generate::Rng;
 use crate::joint::bytes::{canonical, float, put, Put, Take, TICK};
 pub use crate::joint::bytes::{ANSWER, IMAGE};
-use crate::joint::model::{Flight, Right};
+use crate::joint::guide::{Guide, MIXED};
+use crate::joint::model::{Flight, Input, Right, Steps};
 use crate::joint::pilot::{self, Pilot};
 use crate::joint::refusal::Refusals;
-use crate::joint::route::Source;
+use crate::joint::route::Legs;
+use crate::joint::Call as CoreCall;
 use oracle::adrc::CommandFilter;
 use std::fmt;
 
@@ -20,14 +22,22 @@ const YAW: usize = 8;
 const YAW_RATE: usize = 9;
 const DT: usize = 10;
 
-/// The buffers of a desk tick; set-up takes the desk and the sticks, the button the desk alone.
+/// The buffers of a desk tick; set-up takes the desk and the sticks, the button the desk alone, and a route is for a tick on one.
 #[derive(Clone, PartialEq, Eq)]
 pub struct Lent {
     pub desk: Vec<u8>,
     pub sticks: Vec<u8>,
     pub image: Vec<u8>,
     pub input: Vec<u8>,
+    pub route: Vec<u8>,
     pub answer: Vec<u8>,
+}
+
+impl Lent {
+    fn each(&mut self) -> [&mut Vec<u8>; 6] {
+        let Lent { desk, sticks, image, input, route, answer } = self;
+        [desk, sticks, image, input, route, answer]
+    }
 }
 
 #[derive(Clone, Copy, Debug, PartialEq, Eq)]
@@ -35,17 +45,30 @@ pub enum Call {
     SetUp,
     Centre,
     Tick,
+    RouteTick,
+}
+
+impl Call {
+    /// What the core is asked for.
+    fn of_core(self) -> CoreCall {
+        if self == Call::RouteTick {
+            CoreCall::RouteTick
+        } else {
+            CoreCall::Tick
+        }
+    }
 }
 
 /// Who answers a call: the archive, or what stands in its place.
 pub type Face<'a> = &'a (dyn Fn(Call, &mut Lent) -> u32 + Sync);
 
 /// The proved archive.
-pub fn archive(call: Call, Lent { desk, sticks, image, input, answer }: &mut Lent) -> u32 {
+pub fn archive(call: Call, Lent { desk, sticks, image, input, route, answer }: &mut Lent) -> u32 {
     match call {
         Call::SetUp => fosavalo_desk::calls::setup(desk, sticks),
         Call::Centre => fosavalo_desk::calls::centre(desk),
         Call::Tick => fosavalo_desk::calls::tick(desk, sticks, image, input, answer),
+        Call::RouteTick => fosavalo_desk::calls::route_tick(desk, sticks, image, input, route, answer),
     }
 }
 
@@ -71,6 +94,12 @@ faults! {
     CentreForgets,
     SticksBeforeDesk,
     CoreBeforeSticks,
+    /// The image's segment, with a route lent.
+    SegmentFlown,
+    RouteNotJudged,
+    RouteBeforeImage,
+    SteppedThoughRoute,
+    WrittenThoughRoute,
 }
 
 fn filters_of(desk: &[u8]) -> [CommandFilter; 3] {
@@ -103,7 +132,7 @@ pub fn expected(fault: Fault, call: Call, lent: &mut Lent) -> u32 {
             put_filters(&filters, &mut lent.desk);
             0
         }
-        Call::Tick => tick(fault, lent),
+        Call::Tick | Call::RouteTick => tick(fault, call, lent),
     }
 }
 
@@ -132,8 +161,20 @@ fn set_up(fault: Fault, lent: &mut Lent) -> u32 {
     0
 }
 
-fn tick(fault: Fault, lent: &mut Lent) -> u32 {
-    let core = Right.of_tick(&lent.image, lent.input.len(), lent.answer.len());
+/// What the core says: on a route the route's own numbers after those of the image, the input and the answer.
+fn of_core(fault: Fault, call: Call, lent: &Lent) -> u32 {
+    let of_tick = Right.of_tick(&lent.image, lent.input.len(), lent.answer.len());
+    let of_route = if call == Call::RouteTick { Right.of_route(&lent.route) } else { 0 };
+    match (of_tick, of_route) {
+        (0, _) if fault == Fault::RouteNotJudged && of_route == 7 => 0,
+        (0, of_route) => of_route,
+        (4, 5..) if fault == Fault::RouteBeforeImage => of_route,
+        (of_tick, _) => of_tick,
+    }
+}
+
+fn tick(fault: Fault, call: Call, lent: &mut Lent) -> u32 {
+    let core = of_core(fault, call, lent);
     let own = own_refusal(fault, lent, STICKS);
     let refused = match own {
         15 => 15,
@@ -141,7 +182,10 @@ fn tick(fault: Fault, lent: &mut Lent) -> u32 {
         0 => core,
         own => own,
     };
-    let early = own == 0 && matches!(fault, Fault::WrittenFirst | Fault::SteppedFirst);
+    // refused by the core, and written none the less
+    let though = |always: Fault, by_route: Fault| own == 0 && (fault == always || (fault == by_route && (5..=7).contains(&refused)));
+    let (stepped, written) = (though(Fault::SteppedFirst, Fault::SteppedThoughRoute), though(Fault::WrittenFirst, Fault::WrittenThoughRoute));
+    let early = stepped || written;
     if refused != 0 && !early {
         return refused;
     }
@@ -156,7 +200,7 @@ fn tick(fault: Fault, lent: &mut Lent) -> u32 {
     for (at, filter) in filters.iter_mut().enumerate() {
         filter.step(float(&lent.sticks, at), dt);
     }
-    if refused == 0 || fault == Fault::SteppedFirst {
+    if refused == 0 || stepped {
         put_filters(&filters, &mut lent.desk);
     }
     let [heading, turn, zoom] = filters;
@@ -168,7 +212,7 @@ fn tick(fault: Fault, lent: &mut Lent) -> u32 {
         _ => turn.value(),
     };
     put(&mut flown, YAW_RATE, canonical(second));
-    let as_lent = if refused == 0 || fault == Fault::WrittenFirst { std::mem::replace(&mut lent.input, flown) } else { flown };
+    let as_lent = if refused == 0 || written { std::mem::replace(&mut lent.input, flown) } else { flown };
     if refused != 0 {
         return refused;
     }
@@ -177,7 +221,8 @@ fn tick(fault: Fault, lent: &mut Lent) -> u32 {
         put(&mut flies, DT, canonical(dt));
     }
     let mut flight = Flight::from_image(&lent.image);
-    flight.tick(&flies, &mut lent.answer);
+    let flown = if fault == Fault::SegmentFlown { CoreCall::Tick } else { call.of_core() };
+    Right.tick(&mut flight, &Right.source(flown, &lent.route), &Input::read(&flies)).write(&mut lent.answer);
     flight.write(&mut lent.image);
     0
 }
@@ -185,11 +230,13 @@ fn tick(fault: Fault, lent: &mut Lent) -> u32 {
 /// How often each way was gone.
 #[derive(Clone, Default)]
 pub struct Seen {
+    /// On the segment and on a route.
     pub ticks: u64,
+    pub on_routes: u64,
     pub buttons: u64,
     pub set_ups: u64,
-    /// By number: 1 to 4, 15, 16.
-    pub refused: [u64; 6],
+    /// By number: 1 to 7, 15, 16.
+    pub refused: [u64; 9],
     /// Values at their limit, rates at theirs; sticks and dts that are no number.
     pub at_limit: [u64; 2],
     pub wild: [u64; 2],
@@ -198,6 +245,7 @@ pub struct Seen {
 impl Seen {
     pub fn add(&mut self, other: &Seen) {
         self.ticks += other.ticks;
+        self.on_routes += other.on_routes;
         self.buttons += other.buttons;
         self.set_ups += other.set_ups;
         let sum = |to: &mut [u64], from: &[u64]| to.iter_mut().zip(from).for_each(|(to, from)| *to += from);
@@ -209,8 +257,8 @@ impl Seen {
 
 impl fmt::Display for Seen {
     fn fmt(&self, f: &mut fmt::Formatter<'_>) -> fmt::Result {
-        let Seen { ticks, buttons, set_ups, refused, at_limit: [value, rate], wild: [stick, dt] } = self;
-        write!(f, "{ticks} desk ticks, {buttons} buttons, {set_ups} set-ups; refused {refused:?} (1 to 4, 15, 16); ")?;
+        let Seen { ticks, on_routes, buttons, set_ups, refused, at_limit: [value, rate], wild: [stick, dt] } = self;
+        write!(f, "{ticks} desk ticks, {on_routes} of them on routes, {buttons} buttons, {set_ups} set-ups; refused {refused:?} (1 to 7, 15, 16); ")?;
         write!(f, "{value} values and {rate} rates at their limits; {stick} sticks and {dt} steps that are no number")
     }
 }
@@ -238,9 +286,9 @@ fn lengthen(rng: &mut Rng, bytes: &mut Vec<u8>) {
     }
 }
 
-/// One run: a core that is set up, a desk, and calls on it; every byte of the five buffers after each. What differs, in words.
+/// One run: a core that is set up, a desk, and calls on it; every byte of the six buffers after each. What differs, in words.
 pub fn run(face: Face, number: u64, seen: &mut Seen) -> Result<(), String> {
-    let (mut pilot, mut rng) = (Pilot::new(number), Rng::new("desk", number));
+    let (mut pilot, mut rng, mut guide) = (Pilot::new(number), Rng::new("desk", number), Guide::new(number, MIXED));
     let mut flight = Flight::set_up(&pilot.set_up());
     let mut image = vec![0; IMAGE];
     flight.write(&mut image);
@@ -250,16 +298,16 @@ pub fn run(face: Face, number: u64, seen: &mut Seen) -> Result<(), String> {
             _ if call_number == 0 && number % 4 != 0 => Call::SetUp,
             0 => Call::Centre,
             1 if rng.below(8) == 0 => Call::SetUp,
+            2..=6 => Call::RouteTick,
             _ => Call::Tick,
         };
         let sticks = words(&mut rng, if call == Call::SetUp { DESK_SETUP } else { STICKS });
-        let input = pilot.next(&flight, &Source::Segment).to_vec();
+        let input = pilot.next(&flight, guide.source(call.of_core())).to_vec();
+        let route = guide.route(call.of_core(), flight.time_ahead(float(&input, 7), float(&input, DT)));
         let answer = (0..ANSWER).map(|_| rng.bits() as u8).collect();
-        let mut lent = Lent { desk: desk.clone(), sticks, image: image.clone(), input, answer };
+        let mut lent = Lent { desk: desk.clone(), sticks, image: image.clone(), input, route, answer };
         pilot.damage(&mut lent.image);
-        [&mut lent.desk, &mut lent.sticks, &mut lent.image, &mut lent.input, &mut lent.answer]
-            .into_iter()
-            .for_each(|bytes| lengthen(&mut rng, bytes));
+        lent.each().into_iter().for_each(|bytes| lengthen(&mut rng, bytes));
 
         let (before, mut right) = (lent.clone(), lent.clone());
         let number_right = expected(Fault::None, call, &mut right);
@@ -268,8 +316,9 @@ pub fn run(face: Face, number: u64, seen: &mut Seen) -> Result<(), String> {
             return Err(told(number, call_number, call, [&before, &right, &lent], [number_right, returned]));
         }
         match (number_right, call) {
-            (0, Call::Tick) => {
+            (0, Call::Tick | Call::RouteTick) => {
                 seen.ticks += 1;
+                seen.on_routes += u64::from(call == Call::RouteTick);
                 for filter in filters_of(&right.desk) {
                     let [_, max_mag, max_rate, y, yd] = filter.words();
                     seen.at_limit[0] += u64::from(y != 0.0 && y.abs() == max_mag);
@@ -282,17 +331,17 @@ pub fn run(face: Face, number: u64, seen: &mut Seen) -> Result<(), String> {
             }
             (0, Call::Centre) => (seen.buttons, desk) = (seen.buttons + 1, right.desk),
             (0, Call::SetUp) => (seen.set_ups, desk) = (seen.set_ups + 1, right.desk),
-            (refused, _) => seen.refused[if refused > 4 { refused as usize - 11 } else { refused as usize - 1 }] += 1,
+            (refused, _) => seen.refused[if refused > 7 { refused as usize - 8 } else { refused as usize - 1 }] += 1,
         }
     }
     Ok(())
 }
 
 fn told(run: u64, at: u64, call: Call, [before, right, found]: [&Lent; 3], [number, returned]: [u32; 2]) -> String {
-    let each = |lent: &Lent| [lent.desk.clone(), lent.sticks.clone(), lent.image.clone(), lent.input.clone(), lent.answer.clone()];
+    let each = |lent: &Lent| lent.clone().each().map(std::mem::take);
     let mut text = format!("run {run}, call {at}, {call:?}: returns {returned}, expected {number}");
     for (name, ((was, right), found)) in
-        ["desk", "sticks", "image", "input", "answer"].into_iter().zip(each(before).into_iter().zip(each(right)).zip(each(found)))
+        ["desk", "sticks", "image", "input", "route", "answer"].into_iter().zip(each(before).into_iter().zip(each(right)).zip(each(found)))
     {
         for k in (0..was.len()).step_by(4).filter(|k| right[*k..].iter().take(4).ne(found[*k..].iter().take(4))) {
             text += &format!(
@@ -334,7 +383,8 @@ pub fn every_length(face: Face) -> Result<u64, String> {
     let mut image = vec![0; IMAGE];
     Flight::set_up(&pilot.set_up()).write(&mut image);
     let mut count = 0;
-    let rights = [DESK, STICKS, IMAGE, TICK, ANSWER];
+    let route = Guide::new(0, MIXED).steady();
+    let rights = [DESK, STICKS, IMAGE, TICK, route.len(), ANSWER];
     for (at, right) in rights.into_iter().enumerate() {
         for length in (0..right + 9).chain([4 * right]) {
             let mut lent = Lent {
@@ -342,13 +392,11 @@ pub fn every_length(face: Face) -> Result<u64, String> {
                 sticks: vec![0x3f; STICKS],
                 image: image.clone(),
                 input: vec![0x11; TICK],
+                route: route.clone(),
                 answer: vec![7; ANSWER],
             };
-            let buffer = [&mut lent.desk, &mut lent.sticks, &mut lent.image, &mut lent.input, &mut lent.answer].into_iter().nth(at);
-            if let Some(buffer) = buffer {
-                buffer.resize(length, 0x22);
-            }
-            for call in [Call::Tick, Call::SetUp, Call::Centre] {
+            lent.each()[at].resize(length, 0x22);
+            for call in [Call::Tick, Call::RouteTick, Call::SetUp, Call::Centre] {
                 let (before, mut right, mut found) = (lent.clone(), lent.clone(), lent.clone());
                 let numbers = [expected(Fault::None, call, &mut right), face(call, &mut found)];
                 if numbers[0] != numbers[1] || right != found {

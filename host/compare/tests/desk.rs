@@ -12,7 +12,7 @@ fn every_byte_is_the_rust_s() {
     let seen = compare(&archive, share::of(TICKS), |_| {}).unwrap_or_else(|text| panic!("{text}"));
     println!("{seen}");
     // a run that never goes where the errors are shows nothing
-    let often = [seen.buttons, seen.set_ups, seen.at_limit[0], seen.at_limit[1], seen.wild[0], seen.wild[1]];
+    let often = [seen.on_routes, seen.buttons, seen.set_ups, seen.at_limit[0], seen.at_limit[1], seen.wild[0], seen.wild[1]];
     assert!(often.into_iter().chain(seen.refused).all(|count| count > share::least(1_000)), "{seen}");
 }
 
@@ -43,7 +43,7 @@ fn the_figure_by_hand() {
     Flight::set_up(&[0; SETUP]).write(&mut image);
     input[12..16].copy_from_slice(&0x3f80_0000u32.to_le_bytes());
     input[40..44].copy_from_slice(&0x3d80_0000u32.to_le_bytes());
-    let mut lent = Lent { desk: vec![0xa5; DESK], sticks: words(&stick.repeat(3)), image, input, answer: vec![0; ANSWER] };
+    let mut lent = Lent { desk: vec![0xa5; DESK], sticks: words(&stick.repeat(3)), image, input, route: Vec::new(), answer: vec![0; ANSWER] };
     assert_eq!(archive(Call::SetUp, &mut lent), 0);
     lent.sticks = words(&[0x3f80_0000, 0, 0]);
     assert_eq!(archive(Call::Tick, &mut lent), 0);

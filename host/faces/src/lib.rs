@@ -102,7 +102,8 @@ pub mod pos;
 pub mod traj;
 
 pub use fosavalo::calls::{
-    cosf, exchange, flags, log_append, log_check, log_count, log_record, pattern_expand, route_tick, setup, sinf, tick, tick_refusal,
+    cosf, exchange, flags, log_append, log_check, log_count, log_record, pattern_expand, route_sample, route_tick, setup, sinf, tick,
+    tick_refusal,
 };
 
 /// Three numbers with no meaning of their own.

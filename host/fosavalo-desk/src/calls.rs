@@ -21,6 +21,7 @@
 // in the module a length is 64 bits wide, whatever an address is
 mod raw {
     extern "C" {
+        pub fn fosavalo_desk_version() -> u32;
         pub fn fosavalo_desk_setup(desk: *mut u8, desk_len: u64, input: *const u8, input_len: u64) -> u32;
         pub fn fosavalo_desk_centre(desk: *mut u8, desk_len: u64) -> u32;
         pub fn fosavalo_desk_tick(
@@ -35,7 +36,28 @@ mod raw {
             answer: *mut u8,
             answer_len: u64,
         ) -> u32;
+        pub fn fosavalo_desk_route_tick(
+            desk: *mut u8,
+            desk_len: u64,
+            sticks: *const u8,
+            sticks_len: u64,
+            image: *mut u8,
+            image_len: u64,
+            input: *mut u8,
+            input_len: u64,
+            route: *const u8,
+            route_len: u64,
+            answer: *mut u8,
+            answer_len: u64,
+        ) -> u32;
     }
+}
+
+/// The desk's archive's version: 65536 times its first number, 256 times its second, and its third.
+#[inline]
+pub fn version() -> u32 {
+    // SAFETY: a number out; the function is proved total.
+    unsafe { raw::fosavalo_desk_version() }
 }
 
 /// Writes a fresh desk; what stood in it is not read. Gives 0, 15 or 16.
@@ -68,6 +90,29 @@ pub fn tick(desk: &mut [u8], sticks: &[u8], image: &mut [u8], input: &mut [u8], 
             image_len,
             input.as_mut_ptr(),
             input_len,
+            answer.as_mut_ptr(),
+            answer_len,
+        )
+    }
+}
+
+/// One desk tick toward a route in place of the image's segment. Gives 0; 15, then 16, then 1 to 7.
+#[inline]
+pub fn route_tick(desk: &mut [u8], sticks: &[u8], image: &mut [u8], input: &mut [u8], route: &[u8], answer: &mut [u8]) -> u32 {
+    let (desk_len, image_len, input_len, answer_len) = (desk.len() as u64, image.len() as u64, input.len() as u64, answer.len() as u64);
+    // SAFETY: as above.
+    unsafe {
+        raw::fosavalo_desk_route_tick(
+            desk.as_mut_ptr(),
+            desk_len,
+            sticks.as_ptr(),
+            sticks.len() as u64,
+            image.as_mut_ptr(),
+            image_len,
+            input.as_mut_ptr(),
+            input_len,
+            route.as_ptr(),
+            route.len() as u64,
             answer.as_mut_ptr(),
             answer_len,
         )

@@ -1,6 +1,6 @@
 use crate::{calls, Refusal, DESK_BYTES, DESK_SETUP_BYTES, STICKS_BYTES};
 use core::fmt;
-use fosavalo::{Answer, FloatFault, Image, TickInput, ANSWER_BYTES};
+use fosavalo::{Answer, FloatFault, Image, Route, TickInput, VersionFault, ANSWER_BYTES, TICK_BYTES};
 
 /// What a stick's filter is set up with. Every bit pattern is taken.
 #[derive(Clone, Copy, Debug, PartialEq)]
@@ -72,6 +72,7 @@ pub struct Desk {
 impl Desk {
     /// A fresh desk, at rest at 0.
     pub fn set_up(set_up: &DeskSetUp) -> Result<Self, Refusal> {
+        VersionFault::check("fosavalo_desk", calls::version())?;
         FloatFault::check()?;
         let mut bytes = [0; DESK_BYTES];
         Refusal::check(calls::setup(&mut bytes, &set_up.to_bytes()))?;
@@ -108,9 +109,37 @@ impl Desk {
     /// # Ok::<(), Refusal>(())
     /// ```
     pub fn tick(&mut self, sticks: &Sticks, image: &mut Image, input: &mut TickInput) -> Result<Answer, Refusal> {
+        self.fly(image, input, |desk, image, input, answer| calls::tick(desk, &sticks.to_bytes(), image, input, answer))
+    }
+
+    /// One tick toward a route in place of the image's segment, which stays in the image. Where it is refused desk, image and input stay as they are.
+    ///
+    /// ```
+    /// use fosavalo::{Image, Leg, Route, SetUp, TickInput};
+    /// use fosavalo_desk::{Desk, Sticks};
+    ///
+    /// let (mut desk, mut image) = (Desk::from_bytes(&[0; 60])?, Image::set_up(&SetUp::falcon_quad())?);
+    /// let route = Route::new(&[Leg { pf: [3.0, 0.0, 0.0], t: 4.0, ..SetUp::falcon_quad().segment }])?;
+    /// let mut input = TickInput { yaw: 0.25, ..TickInput::default() };
+    /// desk.route_tick(&Sticks::default(), &mut image, &mut input, &route)?;
+    /// assert_eq!(input.yaw, 0.0); // the desk's heading, which stands at 0
+    /// # Ok::<(), fosavalo_desk::Refusal>(())
+    /// ```
+    pub fn route_tick(&mut self, sticks: &Sticks, image: &mut Image, input: &mut TickInput, route: &Route) -> Result<Answer, Refusal> {
+        self.fly(image, input, |desk, image, input, answer| {
+            calls::route_tick(desk, &sticks.to_bytes(), image, input, route.as_bytes(), answer)
+        })
+    }
+
+    fn fly(
+        &mut self,
+        image: &mut Image,
+        input: &mut TickInput,
+        call: impl Fn(&mut [u8; DESK_BYTES], &mut [u8], &mut [u8; TICK_BYTES], &mut [u8; ANSWER_BYTES]) -> u32,
+    ) -> Result<Answer, Refusal> {
         FloatFault::check()?;
         let (mut held, mut flown, mut answer) = (*image.as_bytes(), input.to_bytes(), [0; ANSWER_BYTES]);
-        Refusal::check(calls::tick(&mut self.bytes, &sticks.to_bytes(), &mut held, &mut flown, &mut answer))?;
+        Refusal::check(call(&mut self.bytes, &mut held, &mut flown, &mut answer))?;
         *image = Image::from_bytes(&held)?;
         // only these two words of the input are written
         (input.yaw, input.yaw_rate) = (float(&flown, 8), float(&flown, 9));

@@ -28,7 +28,7 @@
 //! sequence of sticks, steps and buttons; the heading and its rate that the core flies are always finite; and a refused tick changes nothing, of the
 //! desk, the image or the input (`docs/THEOREMS.md` in the repository names the theorems).
 //!
-//! `include/fosavalo_desk.h` is the same face for C. The crate needs `libfosavalo_desk.a`, which `make archives` builds, and the crate `fosavalo`; it has no other
+//! On a path of several legs it is [`Desk::route_tick`]. `include/fosavalo_desk.h` is the same face for C. The crate needs `libfosavalo_desk.a`, which `make archives` builds, and the crate `fosavalo`; it has no other
 //! dependency, and needs no `std`.
 
 #![no_std]

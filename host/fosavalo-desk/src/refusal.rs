@@ -1,6 +1,6 @@
 use crate::{DESK_BYTES, DESK_SETUP_BYTES, STICKS_BYTES};
 use core::fmt;
-use fosavalo::FloatFault;
+use fosavalo::{FloatFault, VersionFault};
 
 /// Why a call on a desk was refused; it changed no byte. The desk's own two come before the core's.
 ///
@@ -70,6 +70,12 @@ impl core::error::Error for Refusal {
 impl From<fosavalo::Refusal> for Refusal {
     fn from(core: fosavalo::Refusal) -> Self {
         Refusal::Core(core)
+    }
+}
+
+impl From<VersionFault> for Refusal {
+    fn from(fault: VersionFault) -> Self {
+        Refusal::Core(fault.into())
     }
 }
 

@@ -31,7 +31,7 @@ fn beside_the_core_in_one_program() {
         Err(refusal) => refusal.to_string().split_once(": ").map(|(_, words)| words.to_string()).expect("a refusal has words"),
     };
     let mut expected =
-        "15 16 15 15 16 1 2 3 unchanged\nthe core's own\n3c000000 00000000\n3c000000 3e000000 bc000000\n00000000 3e000000\n".to_string();
+        "15 16 15 15 16 1 2 3 15 16 1 2 3 6 unchanged\nthe core's own\nthe core's own\n3c000000 00000000\n3c000000 3e000000 bc000000\n00000000 3e000000\n".to_string();
     (0..20).for_each(|number| expected += &format!("{}\n", words(number)));
 
     let language: [(&str, &[&str]); 2] = [("gcc", &["-std=c11"]), ("g++", &["-std=c++17", "-xc++"])];

@@ -40,6 +40,7 @@ mod raw {
             answer: *mut u8,
             answer_len: u64,
         ) -> u32;
+        pub fn fosavalo_route_sample(route: *const u8, route_len: u64, time: f32, sample: *mut u8, sample_len: u64) -> u32;
         pub fn fosavalo_tick_refusal(image: *const u8, image_len: u64, input_len: u64, answer_len: u64) -> u32;
         pub fn fosavalo_log_append(
             buffer: *mut u8,
@@ -177,6 +178,25 @@ pub fn route_tick(image: &mut [u8], input: &[u8], route: &[u8], answer: &mut [u8
             answer_len,
         )
     }
+}
+
+/// The leg of a route that is flown at a time, and where the route is then, into 52 bytes. Gives 0; 3, then 5 to 7.
+///
+/// ```
+/// use fosavalo::{calls, Route, SetUp, SAMPLE_BYTES};
+///
+/// let route = Route::new(&[SetUp::falcon_quad().segment])?;
+/// let mut sample = [0xa5; SAMPLE_BYTES];
+/// assert_eq!(calls::route_sample(route.as_bytes(), 0.5, &mut sample), 0);
+/// assert_eq!(sample, [0; SAMPLE_BYTES]); // leg 0, at rest at the origin
+/// assert_eq!(calls::route_sample(&[0; 7], 0.5, &mut sample[1..]), 3);
+/// assert_eq!(calls::route_sample(&[0; 7], 0.5, &mut sample), 6);
+/// # Ok::<(), fosavalo::Refusal>(())
+/// ```
+#[inline]
+pub fn route_sample(route: &[u8], time: f32, sample: &mut [u8]) -> u32 {
+    // SAFETY: as above.
+    unsafe { raw::fosavalo_route_sample(route.as_ptr(), route.len() as u64, time, sample.as_mut_ptr(), sample.len() as u64) }
 }
 
 /// What [`tick`] would give on this image with an input and an answer of these lengths. Nothing is changed.

@@ -1,5 +1,5 @@
 use crate::words::{Put, Take};
-use crate::{calls, Answer, FloatFault, Leg, Pilot, Profile, Refusal, Route, SetUp, TickInput};
+use crate::{calls, Answer, FloatFault, Leg, Pilot, Profile, Refusal, Route, SetUp, TickInput, VersionFault};
 use crate::{ANSWER_BYTES, IMAGE_BYTES, LEG_BYTES, TICK_BYTES};
 use core::fmt;
 
@@ -26,6 +26,7 @@ pub struct Image {
 impl Image {
     /// A fresh image. Of what a [`SetUp`] can say the core refuses a filter that is none, and nothing else; what it mended, [`SetUp::mended`] tells.
     pub fn set_up(set_up: &SetUp) -> Result<Self, Refusal> {
+        VersionFault::check("fosavalo", calls::version())?;
         FloatFault::check()?;
         let mut bytes = [0; IMAGE_BYTES];
         Refusal::check(calls::setup(&mut bytes, &set_up.to_bytes()))?;

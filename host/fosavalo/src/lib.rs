@@ -25,6 +25,7 @@
 //! | numbers | [`SetUp`], [`Image::set_up`], [`TickInput`], [`Image::tick`], [`Answer`] |
 //! | an aircraft that has lost a rotor | [`Profile::LostRotor`] |
 //! | a path of several legs | [`Leg`], [`Route`], [`Image::route_tick`] |
+//! | where the aircraft should be | [`Segment::sample`], [`Route::sample`], [`Sample`] |
 //! | loops that are flown several times | [`Pattern`], [`Pattern::expand`] |
 //! | another segment in flight, and the peaks of its jerk | [`Image::exchange`], [`Image::peak_abs_jerk`] |
 //! | ticks to keep, or a flight to look at | [`Log`], [`LogView`], [`Record`] |
@@ -35,7 +36,7 @@
 //! | an angle | [`sinf`], [`cosf`] |
 //!
 //! It needs a floating-point environment that rounds to nearest and keeps subnormal numbers, on the calling thread; set-up and ticks
-//! are refused in any other ([`FloatFault`]). What set-up mends of the numbers that it is given, [`SetUp::mended`] tells.
+//! are refused in any other ([`FloatFault`]). Set-up is refused too where the archive is of another version than the crate ([`VersionFault`]). What set-up mends of the numbers that it is given, [`SetUp::mended`] tells.
 //!
 //! Words are little-endian, floats as their bits; `include/fosavalo.h` is the same face for C. The crate has no dependency but
 //! `libfosavalo.a`, which `make core` builds, and needs no `std`, but `alloc` for a [`Log`] and a [`Pattern`].
@@ -56,9 +57,11 @@ mod mended;
 mod pattern;
 mod refusal;
 mod route;
+mod sample;
 mod setup;
 mod slow;
 mod tick;
+mod version;
 mod words;
 
 pub use audit::Verdict;
@@ -70,9 +73,11 @@ pub use mended::Mended;
 pub use pattern::Pattern;
 pub use refusal::Refusal;
 pub use route::{Leg, Route};
+pub use sample::Sample;
 pub use setup::{AdrcGains, FilterDoubt, Gains, Governor, GyroFilter, Profile, RecoverableSet, Segment, SetUp};
 pub use slow::looked_back;
 pub use tick::{Answer, BodyRate, Pilot, TickInput, Torque};
+pub use version::VersionFault;
 
 /// The length of an image.
 pub const IMAGE_BYTES: usize = 396;
@@ -88,6 +93,8 @@ pub const LEG_BYTES: usize = 76;
 pub const ROUTE_TRAILER_BYTES: usize = 8;
 /// The most legs that a route has.
 pub const MOST_LEGS: usize = 32;
+/// The length of a sample of a route.
+pub const SAMPLE_BYTES: usize = 52;
 /// The length of a record of a log: a tick's input and its answer.
 pub const RECORD_BYTES: usize = TICK_BYTES + ANSWER_BYTES;
 /// The length of what stands behind the records of a log.
@@ -116,7 +123,7 @@ macro_rules! try_from_bytes {
     };
 }
 
-try_from_bytes!(Image, SetUp, TickInput, Answer, Route, Pattern, Log, Record);
+try_from_bytes!(Image, SetUp, TickInput, Answer, Route, Sample, Pattern, Log, Record);
 
 impl<'a> TryFrom<&'a [u8]> for LogView<'a> {
     type Error = Refusal;

@@ -1,9 +1,9 @@
-use crate::{FloatFault, ANSWER_BYTES, IMAGE_BYTES, LEG_BYTES, MOST_LEGS, MOST_MARGINS, MOST_RECORDS};
-use crate::{RECORD_BYTES, ROUTE_TRAILER_BYTES, SETUP_BYTES, TICK_BYTES};
+use crate::{FloatFault, VersionFault, ANSWER_BYTES, IMAGE_BYTES, LEG_BYTES, MOST_LEGS, MOST_MARGINS, MOST_RECORDS};
+use crate::{RECORD_BYTES, ROUTE_TRAILER_BYTES, SAMPLE_BYTES, SETUP_BYTES, TICK_BYTES};
 use core::fmt;
 
 /// Why a call was refused: the documents' number, with its meaning in words. Of 1 to 4 it is the lowest that holds; what is wrong with a
-/// profile, a filter, a route or a log comes after these. A refused call changed no byte. One refusal is the crate's own, before the core is called.
+/// profile, a filter, a route or a log comes after these. A refused call changed no byte. Two refusals are the crate's own, before the core is called.
 ///
 /// ```
 /// use fosavalo::Refusal;
@@ -27,7 +27,7 @@ pub enum Refusal {
     ImageLength,
     /// 2: the input is not 204 bytes long at set-up, 68 at a tick and in a log; or what takes a log's count, the verdict on it or a route's length is not 4.
     InputLength,
-    /// 3: the answer is not 40 bytes long.
+    /// 3: the answer is not 40 bytes long, or the sample not 52.
     AnswerLength,
     /// 4: no set-up and no tick leaves such an image.
     BrokenImage,
@@ -55,6 +55,8 @@ pub enum Refusal {
     RecordLength,
     /// The core was not called: the thread's floating-point environment is not the one that it computes in.
     Floats(FloatFault),
+    /// The core was not called: its archive is of another version than the crate.
+    Version(VersionFault),
     /// A number that this version of the crate has no words for.
     Other(u32),
 }
@@ -107,7 +109,7 @@ impl Refusal {
             Refusal::BrokenPattern => 12,
             Refusal::NoRecord => 13,
             Refusal::RecordLength => 14,
-            Refusal::Floats(_) => return None,
+            Refusal::Floats(_) | Refusal::Version(_) => return None,
             Refusal::Other(number) => number,
         })
     }
@@ -132,7 +134,7 @@ impl fmt::Display for Meaning {
                 f,
                 "the input is not {SETUP_BYTES} bytes long at set-up, {LEG_BYTES} at an exchange, {TICK_BYTES} at a tick and in a log, or what takes a log's count, its verdict or a route's length is not 4"
             ),
-            Refusal::AnswerLength => write!(f, "the answer is not {ANSWER_BYTES} bytes long"),
+            Refusal::AnswerLength => write!(f, "the answer is not {ANSWER_BYTES} bytes long, or the sample not {SAMPLE_BYTES}"),
             Refusal::BrokenImage => f.write_str("the image is none that set-up, a tick or an exchange leaves"),
             Refusal::LegCount => write!(f, "a route has 1 to {MOST_LEGS} legs"),
             Refusal::RouteLength => write!(
@@ -162,6 +164,7 @@ impl fmt::Display for Meaning {
             Refusal::NoRecord => f.write_str("the log has no record at that place"),
             Refusal::RecordLength => write!(f, "the record is not {RECORD_BYTES} bytes long"),
             Refusal::Floats(fault) => fault.fmt(f),
+            Refusal::Version(fault) => fault.fmt(f),
             Refusal::Other(_) => f.write_str("a number that this version has no words for"),
         }
     }
@@ -181,8 +184,15 @@ impl core::error::Error for Refusal {
     fn source(&self) -> Option<&(dyn core::error::Error + 'static)> {
         match self {
             Refusal::Floats(fault) => Some(fault),
+            Refusal::Version(fault) => Some(fault),
             _ => None,
         }
+    }
+}
+
+impl From<VersionFault> for Refusal {
+    fn from(fault: VersionFault) -> Self {
+        Refusal::Version(fault)
     }
 }
 

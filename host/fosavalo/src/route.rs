@@ -1,5 +1,5 @@
 use crate::words::{Put, Take};
-use crate::{calls, FloatFault, Refusal, Segment, SetUp, TickInput, ANSWER_BYTES, IMAGE_BYTES, LEG_BYTES, MOST_LEGS, ROUTE_TRAILER_BYTES};
+use crate::{calls, FloatFault, Refusal, Segment, LEG_BYTES, MOST_LEGS, ROUTE_TRAILER_BYTES, SAMPLE_BYTES};
 use core::fmt;
 
 /// A leg of a route: what a [`Segment`] is to a set-up.
@@ -115,8 +115,8 @@ impl Route {
     }
 }
 
-/// What a tick says of these bytes: one with an image of its own, which is then let go. So no second judge has to agree with the core. Where
-/// legs are apart, it is asked of each two in turn.
+/// What the core says of these bytes, asked for a sample that is then let go: so no second judge has to agree with it. Where legs are apart, it is asked
+/// of each two in turn.
 fn check(route: &[u8]) -> Result<(), Refusal> {
     FloatFault::check()?;
     let said = ask(route);
@@ -134,9 +134,7 @@ fn check(route: &[u8]) -> Result<(), Refusal> {
 }
 
 fn ask(route: &[u8]) -> Result<(), Refusal> {
-    let mut image = [0; IMAGE_BYTES];
-    Refusal::check(calls::setup(&mut image, &SetUp::falcon_quad().to_bytes()))?;
-    Refusal::check(calls::route_tick(&mut image, &TickInput::default().to_bytes(), route, &mut [0; ANSWER_BYTES]))
+    Refusal::check(calls::route_sample(route, 0.0, &mut [0; SAMPLE_BYTES]))
 }
 
 impl fmt::Debug for Route {

@@ -4,7 +4,7 @@ use fosavalo::{
     Refusal, ANSWER_BYTES, DEEPEST_REPEAT, EMPTY_LOG, IMAGE_BYTES, LEG_BYTES, LOG_RIGHT, LOG_TRAILER_BYTES, MOST_LEGS, MOST_MARGINS,
     MOST_RECORDS,
 };
-use fosavalo::{RECORD_BYTES, ROUTE_TRAILER_BYTES, SETUP_BYTES, TICK_BYTES};
+use fosavalo::{RECORD_BYTES, ROUTE_TRAILER_BYTES, SAMPLE_BYTES, SETUP_BYTES, TICK_BYTES};
 use std::collections::BTreeSet;
 use std::env::consts::{ARCH, OS};
 use std::path::{Path, PathBuf};
@@ -119,7 +119,7 @@ fn nothing_at_all() {
     let (work, program) = (Work::new("nothing"), crate_folder().join("tests/c/nothing.c"));
     for (compiler, language) in compilers() {
         let said = work.run(compiler, &include(), &program, &[language, &["-O2"]].concat(), &[]);
-        assert_eq!(said, "1 1 2 1 2 1 1 2 3 1 1 6 2 8 3 2 8 14 8 2 8 2 0 9 9 2 5 9 unchanged\n", "{compiler}");
+        assert_eq!(said, "1 1 2 1 2 1 1 2 3 1 1 6 3 6 2 8 3 2 8 14 8 2 8 2 0 9 9 2 5 9 unchanged\n", "{compiler}");
     }
 }
 
@@ -148,6 +148,7 @@ fn lengths_numbers_and_words() {
         ("LEG_BYTES", LEG_BYTES),
         ("ROUTE_TRAILER_BYTES", ROUTE_TRAILER_BYTES),
         ("MOST_LEGS", MOST_LEGS),
+        ("SAMPLE_BYTES", SAMPLE_BYTES),
         ("RECORD_BYTES", RECORD_BYTES),
         ("LOG_TRAILER_BYTES", LOG_TRAILER_BYTES),
         ("MOST_RECORDS", MOST_RECORDS),
@@ -279,6 +280,9 @@ fn words_stand_where_the_definitions_have_them() {
         ("FOSAVALO_LEG_".to_string(), 0, leg_vectors.iter().map(|name| name.to_uppercase()).collect(), 3, 1),
         ("FOSAVALO_LEG_".to_string(), 18, leg_time.iter().map(|name| name.to_uppercase()).collect(), 1, 1),
     ];
+    // the leg, and four vectors; that they are these, the comparison with the Rust shows
+    let vectors = ["POSITION", "VELOCITY", "ACCELERATION", "JERK"].map(str::to_string).to_vec();
+    let sample = [("FOSAVALO_SAMPLE_".to_string(), 0, vec!["LEG".to_string()], 1, 1), ("FOSAVALO_SAMPLE_".to_string(), 1, vectors, 3, 1)];
     let mut expected: Vec<(String, usize)> = Vec::new();
     for (blocks, words) in [
         (&image[..], layout.number("IMAGE-WORDS")),
@@ -286,6 +290,7 @@ fn words_stand_where_the_definitions_have_them() {
         (&input, layout.number("INPUT-WORDS")),
         (&answer, layout.number("ANSWER-WORDS")),
         (&leg, layout.number("LEG-WORDS")),
+        (&sample, SAMPLE_BYTES / 4),
     ] {
         let mut at = 0;
         for (buffer, start, names, width, axes) in blocks {
@@ -305,7 +310,7 @@ fn words_stand_where_the_definitions_have_them() {
     // and the header has no other
     let plain = |name: &str| name.split('(').next().unwrap_or_default().to_string();
     let header = text("include/fosavalo.h");
-    let buffers = ["IMAGE_", "SETUP_", "TICK_", "ANSWER_", "LEG_"];
+    let buffers = ["IMAGE_", "SETUP_", "TICK_", "ANSWER_", "LEG_", "SAMPLE_"];
     let defined = header.lines().filter_map(|line| line.strip_prefix("#define FOSAVALO_")?.split_whitespace().next());
     let defined = defined.filter(|name| buffers.iter().any(|buffer| name.starts_with(buffer)) && !name.ends_with("_BYTES"));
     let defined: BTreeSet<String> = defined.map(|name| format!("FOSAVALO_{}", plain(name))).collect();

@@ -32,6 +32,7 @@ uint32_t (*exchange)(uint8_t *, uint64_t, const uint8_t *, uint64_t) = fosavalo_
 uint32_t (*tick)(uint8_t *, uint64_t, const uint8_t *, uint64_t, uint8_t *, uint64_t) = fosavalo_tick;
 uint32_t (*tick_refusal)(const uint8_t *, uint64_t, uint64_t, uint64_t) = fosavalo_tick_refusal;
 uint32_t (*route_tick)(uint8_t *, uint64_t, const uint8_t *, uint64_t, const uint8_t *, uint64_t, uint8_t *, uint64_t) = fosavalo_route_tick;
+uint32_t (*route_sample)(const uint8_t *, uint64_t, float, uint8_t *, uint64_t) = fosavalo_route_sample;
 uint32_t (*log_append)(uint8_t *, uint64_t, uint64_t, const uint8_t *, uint64_t, const uint8_t *, uint64_t) = fosavalo_log_append;
 uint32_t (*log_count)(const uint8_t *, uint64_t, uint8_t *, uint64_t) = fosavalo_log_count;
 uint32_t (*log_record)(const uint8_t *, uint64_t, uint64_t, uint8_t *, uint64_t) = fosavalo_log_record;
@@ -41,6 +42,7 @@ uint32_t (*pattern_expand)(const uint8_t *, uint64_t, uint8_t *, uint64_t, uint8
 uint32_t (*desk_setup)(uint8_t *, uint64_t, const uint8_t *, uint64_t) = fosavalo_desk_setup;
 uint32_t (*desk_centre)(uint8_t *, uint64_t) = fosavalo_desk_centre;
 uint32_t (*desk_tick)(uint8_t *, uint64_t, const uint8_t *, uint64_t, uint8_t *, uint64_t, uint8_t *, uint64_t, uint8_t *, uint64_t) = fosavalo_desk_tick;
+uint32_t (*desk_route_tick)(uint8_t *, uint64_t, const uint8_t *, uint64_t, uint8_t *, uint64_t, uint8_t *, uint64_t, const uint8_t *, uint64_t, uint8_t *, uint64_t) = fosavalo_desk_route_tick;
 
 static uint8_t image[FOSAVALO_IMAGE_BYTES], input[FOSAVALO_SETUP_BYTES];
 uint32_t begun(void);

@@ -18,6 +18,7 @@ pub mod pilot;
 pub mod refusal;
 pub mod route;
 pub mod runs;
+pub mod sample;
 pub mod wrong;
 
 use lent::Lending;

@@ -27,6 +27,7 @@ int main(void) {
     put(input, FOSAVALO_TICK_YAW, 3.0f);
     put(set_up, FOSAVALO_SETUP_FC, 80.0f);
     put(set_up, FOSAVALO_SETUP_FS, 1000.0f);
+    if (!fosavalo_header_fits() || !fosavalo_desk_header_fits()) return 1;
     if (fosavalo_setup(image, sizeof image, set_up, sizeof set_up) || fosavalo_desk_setup(desk, sizeof desk, given, sizeof given)) return 1;
 
     /* refused, with nothing changed */
@@ -43,6 +44,12 @@ int main(void) {
         fosavalo_desk_tick(desk, sizeof desk, sticks, sizeof sticks, NULL, 0, NULL, 0, NULL, 0),
         fosavalo_desk_tick(desk, sizeof desk, sticks, sizeof sticks, image, sizeof image, NULL, 0, NULL, 0),
         fosavalo_desk_tick(desk, sizeof desk, sticks, sizeof sticks, image, sizeof image, input, sizeof input, NULL, 0),
+        fosavalo_desk_route_tick(NULL, 0, NULL, 0, NULL, 0, NULL, 0, NULL, 0, NULL, 0),
+        fosavalo_desk_route_tick(desk, sizeof desk, NULL, 0, NULL, 0, NULL, 0, NULL, 0, NULL, 0),
+        fosavalo_desk_route_tick(desk, sizeof desk, sticks, sizeof sticks, NULL, 0, NULL, 0, NULL, 0, NULL, 0),
+        fosavalo_desk_route_tick(desk, sizeof desk, sticks, sizeof sticks, image, sizeof image, NULL, 0, NULL, 0, NULL, 0),
+        fosavalo_desk_route_tick(desk, sizeof desk, sticks, sizeof sticks, image, sizeof image, input, sizeof input, NULL, 0, NULL, 0),
+        fosavalo_desk_route_tick(desk, sizeof desk, sticks, sizeof sticks, image, sizeof image, input, sizeof input, NULL, 0, answer, sizeof answer),
     };
     for (size_t k = 0; k < sizeof said / sizeof said[0]; k++) printf("%u ", (unsigned)said[k]);
     int same = !memcmp(kept, desk, sizeof desk) && !memcmp(kept + sizeof desk, image, sizeof image) && !memcmp(kept + sizeof desk + sizeof image, input, sizeof input);
@@ -53,6 +60,16 @@ int main(void) {
     memcpy(plain, image, sizeof plain);
     if (fosavalo_desk_tick(desk, sizeof desk, sticks, sizeof sticks, image, sizeof image, input, sizeof input, answer, sizeof answer)) return 1;
     if (fosavalo_tick(plain, sizeof plain, input, sizeof input, answered, sizeof answered)) return 1;
+    puts(!memcmp(plain, image, sizeof plain) && !memcmp(answered, answer, sizeof answer) ? "the core's own" : "another");
+
+    /* the same on a route of one leg, and the core's own route tick */
+    uint8_t route[FOSAVALO_LEG_BYTES + FOSAVALO_ROUTE_TRAILER_BYTES] = {0}, other[sizeof desk], again[sizeof input];
+    route[FOSAVALO_LEG_BYTES] = 1;
+    route[FOSAVALO_LEG_BYTES + 4] = FOSAVALO_LEG_BYTES;
+    memcpy(other, desk, sizeof other);
+    memcpy(again, input, sizeof again);
+    if (fosavalo_desk_route_tick(other, sizeof other, sticks, sizeof sticks, image, sizeof image, again, sizeof again, route, sizeof route, answer, sizeof answer)) return 1;
+    if (fosavalo_route_tick(plain, sizeof plain, again, sizeof again, route, sizeof route, answered, sizeof answered)) return 1;
     puts(!memcmp(plain, image, sizeof plain) && !memcmp(answered, answer, sizeof answer) ? "the core's own" : "another");
     printf("%08x %08x\n", word(input, FOSAVALO_TICK_YAW), word(input, FOSAVALO_TICK_YAW_RATE));
     printf("%08x %08x %08x\n", word(desk, FOSAVALO_DESK_VALUE(0)), word(desk, FOSAVALO_DESK_RATE(0)), word(desk, FOSAVALO_DESK_VALUE(FOSAVALO_STICK_ZOOM)));

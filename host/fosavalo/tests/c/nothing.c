@@ -26,6 +26,8 @@ int main(void) {
         fosavalo_tick_refusal(NULL, 0, sizeof input, sizeof answer),
         fosavalo_route_tick(NULL, 0, NULL, 0, NULL, 0, NULL, 0),
         fosavalo_route_tick(image, sizeof image, input, sizeof input, NULL, 0, answer, sizeof answer),
+        fosavalo_route_sample(NULL, 0, 0.0f, NULL, 0),
+        fosavalo_route_sample(NULL, 0, 0.0f, image, FOSAVALO_SAMPLE_BYTES),
         fosavalo_log_append(NULL, 0, 0, NULL, 0, NULL, 0),
         fosavalo_log_append(NULL, 0, 0, input, sizeof input, answer, sizeof answer),
         fosavalo_log_append(log, sizeof log, FOSAVALO_LOG_TRAILER_BYTES, input, sizeof input, NULL, 0),

@@ -32,7 +32,6 @@ faults! {
     AxisByAxis,
     LegAsANumber,
     Cleaned,
-    NansAsTheyAre,
     JerkLeftOut,
     // of what is refused
     RouteFirst,
@@ -94,9 +93,7 @@ fn write(fault: Fault, route: &[u8], time: f32, sample: &mut [u8]) {
         Fault::LegAsANumber => (leg as f32).to_bits(),
         _ => leg,
     });
-    // another NaN than ours, as a machine might compute one
-    let bits = |x: f32| if fault == Fault::NansAsTheyAre && x.is_nan() { 0xffc0_0000 } else { canonical(x) };
-    floats.into_iter().for_each(|x| to.word(bits(x)));
+    floats.into_iter().for_each(|x| to.word(canonical(x)));
 }
 
 counts! {

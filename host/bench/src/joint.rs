@@ -9,6 +9,7 @@ use compare::joint::guide::{Guide, MIXED};
 use compare::joint::model::{Flight, Profile};
 use compare::joint::pilot::Pilot;
 use compare::joint::route::Source;
+use compare::joint::sample::SAMPLE;
 use compare::log::{model, RECORD, TRAILER};
 use compare::numbers::LIMIT;
 use compare::share;
@@ -234,10 +235,11 @@ pub fn alike(run: &Run) -> bool {
 }
 
 /// The C calls whose stack is measured, and the Rust's own calls of a tick beside them.
-pub const CALLS: [&str; 14] = [
+pub const CALLS: [&str; 15] = [
     "fosavalo_setup",
     "fosavalo_tick",
     "fosavalo_route_tick",
+    "fosavalo_route_sample",
     "fosavalo_exchange",
     "fosavalo_tick_refusal",
     "fosavalo_sinf",
@@ -285,6 +287,7 @@ fn stacks_on(run: &Run, route: &[u8]) -> Option<[usize; CALLS.len()]> {
                 of(|| faces::setup(&mut fresh, &run.set_up))?,
                 of(|| faces::tick(&mut ours, input, &mut answer))?,
                 of(|| faces::route_tick(&mut routed, input, route, &mut answer))?,
+                of(|| faces::route_sample(route, yaw, &mut [0; SAMPLE]))?,
                 of(|| faces::exchange(&mut exchanged, leg))?,
                 of(|| faces::tick_refusal(&ours, TICK, ANSWER))?,
                 of(|| faces::sinf(yaw))?,

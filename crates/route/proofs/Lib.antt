@@ -4,4 +4,5 @@ pub mod LocalTime
 pub mod LegFlown
 pub mod FormRefusals
 pub mod MostLegs
+pub mod Sampled
 pub mod OneAnswer

@@ -3,7 +3,7 @@ use Prim.Native.Nat.{ℕ}
 use mathlib.Core.List.{List, _∷_, _++_}
 use lib.Ieee.{Float}
 use lib.ListN.{length}
-use Rattle.words.specs.Words.{floatsOfVec, wordsOf, bytesOf}
+use Rattle.words.specs.Words.{vec, floatsOfVec, wordsOf, bytesOf}
 use Rattle.joint_tick.specs.declared.stages.Reference.{Reference}
 use Rattle.outcome.specs.declared.Outcome.{Outcome}
 use Rattle.outcome.specs.declared.Outcome.the-variants.{AnswerLength}
@@ -55,3 +55,7 @@ sampleCall route time sample = leftUnless (sampleRefusal route (length sample)) 
 abbrev pub routeCallTo : ℕ → List ℕ → List ℕ → List ℕ → List ℕ → Called
 routeCallTo most image input route answer =
     tickFrom (onRoute route) (firstOf (tickTable image (length input) (length answer) ++ formTableTo most route)) image input answer
+
+-- the acceleration and the jerk that a sample's bytes tell
+abbrev pub referenceTold : List ℕ → Reference
+referenceTold sample = record { acc = vec sample 7; jerk = vec sample 10 }

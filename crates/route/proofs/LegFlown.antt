@@ -11,6 +11,13 @@ use Rattle.image.specs.{Layout.LEG-WORDS, Parts.legAt}
 use Rattle.route.specs.{Form.legOf, Legs.{durationOf, flownFrom, legFlown, sampleOf, sampleOn, endOf, FirstAbove, PastAll}}
 use Rattle.route.proofs.LocalTime.{lasts-plus, sum-unsigned, local-time}
 
+-- a time within the leg is not clamped
+pub kept : (x d : Float) → T (isFinite d) → Within 0·0 d x → timeOn x d ≡ x
+unfolding timeOn
+kept x d f w =
+    let finite = is-true (isFinite x) (within-finite 0·0 d x (unfold isFinite ofBits in tt) f w) in
+    rw (finite, not-lt-of-le x 0·0 (w .0), not-lt-of-le d x (w .1))
+
 -- ---- durations and ends
 
 module _ (b : List ℕ) where
@@ -118,12 +125,6 @@ module _ (b : List ℕ) where
         where
           in-leg : (k : ℕ) → FirstAbove b n time k → Within 0·0 (durationOf b k) (time ⊖ endOf b k)
           in-leg k f = local-time time (endOf b k) (durationOf b k) (r .holds) (r .from-zero) (end-unsigned k) (end-before n k f) (duration-fits k) (duration-lasts k) (unfold endOf in f .above)
-
-      kept : (x d : Float) → T (isFinite d) → Within 0·0 d x → timeOn x d ≡ x
-      unfolding timeOn
-      kept x d f w =
-          let finite = is-true (isFinite x) (within-finite 0·0 d x (unfold isFinite ofBits in tt) f w) in
-          rw (finite, not-lt-of-le x 0·0 (w .0), not-lt-of-le d x (w .1))
 
       -- so the clamp of `eval` never acts
       pub never-clamped : (n : ℕ) → let f = legFlown b n time in timeOn (f .at) (durationOf b (f .leg)) ≡ f .at

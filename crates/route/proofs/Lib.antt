@@ -5,4 +5,5 @@ pub mod LegFlown
 pub mod FormRefusals
 pub mod MostLegs
 pub mod Sampled
+pub mod OneLeg
 pub mod OneAnswer

@@ -35,10 +35,4 @@ returns-2 c =
 
 pub passed-spec : {M : Type 1} → statement M
 passed-spec =
-    close (spec Inv-loop μ-loop loop-holds
-    (λ c κs. omega arith)
-    returns
-    (λ c. omega arith)
-    (λ c. omega arith)
-    loop-again
-    returns-2)
+    close (spec Inv-loop μ-loop loop-holds (λ c κs. omega arith) returns (λ c. omega arith) (λ c. omega arith) loop-again returns-2)

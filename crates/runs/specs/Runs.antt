@@ -6,16 +6,16 @@ use lib.Ieee.{Float}
 use lib.ListN.{length, getD, take}
 use Rattle.joint_tick.specs.declared.stages.Guided.{Guided}
 use Rattle.joint_tick.specs.declared.stages.Reference.{Reference}
-use Rattle.joint_tick.specs.SetUp.{setUp}
+use Rattle.joint_tick.specs.SetUp.{segmentOf, setUp}
 use Rattle.joint_tick.specs.Tick.{guidance}
 use Rattle.image.specs.Layout.{INPUT-BYTES, ANSWER-BYTES}
-use Rattle.image.specs.Image.{stateAt, imageOf}
+use Rattle.image.specs.Image.{fixedAt, stateAt, imageOf}
 use Rattle.image.specs.Inputs.{setupAt, inputAt}
 use Rattle.outcome.specs.declared.Outcome.the-variants.{Done}
 use Rattle.outcome.specs.Outcomes.{Called}
 use Rattle.lent_tick.specs.Steps.{marginsIf}
 use Rattle.calls.specs.Entry.{exchangeCall, onSegment, tickCall}
-use Rattle.route.specs.Form.{formRefusal}
+use Rattle.route.specs.Form.{legOf, legCount, formRefusal}
 use Rattle.route.specs.Entry.{onRoute, routeCall}
 
 -- ---- the calls
@@ -105,3 +105,9 @@ tickAt ticks k = getD ticks k record { course = Segment; input = []; answer = []
 
 abbrev pub imageAt : List ℕ → List Tick → ℕ → List ℕ
 imageAt image ticks k = imageAfter image (map Ticks (take k ticks))
+
+-- ---- the route that a tick flies: its own, or one of one leg whose segment is the image's
+
+abbrev pub Flies : Course → List ℕ → List ℕ → Type 0
+Flies Segment image route = (formRefusal route ≡ Done) × (legCount route ≡ 1) × (fixedAt image .segment ≡ segmentOf (legOf route 0))
+Flies (Route own) image route = own ≡ route

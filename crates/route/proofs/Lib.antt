@@ -6,4 +6,6 @@ pub mod FormRefusals
 pub mod MostLegs
 pub mod Sampled
 pub mod OneLeg
+pub mod Sizes
+pub mod Starts
 pub mod OneAnswer

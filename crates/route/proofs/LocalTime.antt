@@ -73,7 +73,7 @@ zero-time m e n d l c p h f =
     zero-first = subst (λ (x : Float). T (le (fin true 0 (pos 0)) x)) (round-own l c f)
         (le-trans (fin true 0 (pos 0)) 0·0 (round binary32 false (l * up c) (down c)) (unfold le ofBits in tt) (not-below-zero (l * up c) (down c) (down-pos c)))
 
-past-all : (y : Float) → lt (inf false) y ≡ false
+pub past-all : (y : Float) → lt (inf false) y ≡ false
 unfolding lt
 past-all nan = refl
 past-all (inf t) = refl

@@ -4,7 +4,8 @@ use Prim.Native.Nat.{ℕ, zero, suc, _-_, _<_, _≤_}
 use mathlib.Core.Bool.{true, false, cond}
 use mathlib.Core.List.{List}
 use lib.Ieee.{Float, lt}
-use Rattle.relay_math.specs.F32.{_⊕_, _⊖_, 0·0}
+use Rattle.relay_math.specs.F32.{_⊕_, _⊖_, 0·0, finiteOr}
+use Rattle.relay_math.specs.declared.Vec3.{Vec3}
 use Rattle.relay_traj.specs.Quintic.{mendedDuration}
 use Rattle.joint_tick.specs.declared.stages.Reference.{Reference}
 use Rattle.joint_tick.specs.SetUp.{segmentOf}
@@ -74,3 +75,7 @@ pub record FirstAbove (b : List ℕ) (n : ℕ) (time : Float) (k : ℕ) : Type 0
 -- the time is past the ends of all n legs
 pub record PastAll (b : List ℕ) (n : ℕ) (time : Float) : Type 0 where
   pub none : (j : ℕ) → j < n → lt time (endOf b (suc j)) ≡ false
+
+-- a leg's p0 or v0 as `Quintic::new` mends it
+abbrev pub mended3 : Vec3 → Vec3
+mended3 v = (finiteOr (v .0) 0·0, finiteOr (v .1) 0·0, finiteOr (v .2) 0·0)

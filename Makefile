@@ -33,8 +33,8 @@
 # make archives    these, and this machine's archive of the test face
 # make targets     the archives of all five targets, of the same proved modules, and each driven with the same calls: x86-64, aarch64, riscv64, Cortex-M
 #                  and WebAssembly. What runs another machine's code is installed as gnuplot is (INSTALL=no)
-# make dist        what links without the toolchain, for every target, in dist/ and there as a tar: archives, headers, .pc files, the modules of
-#                  WebAssembly with their JavaScript, licence, checksums
+# make dist        what links and runs without the toolchain, for every target, in dist/ and there as a tar: archives, headers, .pc files, the modules of
+#                  WebAssembly with their JavaScript, the program `fosavalo` for this machine, licence, checksums
 # make docs        the safe crates' pages, host/target/doc/fosavalo/index.html and fosavalo_desk beside it
 # make map         docs/MAP.md, docs/PROMISES.md and docs/STATEMENTS.md anew, from the sources
 # make clean       removes all that was built, and no flight
@@ -42,32 +42,31 @@
 .PHONY: fly log explain check expand choices test quick edits table archives targets core exhaustive routines ticks answers bench stack dist docs map clean help
 
 HOST = cd host && cargo
+# one program for flights and logs; each of these targets is a short form of its subcommand
+FOSAVALO = cargo build --manifest-path host/Cargo.toml --release --offline --quiet --package fly && host/target/release/fosavalo
+PICTURE = INSTALL=$(INSTALL) tools/have gnuplot gnuplot-nox 'The picture' || true
+THRESHOLDS = $(if $(ENTER),--enter "$(ENTER)") $(if $(EXIT),--exit "$(EXIT)")
+TO = $(if $(OUT),--out "$(OUT)")
 
 fly: core
-	@cargo build --manifest-path host/Cargo.toml --release --offline --package fly
-	@INSTALL=$(INSTALL) tools/have gnuplot gnuplot-nox 'The picture' || true
-	@echo && host/target/release/fly $(if $(SCENARIO),"$(SCENARIO)") $(if $(OUT),--out "$(OUT)")
+	@$(PICTURE)
+	@echo && $(FOSAVALO) fly $(if $(SCENARIO),"$(SCENARIO)") $(TO)
 
 log: core
-	@cargo build --manifest-path host/Cargo.toml --release --offline --quiet --package fly
-	@INSTALL=$(INSTALL) tools/have gnuplot gnuplot-nox 'The picture' || true
-	@host/target/release/log $(if $(FILE),"$(FILE)") $(if $(ENTER),--enter "$(ENTER)") $(if $(EXIT),--exit "$(EXIT)") $(if $(OUT),--out "$(OUT)")
+	@$(PICTURE)
+	@$(FOSAVALO) log $(if $(FILE),"$(FILE)") $(THRESHOLDS) $(TO)
 
 explain: core
-	@cargo build --manifest-path host/Cargo.toml --release --offline --quiet --package fly
-	@host/target/release/explain $(if $(FILE),"$(FILE)") $(if $(ENTER),--enter "$(ENTER)") $(if $(EXIT),--exit "$(EXIT)") $(if $(filter yes,$(CSV)),--csv)
+	@$(FOSAVALO) explain $(if $(FILE),"$(FILE)") $(THRESHOLDS) $(if $(filter yes,$(CSV)),--csv)
 
 check: core
-	@cargo build --manifest-path host/Cargo.toml --release --offline --quiet --package fly
-	@host/target/release/check $(LOGS) $(if $(ENTER),--enter "$(ENTER)") $(if $(EXIT),--exit "$(EXIT)") $(if $(PROFILE),--profile "$(PROFILE)")
+	@$(FOSAVALO) check $(LOGS) $(THRESHOLDS) $(if $(PROFILE),--profile "$(PROFILE)")
 
 expand: core
-	@cargo build --manifest-path host/Cargo.toml --release --offline --quiet --package fly
-	@host/target/release/expand $(if $(FILE),"$(FILE)") $(if $(OUT),--out "$(OUT)")
+	@$(FOSAVALO) expand $(if $(FILE),"$(FILE)") $(TO)
 
 choices: core
-	@cargo build --manifest-path host/Cargo.toml --release --offline --quiet --package fly
-	@host/target/release/fly --choices
+	@$(FOSAVALO) fly --choices
 
 test:
 	@tools/gate

@@ -1,7 +1,9 @@
 //! Flights through the proved core: a slow pass in a closed loop, scenarios from files, what was flown as a table and as CSV.
 
 pub mod aircraft;
+pub mod arguments;
 pub mod check;
+pub mod commands;
 pub mod curve;
 pub mod desk;
 pub mod exchange;

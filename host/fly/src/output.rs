@@ -5,8 +5,12 @@ use crate::picture::{Picture, Row};
 use crate::table::Pair;
 use crate::ticks::Ticks;
 use fosavalo::{Log, Record, Refusal, LOG_TRAILER_BYTES, MOST_RECORDS, RECORD_BYTES};
+use std::fmt::Display;
 use std::io::{self, BufWriter, Read, Write};
 use std::path::Path;
+
+/// Where files go if nobody says where.
+pub const FOLDER: &str = "flights";
 
 /// Where in a record the flag is, the one word that is a whole number.
 pub const FLAG: usize = 17 + 6;
@@ -22,6 +26,9 @@ fn row(flight: &Flight) -> Row<'_> {
 
 /// What the files made of this one are called: its name without what a shell or gnuplot might take for something else.
 pub fn name(path: &Path) -> String {
+    if path == Path::new("-") {
+        return "stdin".to_string();
+    }
     let stem = path.file_stem().map_or("flight".into(), |stem| stem.to_string_lossy());
     stem.chars().map(|c| if c.is_ascii_alphanumeric() || c == '-' { c } else { '_' }).collect()
 }
@@ -53,10 +60,30 @@ pub fn title(name: &str, ticks: &Ticks, thresholds: Option<(f32, f32)>) -> Strin
 
 /// A log's file, but no more of it than tells that it is too long for a log.
 pub fn read(file: &Path) -> io::Result<Vec<u8>> {
-    let most = MOST_RECORDS * RECORD_BYTES + LOG_TRAILER_BYTES;
+    read_some(file, (MOST_RECORDS * RECORD_BYTES + LOG_TRAILER_BYTES) as u64 + 1)
+}
+
+/// All of a file.
+pub fn read_all(file: &Path) -> io::Result<Vec<u8>> {
+    read_some(file, u64::MAX)
+}
+
+/// `-` is standard input.
+fn read_some(file: &Path, most: u64) -> io::Result<Vec<u8>> {
     let mut bytes = Vec::new();
-    std::fs::File::open(file)?.take(most as u64 + 1).read_to_end(&mut bytes)?;
+    match file == Path::new("-") {
+        true => io::stdin().lock().take(most).read_to_end(&mut bytes)?,
+        false => std::fs::File::open(file)?.take(most).read_to_end(&mut bytes)?,
+    };
     Ok(bytes)
+}
+
+/// What is wrong, behind the file's name.
+pub fn of_file(file: &Path, what: impl Display) -> String {
+    match file == Path::new("-") {
+        true => format!("standard input: {what}"),
+        false => format!("{}: {what}", file.display()),
+    }
 }
 
 /// To standard output. A reader that wants no more of it, as `head`, is no mistake.

@@ -157,8 +157,8 @@ fn flights() {
 }
 
 fn command(arguments: &[&str], folder: &Path) -> Command {
-    let mut command = Command::new(checkout::program("check"));
-    command.args(arguments).current_dir(folder);
+    let mut command = Command::new(checkout::program("fosavalo"));
+    command.arg("check").args(arguments).current_dir(folder);
     command
 }
 
@@ -209,9 +209,6 @@ fn the_command() {
     for (name, code) in [("whole", 0), ("0", 0), ("lost-rotor", 1), ("1", 1)] {
         assert_eq!(run(&[&["right", "--profile", name], &THRESHOLDS[..]].concat(), &folder).0, Some(code), "{name}");
     }
-    let (code, out, err) = run(&["right", "--enter", "nan", "--exit", "-1"], &folder);
-    assert_eq!((code, out.starts_with("right/only.log: wrong at record 2 ")), (Some(1), true), "{out}");
-    assert_eq!(err.lines().filter(|line| line.starts_with("check: mended e")).count(), 2, "{err}");
 }
 
 #[test]
@@ -222,9 +219,14 @@ fn mistakes() {
         (&[][..], "check: which logs?"),
         (&["--enter", "1", "--exit", "2"], "check: which logs?"),
         (&["a.log"], "check: which thresholds?"),
-        (&["a.log", "--enter", "1"], "check: which thresholds?"),
+        (&["a.log", "--enter", "1"], "check: --enter and --exit go together\n"),
+        (
+            &["a.log", "--enter", "0.07", "--exit", "0.03"],
+            "check: no thresholds: set-up would have made them enter 0.07 and exit 0.14 (exit: given 0.03, kept 0.14: it has to be finite and above enter)\n",
+        ),
+        (&["a.log", "--enter=nan", "--exit=-1"], "check: no thresholds: set-up would have made them enter 0.1 and exit 0.2 (enter: given NaN, kept 0.1: "),
         (&["a.log", "--exit", "one"], "check: --exit: `one` is no number\n"),
-        (&["a.log", "--enter"], "check: --enter wants a value\n"),
+        (&["a.log", "--enter"], "check: --enter wants a number\n"),
         (&["a.log", "--profile", "2"], "check: --profile: refused (10): the profile is neither 0 nor 1\n"),
         (&["a.log", "--profile", "other"], "check: --profile: `other` is no profile; there are whole and lost-rotor\n"),
         (&["--other"], "check: `--other` is no option"),

@@ -1,5 +1,6 @@
-//! The command `fly`: where its files go, what it says, what is drawn.
+//! The program as a whole, and its command `fly`: where its files go, what it says, what is drawn.
 
+use fly::commands::SUBCOMMANDS;
 use fly::flight::{Flight, Rule};
 use fly::picture::{Picture, Row};
 use fly::scenario::{fields, Scenario};
@@ -22,7 +23,11 @@ fn folder(name: &str) -> PathBuf {
 
 /// The command in that folder; it finds no gnuplot, which it does not need.
 fn fly(arguments: &[&str], folder: &PathBuf) -> Command {
-    let mut command = Command::new(built().join("fly"));
+    program(&[&["fly"], arguments].concat(), folder)
+}
+
+fn program(arguments: &[&str], folder: &PathBuf) -> Command {
+    let mut command = Command::new(built().join("fosavalo"));
     command.args(arguments).current_dir(folder).env("PATH", "");
     command
 }
@@ -113,4 +118,58 @@ fn nobody_is_painted_where_nobody_flew() {
     let painted = |colour: &str| svg.to_ascii_lowercase().matches(&format!("<polygon fill = '{colour}'")).count();
     // in the legend; and there, in the flight and in the close-up
     assert_eq!(["rgb( 42, 157, 143)", "rgb(231, 111,  81)"].map(painted), [1, 3]);
+}
+
+/// Each subcommand is in the help, has a help of its own, and words mistakes alike; every mistake is one line and ends with 2.
+#[test]
+fn one_program() {
+    let folder = folder("one-program");
+    let (code, out, err) = said(&mut program(&["--help"], &folder));
+    assert_eq!((code, err.as_str()), (Some(0), ""));
+    for subcommand in &SUBCOMMANDS {
+        let name = subcommand.name;
+        assert!(out.contains(&format!("\n  {name} ")), "{name}");
+        for help in ["--help", "-h"] {
+            assert_eq!(said(&mut program(&[name, help], &folder)), (Some(0), subcommand.help(), String::new()));
+        }
+        assert!(
+            subcommand.help().starts_with(&format!("fosavalo {name}")) && subcommand.help().contains("\n  --help, -h     this\n"),
+            "{name}"
+        );
+        let widest = subcommand.help().lines().map(|line| line.chars().count()).max();
+        assert!(widest <= Some(130), "{name}: {widest:?}");
+        for option in ["--other", "--other=1", "-x"] {
+            let what = format!("{name}: `{}` is no option (fosavalo {name} --help)\n", option.trim_end_matches("=1"));
+            assert_eq!(said(&mut program(&[name, option], &folder)), (Some(2), String::new(), what));
+        }
+    }
+    let names = SUBCOMMANDS.each_ref().map(|subcommand| subcommand.name).join(", ");
+    for (arguments, what) in [
+        (&[][..], format!("fosavalo: which subcommand? there are {names} (fosavalo --help)\n")),
+        (&["land"], format!("fosavalo: `land` is no subcommand; there are {names} (fosavalo --help)\n")),
+    ] {
+        assert_eq!(said(&mut program(arguments, &folder)), (Some(2), String::new(), what));
+    }
+}
+
+/// An option and its value in one word or two, before a file or behind it; behind `--` nothing is an option, and `-` is standard input.
+#[test]
+fn one_reading() {
+    let folder = folder("one-reading");
+    std::fs::write(folder.join("-x.txt"), "tick 3\n").expect("it is written");
+    let table = said(&mut fly(&["./-x.txt"], &folder));
+    assert_eq!(table.0, Some(0));
+    for arguments in
+        [&["--out", "flights", "--", "-x.txt"][..], &["--out=else", "--out=flights", "./-x.txt"], &["./-x.txt", "--out=flights"]]
+    {
+        assert_eq!(said(&mut fly(arguments, &folder)), table);
+    }
+    let mut child = fly(&["-"], &folder).stdin(Stdio::piped()).stdout(Stdio::piped()).stderr(Stdio::piped()).spawn().expect("it runs");
+    std::io::Write::write_all(&mut child.stdin.take().expect("it is piped"), b"tick 3\n").expect("it reads");
+    let ended = child.wait_with_output().expect("it ends");
+    assert_eq!(ended.status.code(), Some(0), "{}", String::from_utf8_lossy(&ended.stderr));
+    let [one, other] = ["-x", "stdin"].map(|name| std::fs::read(folder.join(format!("flights/{name}-shield.log"))).expect("it is there"));
+    assert_eq!(one, other);
+    let (code, out, err) = said(&mut fly(&["./-x.txt", "--choices=yes"], &folder));
+    assert_eq!((code, out.as_str(), err.as_str()), (Some(2), "", "fly: --choices takes no value\n"));
 }

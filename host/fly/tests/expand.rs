@@ -4,7 +4,7 @@ use std::path::PathBuf;
 use std::process::Command;
 
 fn said(arguments: &[&str], folder: &PathBuf) -> (Option<i32>, String, String) {
-    let output = Command::new(checkout::program("expand")).args(arguments).current_dir(folder).output().expect("it runs");
+    let output = Command::new(checkout::program("fosavalo")).arg("expand").args(arguments).current_dir(folder).output().expect("it runs");
     let text = |bytes: &[u8]| String::from_utf8_lossy(bytes).into_owned();
     (output.status.code(), text(&output.stdout), text(&output.stderr))
 }

@@ -121,7 +121,7 @@ fn a_flight_by_the_earlier_rule() {
 }
 
 fn command(arguments: &[&str], folder: &PathBuf) -> Output {
-    Command::new(checkout::program("explain")).args(arguments).current_dir(folder).output().expect("it runs")
+    Command::new(checkout::program("fosavalo")).arg("explain").args(arguments).current_dir(folder).output().expect("it runs")
 }
 
 fn said(output: &Output) -> (Option<i32>, String, String) {
@@ -144,7 +144,12 @@ fn the_command() {
         (&["bad.log", "--enter", "1", "--exit", "2"][..], format!("explain: bad.log: {refusal}\n")),
         (&["missing.log", "--enter", "1", "--exit", "2"], "explain: missing.log: ".to_string()),
         (&[], "explain: which log?".to_string()),
-        (&["flown.log", "--enter", "1"], "explain: which thresholds?".to_string()),
+        (&["flown.log"], "explain: which thresholds?".to_string()),
+        (&["flown.log", "--enter", "1"], "explain: --enter and --exit go together\n".to_string()),
+        (
+            &["flown.log", "--enter", "0.5", "--exit", "0.5"],
+            "explain: no thresholds: set-up would have made them enter 0.5 and exit 1 (exit: given 0.5, kept 1: it has to be finite and above enter)\n".to_string(),
+        ),
         (&["flown.log", "--exit", "one"], "explain: --exit: `one` is no number\n".to_string()),
         (&["a", "b"], "explain: one log at a time".to_string()),
         (&["--other"], "explain: `--other` is no option".to_string()),

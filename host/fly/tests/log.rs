@@ -86,8 +86,8 @@ fn the_csv_has_every_bit() {
 
 /// The command; it finds no gnuplot, which it does not need.
 fn command(arguments: &[&str], folder: &PathBuf) -> Command {
-    let mut command = Command::new(checkout::program("log"));
-    command.args(arguments).arg("--out").arg(folder).current_dir(folder).env("PATH", "");
+    let mut command = Command::new(checkout::program("fosavalo"));
+    command.arg("log").args(arguments).arg("--out").arg(folder).current_dir(folder).env("PATH", "");
     command
 }
 
@@ -101,7 +101,7 @@ fn the_command_prints_a_log() {
     let folder = checkout::scratch("prints");
     let flight = flown(include_bytes!("../scenarios/headings.txt"));
     std::fs::write(folder.join("flown.log"), output::log(&flight).expect("it fits").as_bytes()).expect("it is written");
-    for more in [&[][..], &["--enter", "0.2", "--exit", "0.4"], &["--enter", "nan", "--exit", "-1"]] {
+    for more in [&[][..], &["--enter", "0.2", "--exit=0.4"]] {
         let (code, out, err) = said(&command(&[&["flown.log"], more].concat(), &folder).output().expect("it runs"));
         assert_eq!((code, err.as_str()), (Some(0), "no picture: gnuplot is missing (Debian: apt-get install gnuplot-nox)\n"));
         assert!(out == csv(output::rows(&flight)));
@@ -132,6 +132,7 @@ fn the_command_refuses_what_is_no_log() {
         (&["--other"], "log: `--other` is no option"),
         (&["bad.log", "--enter", "1"], "log: --enter and --exit go together\n"),
         (&["bad.log", "--exit", "one"], "log: --exit: `one` is no number\n"),
+        (&["bad.log", "--enter", "0.4", "--exit", "0.2"], "log: no thresholds: set-up would have made them enter 0.4 and exit 0.8 ("),
     ] {
         let (code, out, err) = said(&command(arguments, &folder).output().expect("it runs"));
         assert_eq!((code, out.as_str(), err.starts_with(what)), (Some(2), "", true), "{err}");

@@ -7,7 +7,14 @@ fn said(scenario: &str, name: &str) -> String {
     let file = folder.join("flight.txt");
     std::fs::write(&file, scenario).expect("it is written");
     // no gnuplot is found
-    let flown = Command::new(checkout::program("fly")).arg(&file).arg("--out").arg(&folder).env("PATH", "").output().expect("it runs");
+    let flown = Command::new(checkout::program("fosavalo"))
+        .arg("fly")
+        .arg(&file)
+        .arg("--out")
+        .arg(&folder)
+        .env("PATH", "")
+        .output()
+        .expect("it runs");
     assert_eq!(flown.status.code(), Some(0), "{}", String::from_utf8_lossy(&flown.stderr));
     String::from_utf8(flown.stdout).expect("it is text")
 }

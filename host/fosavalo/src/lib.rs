@@ -29,6 +29,7 @@
 //! | loops that are flown several times | [`Pattern`], [`Pattern::expand`] |
 //! | another segment in flight, and the peaks of its jerk | [`Image::exchange`], [`Image::peak_abs_jerk`] |
 //! | ticks to keep, or a flight to look at | [`Log`], [`LogView`], [`Record`] |
+//! | a flight longer than a log | [`LogSeries`], [`SeriesCheck`] |
 //! | a log from another box, to be checked | [`LogView::check`], [`Verdict`] |
 //! | margins, to explain who flew | [`looked_back`] |
 //! | bytes of your own | [`calls`]: the C calls as they are, on slices |
@@ -58,6 +59,7 @@ mod pattern;
 mod refusal;
 mod route;
 mod sample;
+mod series;
 mod setup;
 mod slow;
 mod tick;
@@ -74,6 +76,7 @@ pub use pattern::Pattern;
 pub use refusal::Refusal;
 pub use route::{Leg, Route};
 pub use sample::Sample;
+pub use series::{LogSeries, SeriesCheck, MOST_IN_SERIES};
 pub use setup::{AdrcGains, FilterDoubt, Gains, Governor, GyroFilter, Profile, RecoverableSet, Segment, SetUp};
 pub use slow::looked_back;
 pub use tick::{Answer, BodyRate, Pilot, TickInput, Torque};

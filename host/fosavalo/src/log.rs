@@ -6,7 +6,7 @@ use core::fmt;
 const LONGEST: usize = MOST_RECORDS * RECORD_BYTES + LOG_TRAILER_BYTES;
 
 /// A flight kept tick by tick: up to 65,535 records, in the order in which they were appended. Its bytes are what goes to a file. It tells neither
-/// the thresholds nor the profile that the flight was set up with.
+/// the thresholds nor the profile that the flight was set up with. A flight that may be longer is a [`LogSeries`](crate::LogSeries).
 ///
 /// ```
 /// use fosavalo::{Image, Log, LogView, Refusal, SetUp, TickInput};
@@ -163,13 +163,6 @@ impl Eq for Log {}
 impl fmt::Debug for Log {
     fn fmt(&self, f: &mut fmt::Formatter<'_>) -> fmt::Result {
         f.debug_struct("Log").field("len", &self.len()).finish_non_exhaustive()
-    }
-}
-
-impl Extend<Record> for Log {
-    /// A full log takes no more, and nothing says so: [`Log::try_extend`] does.
-    fn extend<I: IntoIterator<Item = Record>>(&mut self, records: I) {
-        let _ = self.try_extend(records);
     }
 }
 

@@ -1,5 +1,8 @@
 //! What stands behind a subcommand's name: one reading of options, and one wording of mistakes in them.
 
+use crate::check::Given;
+use crate::flight_file::FlightFile;
+use crate::kept::Kept;
 use crate::scenario::{number, PROFILES};
 use fosavalo::{Profile, SetUp};
 use std::ffi::OsString;
@@ -25,7 +28,10 @@ pub const ENTER: Opt = with("--enter", "NUMBER", "a number");
 pub const EXIT: Opt = with("--exit", "NUMBER", "a number");
 pub const PROFILE: Opt = with("--profile", "NAME", "a name");
 pub const OUT: Opt = with("--out", "FOLDER", "a folder");
+pub const FILE: Opt = with("-o", "FILE", "a file");
 pub const CSV: Opt = alone("--csv");
+pub const JSON: Opt = alone("--json");
+pub const APART: Opt = alone("--apart");
 pub const CHOICES: Opt = alone("--choices");
 
 /// What the words ask for.
@@ -141,8 +147,28 @@ impl Arguments {
         format!("which {what}? as in `{example}` ({})", self.help)
     }
 
+    /// The flight that is named, by its file, a log or the logs of one that go on.
+    pub fn flight(&self, example: &str) -> Result<Kept, String> {
+        if self.named.is_empty() {
+            return Err(self.which("log", example));
+        }
+        let mut flights = Kept::named(&self.named.iter().map(|path| (path.clone(), Ok(()))).collect::<Vec<_>>(), false);
+        match (flights.pop(), flights.is_empty()) {
+            (Some(flight), true) => flight.map_err(|(called, why)| format!("{called}: {why}")),
+            _ => Err(format!("one log at a time, or those of one flight ({})", self.help)),
+        }
+    }
+
+    /// What a flight was set up with: as it is given here, or else as its file tells.
+    pub fn given(&self, kept: &Kept) -> Result<Option<Given>, String> {
+        let (thresholds, profile) = (self.thresholds()?, self.profile()?);
+        let Some((enter, exit)) = thresholds.or(kept.file.as_ref().map(FlightFile::thresholds)) else { return Ok(None) };
+        let profile = profile.or(kept.file.as_ref().map(|file| file.set_up.profile)).unwrap_or(Profile::Whole);
+        Ok(Some(Given { profile, enter, exit }))
+    }
+
     /// Nobody told the thresholds.
-    pub fn no_thresholds(&self) -> String {
-        format!("which thresholds? a log does not tell them: --enter and --exit ({})", self.help)
+    pub fn no_thresholds(&self, kept: &Kept) -> String {
+        format!("which thresholds? {} does not tell them: --enter and --exit, or its flight's file ({})", kept.called, self.help)
     }
 }

@@ -133,16 +133,14 @@ pub fn table() -> Result<String, Refusal> {
 
 /// Writes the flight with the drawn seed into a folder, as CSV and as a log, and draws both margins of it; what came of it, a line each.
 pub fn write(folder: &Path) -> io::Result<Vec<String>> {
-    std::fs::create_dir_all(folder)?;
     let Curved { flight, before } = fly(&pass::SHOWN, pass::DRAWN).map_err(io::Error::other)?;
     let stem = folder.join("curve");
-    output::csv(output::rows(&flight), std::fs::File::create(folder.join("curve.csv"))?)?;
-    std::fs::write(folder.join("curve.log"), output::log(&flight).map_err(io::Error::other)?.as_bytes())?;
+    let said = output::kept(folder, "curve", &flight)?;
     let rows = [
         Row { suffix: "-flown", caption: "Commanded turning is no error", ticks: &flight.ticks },
         Row { suffix: "-before", caption: "Document 01's margin on the same flight", ticks: &before },
     ];
     let title = format!("{}, seed {}", title(), pass::DRAWN);
     let picture = Picture { title: &title, thresholds: Some((flight.enter, flight.exit)), rows: &rows };
-    Ok(vec![format!("every tick and the log: {0}.csv, {0}.log", stem.display()), picture.draw(&stem)?])
+    Ok(vec![said, picture.draw(&stem)?])
 }

@@ -115,11 +115,9 @@ pub fn table() -> Result<String, Refusal> {
 
 /// Writes the flight with the drawn seed into a folder, as CSV and as a log, and draws sticks and values of it; what came of it, a line each.
 pub fn write(folder: &Path) -> io::Result<Vec<String>> {
-    std::fs::create_dir_all(folder)?;
     let ByDesk { flight, moved } = fly(&pass::SHOWN, pass::DRAWN).map_err(io::Error::other)?;
     let stem = folder.join("desk");
-    output::csv(output::rows(&flight), std::fs::File::create(folder.join("desk.csv"))?)?;
-    std::fs::write(folder.join("desk.log"), output::log(&flight).map_err(io::Error::other)?.as_bytes())?;
+    let said = output::kept(folder, "desk", &flight)?;
     let file = folder.join("desk.points");
     let mut points = String::new();
     for (tick, moved) in flight.ticks.iter().zip(&moved).step_by(20) {
@@ -135,6 +133,5 @@ pub fn write(folder: &Path) -> io::Result<Vec<String>> {
         quoted(&format!("{}, seed {}", title(), pass::DRAWN)),
         quoted(&file.to_string_lossy())
     );
-    let said = format!("every tick and the log: {0}.csv, {0}.log", stem.display());
     Ok(vec![said, drawn(&stem, &settings, include_str!("../desk.gp"))])
 }

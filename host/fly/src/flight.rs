@@ -1,7 +1,7 @@
 //! What was flown, tick by tick, and who had control.
 
 use crate::ticks::Ticks;
-use fosavalo::{Answer, Image, Pilot, Refusal, Route, SetUp, TickInput};
+use fosavalo::{Answer, Image, Leg, Pilot, Refusal, Route, SetUp, TickInput};
 
 /// When the planner gets control back.
 #[derive(Clone, Copy, Debug, PartialEq, Eq)]
@@ -15,15 +15,15 @@ pub enum Rule {
 pub const RULES: [Rule; 2] = [Rule::Shield, Rule::Earlier];
 
 impl Rule {
-    /// A fresh image that flies by this rule.
+    /// The set-up with which the core flies by this rule.
     ///
     /// The earlier rule is the core's own shield with exit one f32 above enter: nothing lies between them, so it is released as soon as
     /// the margin rises over enter. The two differ at a single number, a margin that is exactly that f32; `Flight::strays` looks.
-    pub fn image(self, set_up: &SetUp) -> Result<Image, Refusal> {
-        let image = Image::set_up(set_up)?;
+    pub fn set_up(self, set_up: &SetUp) -> SetUp {
+        let enter = set_up.kept().enter;
         match self {
-            Rule::Shield => Ok(image),
-            Rule::Earlier => Image::set_up(&SetUp { enter: image.enter(), exit: image.enter().next_up(), ..*set_up }),
+            Rule::Shield => *set_up,
+            Rule::Earlier => SetUp { enter, exit: enter.next_up(), ..*set_up },
         }
     }
 
@@ -46,9 +46,13 @@ impl Rule {
 
 pub struct Flight {
     pub rule: Rule,
+    /// What its image was set up with.
+    pub set_up: SetUp,
     /// What is flown in place of the set-up's segment, where there is one.
     pub route: Option<Route>,
-    /// As mended by set-up.
+    /// Before which tick, counted from 0, the segment was exchanged, and for which.
+    pub exchanges: Vec<(usize, Leg)>,
+    /// Those of our shield, as mended by set-up.
     pub enter: f32,
     pub exit: f32,
     pub ticks: Ticks,
@@ -57,8 +61,17 @@ pub struct Flight {
 impl Flight {
     /// A flight of which nothing is flown yet, and its image.
     pub fn begin(set_up: &SetUp, rule: Rule, route: Option<Route>) -> Result<(Self, Image), Refusal> {
-        let (mended, image) = (Image::set_up(set_up)?, rule.image(set_up)?);
-        Ok((Flight { rule, route, enter: mended.enter(), exit: mended.exit(), ticks: Ticks::default() }, image))
+        let (mended, set_up) = (Image::set_up(set_up)?, rule.set_up(set_up));
+        let (enter, exit) = (mended.enter(), mended.exit());
+        let image = Image::set_up(&set_up)?;
+        Ok((Flight { rule, set_up, route, exchanges: Vec::new(), enter, exit, ticks: Ticks::default() }, image))
+    }
+
+    /// Another segment from here on.
+    pub fn exchange(&mut self, image: &mut Image, leg: &Leg) -> Result<(), Refusal> {
+        image.exchange(leg)?;
+        self.exchanges.push((self.ticks.len(), *leg));
+        Ok(())
     }
 
     /// One tick more.

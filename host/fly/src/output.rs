@@ -1,10 +1,11 @@
 //! Flights as files: every tick as CSV, a log, the picture.
 
 use crate::flight::{Flight, Rule};
+use crate::flight_file::FlightFile;
 use crate::picture::{Picture, Row};
 use crate::table::Pair;
 use crate::ticks::Ticks;
-use fosavalo::{Log, Record, Refusal, LOG_TRAILER_BYTES, MOST_RECORDS, RECORD_BYTES};
+use fosavalo::{Log, LogSeries, Record, Refusal, LOG_TRAILER_BYTES, MOST_RECORDS, RECORD_BYTES};
 use std::fmt::Display;
 use std::io::{self, BufWriter, Read, Write};
 use std::path::Path;
@@ -129,33 +130,89 @@ pub fn rows(flight: &Flight) -> impl Iterator<Item = (f64, Record)> + '_ {
     flight.ticks.iter().map(|tick| (tick.seconds, Record::new(&tick.input, &tick.answer)))
 }
 
-/// The log of a flight, of as many ticks as a log has room for.
+/// The log of a flight that is no longer than one.
 pub fn log(flight: &Flight) -> Result<Log, Refusal> {
     let mut log = Log::with_capacity(flight.ticks.len());
-    flight.ticks.iter().take(MOST_RECORDS).try_for_each(|tick| log.append(&tick.input, &tick.answer))?;
+    flight.ticks.iter().try_for_each(|tick| log.append(&tick.input, &tick.answer))?;
     Ok(log)
 }
 
-/// Writes both flights into a folder, the ticks as NAME-shield.csv and NAME-earlier.csv and the logs beside them as .log, and draws NAME.svg and
-/// NAME.png; what came of it, a line each.
-pub fn write(folder: &Path, name: &str, title: &str, pair: &Pair) -> io::Result<Vec<String>> {
+/// The name of a log of this flight, of so many; a flight of several has them numbered.
+pub fn log_name(name: &str, at: usize, of: usize) -> String {
+    match of {
+        1 => format!("{name}.log"),
+        _ => format!("{name}-{:03}.log", at + 1),
+    }
+}
+
+/// Several logs, each in a folder, as they are told of.
+pub fn told(folder: &Path, logs: &[String]) -> String {
+    match logs {
+        [first, .., last] => format!("{} to {last}", folder.join(first).display()),
+        _ => logs.iter().map(|log| folder.join(log).display().to_string()).collect(),
+    }
+}
+
+/// Writes a flight into a folder: every tick as NAME.csv, NAME.log or, where one is too short for it, NAME-001.log and so on, and NAME.flight. It takes the place of
+/// one of this name that was there before, with all of its logs. The logs, as they are told of.
+pub fn keep(folder: &Path, name: &str, flight: &Flight) -> io::Result<String> {
     std::fs::create_dir_all(folder)?;
+    csv(rows(flight), std::fs::File::create(folder.join(format!("{name}.csv")))?)?;
+    let mut series = LogSeries::new();
+    flight.ticks.iter().try_for_each(|tick| series.append(&tick.input, &tick.answer)).map_err(io::Error::other)?;
+    let logs = keep_logs(folder, name, &series)?;
+    let counts = series.logs().iter().map(Log::len);
+    let file = FlightFile::of(flight, logs.iter().cloned().zip(counts).collect());
+    std::fs::write(folder.join(format!("{name}.flight")), file.text())?;
+    Ok(told(folder, &logs))
+}
+
+/// The logs of a series, and none is left of a longer one, or of a shorter, that had this name.
+pub fn keep_logs(folder: &Path, name: &str, series: &LogSeries) -> io::Result<Vec<String>> {
+    let count = series.logs().len();
+    let logs: Vec<String> = (0..count).map(|at| log_name(name, at, count)).collect();
+    for (log, name) in series.logs().iter().zip(&logs) {
+        std::fs::write(folder.join(name), log.as_bytes())?;
+    }
+    if count > 1 {
+        gone(&folder.join(log_name(name, 0, 1)))?;
+    }
+    let first = if count == 1 { 0 } else { count };
+    for at in first.. {
+        if !gone(&folder.join(log_name(name, at, 2)))? {
+            break;
+        }
+    }
+    Ok(logs)
+}
+
+/// Removes a file; whether there was one.
+fn gone(file: &Path) -> io::Result<bool> {
+    match std::fs::remove_file(file) {
+        Err(error) if error.kind() == io::ErrorKind::NotFound => Ok(false),
+        other => other.map(|()| true),
+    }
+}
+
+/// The same as a line of what was written.
+pub fn kept(folder: &Path, name: &str, flight: &Flight) -> io::Result<String> {
+    let log = keep(folder, name, flight)?;
+    Ok(format!("every tick and the log: {0}.csv, {log}, {0}.flight", folder.join(name).display()))
+}
+
+/// Writes both flights into a folder, NAME-shield and NAME-earlier, and draws NAME.svg and NAME.png; what came of it, a line each.
+pub fn write(folder: &Path, name: &str, title: &str, pair: &Pair) -> io::Result<Vec<String>> {
     let (stem, [ours, _]) = (folder.join(name), &pair.flights);
     let drawn = pair.flights.each_ref().map(row);
-    let mut cut = String::new();
+    let mut logs = Vec::new();
     for (flight, row) in pair.flights.iter().zip(&drawn) {
-        let file = |kind: &str| folder.join(format!("{name}{}.{kind}", row.suffix));
-        csv(rows(flight), std::fs::File::create(file("csv"))?)?;
-        let log = log(flight).map_err(io::Error::other)?;
-        std::fs::write(file("log"), log.as_bytes())?;
-        if log.len() < flight.ticks.len() {
-            cut = format!(", the first {} ticks", log.len());
-        }
+        logs.push(keep(folder, &format!("{name}{}", row.suffix), flight)?);
     }
     let picture = Picture { title, thresholds: Some((ours.enter, ours.exit)), rows: &drawn };
     Ok(vec![
         format!("every tick: {0}-shield.csv, {0}-earlier.csv", stem.display()),
-        format!("the logs: {0}-shield.log, {0}-earlier.log{cut} (`make log FILE={0}-shield.log` shows one)", stem.display()),
+        format!("the logs: {} (`fosavalo log {}-shield.flight` shows one)", logs.join(", "), stem.display()),
+        format!("what they do not tell: {0}-shield.flight, {0}-earlier.flight", stem.display()),
         picture.draw(&stem)?,
     ])
 }

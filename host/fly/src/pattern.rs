@@ -162,12 +162,18 @@ impl Default for Draft {
 }
 
 /// A number so that reading it gives the same bits.
-fn exactly(x: f32) -> String {
+pub fn exactly(x: f32) -> String {
     if x.is_nan() {
         format!("0x{:08x}", x.to_bits())
     } else {
         brief(x)
     }
+}
+
+/// A leg's nineteen numbers.
+pub fn leg_words(leg: &Leg) -> String {
+    let vectors = [leg.p0, leg.v0, leg.a0, leg.pf, leg.vf, leg.af].map(|v| v.map(exactly).join(" ")).join("  ");
+    format!("{vectors}  {}", exactly(leg.t))
 }
 
 impl Expanded {
@@ -189,8 +195,7 @@ impl Expanded {
             self.pattern.as_bytes().len()
         )?;
         for (at, (leg, placed)) in self.route.legs().zip(&self.legs).enumerate() {
-            let vectors = [leg.p0, leg.v0, leg.a0, leg.pf, leg.vf, leg.af].map(|v| v.map(exactly).join(" ")).join("  ");
-            writeln!(to, "leg {vectors}  {}    # {}, of line {}", exactly(leg.t), at + 1, placed.line)?;
+            writeln!(to, "leg {}    # {}, of line {}", leg_words(&leg), at + 1, placed.line)?;
         }
         to.flush()
     }

@@ -140,17 +140,16 @@ pub fn table() -> Result<String, Refusal> {
 
 /// Writes both flights with the drawn seed into a folder, as CSV and as logs, and draws their margins; what came of it, a line each.
 pub fn write(folder: &Path) -> io::Result<Vec<String>> {
-    std::fs::create_dir_all(folder)?;
     let fly = |profile| fly(&SHOWN, profile, pass::DRAWN).map_err(io::Error::other);
     let flights = [("-lost", "A rotor lost: profile 1", fly(PROFILES[0])?), ("-whole", "The same aircraft, profile 0", fly(PROFILES[1])?)];
     let stem = folder.join("rotor");
+    let mut said = Vec::new();
     for (suffix, _, Down { flight, .. }) in &flights {
-        output::csv(output::rows(flight), std::fs::File::create(folder.join(format!("rotor{suffix}.csv")))?)?;
-        std::fs::write(folder.join(format!("rotor{suffix}.log")), output::log(flight).map_err(io::Error::other)?.as_bytes())?;
+        said.push(output::kept(folder, &format!("rotor{suffix}"), flight)?);
     }
     let rows = flights.each_ref().map(|(suffix, caption, Down { flight, .. })| Row { suffix, caption, ticks: &flight.ticks });
     let title = format!("{}, seed {}", title(), pass::DRAWN);
     let picture = Picture { title: &title, thresholds: Some((SHOWN.enter, SHOWN.exit)), rows: &rows };
-    let said = format!("every tick and the logs: {0}-lost.csv, {0}-whole.csv, {0}-lost.log, {0}-whole.log", stem.display());
-    Ok(vec![said, picture.draw(&stem)?])
+    said.push(picture.draw(&stem)?);
+    Ok(said)
 }

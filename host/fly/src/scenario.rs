@@ -51,13 +51,16 @@ impl fmt::Display for Mistake {
 impl std::error::Error for Mistake {}
 
 /// A field: its name, its first word, its count of words.
-type Field = (&'static str, usize, usize);
+pub type Field = (&'static str, usize, usize);
 
 /// The names of the profiles.
 pub const PROFILES: [(&str, Profile); 2] = [("whole", Profile::Whole), ("lost-rotor", Profile::LostRotor)];
 
-/// Where the cut-off stands; the sample rate follows it.
+/// Where the cut-off stands; the sample rate follows it, and then the profile.
 const FC: usize = 48;
+const PROFILE: usize = FC + 2;
+/// The fields that are several others at once.
+const SEVERAL: [&str; 2] = ["adrc", "set_up"];
 
 /// Document 01's words of a set-up.
 const SET_UP: [Field; 23] = [
@@ -106,17 +109,14 @@ fn find(fields: &[Field], name: &str) -> Option<Field> {
 impl Scenario {
     /// Never panics: any bytes are a scenario or a mistake.
     pub fn read(bytes: &[u8]) -> Result<Self, Mistake> {
-        let reader = Reader::of(bytes)?;
-        let route = reader.pattern.finish()?.map(|expanded| expanded.route);
-        if reader.inputs.is_empty() {
-            let what = "no ticks: a scenario has at least one line that begins with `tick` or `row`".to_string();
-            return Err(Mistake { line: 0, field: String::new(), what });
-        }
-        let set_up = SetUp::from_bytes(&bytes_of::<SETUP_BYTES>(&reader.set_up));
-        let set_up = set_up.map_err(|refusal| Mistake { line: 0, field: "set-up".to_string(), what: refusal.to_string() })?;
-        let set_up = SetUp { profile: reader.profile.map_or(Profile::Whole, |(_, profile)| profile), ..set_up };
-        Reader::filters(&reader.given, &set_up)?;
-        Ok(Scenario { set_up, route, inputs: reader.inputs })
+        let mut reader = Reader::of(bytes)?;
+        let inputs = std::mem::take(&mut reader.inputs);
+        let none = inputs.is_empty();
+        let (set_up, route) = reader.finish_with(|| match none {
+            true => Err("no ticks: a scenario has at least one line that begins with `tick` or `row`".to_string()),
+            false => Ok(()),
+        })?;
+        Ok(Scenario { set_up, route, inputs })
     }
 }
 
@@ -127,7 +127,7 @@ pub fn pattern(bytes: &[u8]) -> Result<Expanded, Mistake> {
     Reader::of(bytes)?.pattern.finish()?.ok_or_else(none)
 }
 
-struct Reader {
+pub struct Reader {
     set_up: Vec<f32>,
     /// The line at which each word of the set-up was given.
     given: Vec<usize>,
@@ -146,7 +146,7 @@ pub fn wrong<T>(field: &str, what: impl Into<String>) -> Result<T, Wrong> {
 }
 
 impl Reader {
-    fn new() -> Self {
+    pub fn new() -> Self {
         Reader {
             set_up: floats(&SetUp::falcon_quad().to_bytes()),
             given: vec![0; SETUP_BYTES / 4],
@@ -159,27 +159,35 @@ impl Reader {
 
     /// All lines of a file.
     fn of(bytes: &[u8]) -> Result<Self, Mistake> {
-        let text = std::str::from_utf8(bytes).map_err(|error| {
-            let line = bytes.iter().take(error.valid_up_to()).filter(|byte| **byte == b'\n').count() + 1;
-            Mistake { line, field: String::new(), what: "not UTF-8 text".to_string() }
-        })?;
         let mut reader = Reader::new();
-        for (at, line) in text.trim_start_matches('\u{feff}').lines().enumerate() {
-            let (words, _) = line.split_once('#').unwrap_or((line, ""));
-            // a brace is a word of its own
-            let words = words.replace('{', " { ").replace('}', " } ");
-            let words: Vec<&str> = words.split_whitespace().collect();
-            let mut rest = words.as_slice();
-            while let [name, more @ ..] = rest {
-                let (own, others) = more.split_at(pattern::own(name, more));
-                reader.line(at + 1, name, own).map_err(|(field, what)| Mistake { line: at + 1, field, what })?;
-                rest = others;
-            }
-        }
+        lines(bytes, |line, name, rest, _| reader.line(line, name, rest))?;
         Ok(reader)
     }
 
-    fn line(&mut self, line: usize, name: &str, rest: &[&str]) -> Result<(), Wrong> {
+    /// The first field of the set-up that was not given.
+    pub fn missing(&self) -> Option<&'static str> {
+        let word = self.given.iter().take(PROFILE).position(|line| *line == 0);
+        let field = word.and_then(|word| SET_UP.iter().find(|(_, first, count)| (*first..first + count).contains(&word)));
+        field.map(|field| field.0).or(self.profile.is_none().then_some("profile"))
+    }
+
+    /// The set-up, and the route where there are legs.
+    pub fn finish(self) -> Result<(SetUp, Option<Route>), Mistake> {
+        self.finish_with(|| Ok(()))
+    }
+
+    /// The same, with something else to be seen to before the set-up.
+    fn finish_with(self, first: impl FnOnce() -> Result<(), String>) -> Result<(SetUp, Option<Route>), Mistake> {
+        let route = self.pattern.finish()?.map(|expanded| expanded.route);
+        first().map_err(|what| Mistake { line: 0, field: String::new(), what })?;
+        let set_up = SetUp::from_bytes(&bytes_of::<SETUP_BYTES>(&self.set_up));
+        let set_up = set_up.map_err(|refusal| Mistake { line: 0, field: "set-up".to_string(), what: refusal.to_string() })?;
+        let set_up = SetUp { profile: self.profile.map_or(Profile::Whole, |(_, profile)| profile), ..set_up };
+        Reader::filters(&self.given, &set_up)?;
+        Ok((set_up, route))
+    }
+
+    pub fn line(&mut self, line: usize, name: &str, rest: &[&str]) -> Result<(), Wrong> {
         let of_pattern = ["leg", "repeat", "}"].contains(&name);
         if let (Some(repeat), false) = (self.pattern.inside(), of_pattern) {
             return wrong(name, format!("stands inside the repeat of line {repeat}, which holds legs and repeats"));
@@ -240,10 +248,7 @@ impl Reader {
     }
 
     fn leg(&mut self, line: usize, rest: &[&str]) -> Result<(), Wrong> {
-        let n = numbers(("leg", 0, LEG_BYTES / 4), rest)?;
-        let three = |at: usize| std::array::from_fn(|k| n.get(at + k).copied().unwrap_or(0.0));
-        let t = n.last().copied().unwrap_or(0.0);
-        self.pattern.leg(line, Leg { p0: three(0), v0: three(3), a0: three(6), pf: three(9), vf: three(12), af: three(15), t });
+        self.pattern.leg(line, leg_of(&numbers(("leg", 0, LEG_BYTES / 4), rest)?));
         Ok(())
     }
 
@@ -306,6 +311,59 @@ impl Reader {
     }
 }
 
+impl Default for Reader {
+    fn default() -> Self {
+        Reader::new()
+    }
+}
+
+/// Each field of a file with its line, its words, and the line as it is; without comments.
+pub fn lines(bytes: &[u8], mut field: impl FnMut(usize, &str, &[&str], &str) -> Result<(), Wrong>) -> Result<(), Mistake> {
+    let text = std::str::from_utf8(bytes).map_err(|error| {
+        let line = bytes.iter().take(error.valid_up_to()).filter(|byte| **byte == b'\n').count() + 1;
+        Mistake { line, field: String::new(), what: "not UTF-8 text".to_string() }
+    })?;
+    for (at, line) in text.trim_start_matches('\u{feff}').lines().enumerate() {
+        let (words, _) = line.split_once('#').unwrap_or((line, ""));
+        // a brace is a word of its own
+        let words = words.replace('{', " { ").replace('}', " } ");
+        let words: Vec<&str> = words.split_whitespace().collect();
+        let mut rest = words.as_slice();
+        while let [name, more @ ..] = rest {
+            let (own, others) = more.split_at(pattern::own(name, more));
+            field(at + 1, name, own, line).map_err(|(field, what)| Mistake { line: at + 1, field, what })?;
+            rest = others;
+        }
+    }
+    Ok(())
+}
+
+/// Whether this is a field that stands before the first tick.
+pub fn of_set_up(name: &str) -> bool {
+    find(&SET_UP, name).is_some() || ["profile", "leg", "repeat", "}"].contains(&name)
+}
+
+/// The numbers of a set-up by their fields, each once; the profile apart.
+pub fn set_up_words(set_up: &SetUp) -> impl Iterator<Item = (&'static str, Vec<f32>)> {
+    let each = SET_UP.into_iter().filter(|(name, ..)| !SEVERAL.contains(name));
+    by_field(each, floats(&set_up.to_bytes()))
+}
+
+/// And those of an input.
+pub fn input_words(input: &TickInput) -> impl Iterator<Item = (&'static str, Vec<f32>)> {
+    by_field(INPUT.into_iter(), floats(&input.to_bytes()))
+}
+
+fn by_field(fields: impl Iterator<Item = Field>, words: Vec<f32>) -> impl Iterator<Item = (&'static str, Vec<f32>)> {
+    fields.map(move |(name, first, count)| (name, words.iter().skip(first).take(count).copied().collect()))
+}
+
+/// A leg's nineteen numbers.
+pub fn leg_of(n: &[f32]) -> Leg {
+    let three = |at: usize| std::array::from_fn(|k| n.get(at + k).copied().unwrap_or(0.0));
+    Leg { p0: three(0), v0: three(3), a0: three(6), pf: three(9), vf: three(12), af: three(15), t: n.last().copied().unwrap_or(0.0) }
+}
+
 fn names() -> String {
     SET_UP.iter().chain(&INPUT).map(|field| field.0).collect::<Vec<_>>().join(", ")
 }
@@ -316,7 +374,7 @@ pub fn fields() -> [Vec<(&'static str, usize)>; 2] {
 }
 
 /// As many numbers as the field has words.
-fn numbers((name, _, count): Field, words: &[&str]) -> Result<Vec<f32>, Wrong> {
+pub fn numbers((name, _, count): Field, words: &[&str]) -> Result<Vec<f32>, Wrong> {
     if words.len() != count {
         return wrong(name, format!("takes {count} number{}, here are {}", if count == 1 { "" } else { "s" }, words.len()));
     }

@@ -163,11 +163,9 @@ fn points(thrice: &Thrice) -> String {
 
 /// Writes the flight into a folder, as CSV and as a log, and draws it from above; what came of it, a line each.
 pub fn write(folder: &Path) -> io::Result<Vec<String>> {
-    std::fs::create_dir_all(folder)?;
     let thrice = fly(pass::DRAWN).map_err(io::Error::other)?;
     let (stem, file) = (folder.join("thrice"), |kind: &str| folder.join(format!("thrice.{kind}")));
-    output::csv(output::rows(&thrice.flight), std::fs::File::create(file("csv"))?)?;
-    std::fs::write(file("log"), output::log(&thrice.flight).map_err(io::Error::other)?.as_bytes())?;
+    let said = output::kept(folder, "thrice", &thrice.flight)?;
     std::fs::write(file("points"), points(&thrice))?;
     let panels = thrice.last().saturating_sub(1);
     let caption = |round: usize| match round {
@@ -183,5 +181,5 @@ pub fn write(folder: &Path) -> io::Result<Vec<String>> {
         (1..=panels).map(|round| quoted(&caption(round))).collect::<Vec<_>>().join(", ")
     );
     let drawn = drawn(&stem, &settings, include_str!("../above.gp"));
-    Ok(vec![format!("every tick and the log: {0}.csv, {0}.log", stem.display()), drawn])
+    Ok(vec![said, drawn])
 }

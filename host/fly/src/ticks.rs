@@ -1,7 +1,7 @@
 //! Ticks one after another, and what can be told from them alone.
 
 use crate::vector::{norm, sub};
-use fosavalo::{Answer, LogView, Pilot, TickInput};
+use fosavalo::{Answer, Pilot, Record, TickInput};
 use std::ops::Deref;
 
 /// As long as a tick holds at most, s: the longest step that the rate controller takes, in f32. What comes later is a pause, in which nobody
@@ -29,10 +29,10 @@ impl Deref for Ticks {
 }
 
 impl Ticks {
-    /// Those of a log.
-    pub fn of(log: LogView) -> Self {
-        let mut ticks = Ticks::default();
-        log.iter().for_each(|record| ticks.push(record.input(), record.answer()));
+    /// Those of these records.
+    pub fn of(records: &[Record]) -> Self {
+        let mut ticks = Ticks(Vec::with_capacity(records.len()));
+        records.iter().for_each(|record| ticks.push(record.input(), record.answer()));
         ticks
     }
 

@@ -2,6 +2,7 @@
 
 use fly::check::{files, on_a_line, Given, Outcome};
 use fly::flight::{Flight, Rule};
+use fly::kept::Kept;
 use fly::output;
 use fly::pass;
 use fly::scenario::Scenario;
@@ -28,8 +29,12 @@ fn log(records: &[Words]) -> Log {
     log
 }
 
+fn of(log: &[u8], given: &Given) -> Outcome {
+    Outcome::of(&Kept::of_bytes(log), given)
+}
+
 fn told(records: &[Words], given: &Given) -> String {
-    Outcome::of(log(records).as_bytes(), given).expect("no log is refused").to_string()
+    of(log(records).as_bytes(), given).to_string()
 }
 
 const ONE: u32 = 0x3f80_0000;
@@ -109,7 +114,7 @@ fn what_is_wrong_is_found() {
         let given = Given { profile, enter: flight.enter, exit: flight.exit };
         let mut flown = output::log(&flight).expect("it fits").into_bytes();
         let records = (flown.len() - 12) / 108;
-        assert_eq!(Outcome::of(&flown, &given), Ok(Outcome::Right(records)));
+        assert_eq!(of(&flown, &given), Outcome::Right(records));
         let mut wrong = 0;
         for at in 0..27 {
             for (step, new) in [0, 1, 2, ONE, NAN, 0x8000_0000, 0xff80_0000, u32::MAX].into_iter().enumerate() {
@@ -117,7 +122,7 @@ fn what_is_wrong_is_found() {
                 let word = 108 * place + 4 * at..108 * place + 4 * at + 4;
                 let kept: [u8; 4] = flown[word.clone()].try_into().expect("four bytes");
                 flown[word.clone()].copy_from_slice(&u32::to_le_bytes(new));
-                let outcome = Outcome::of(&flown, &given).expect("no log is refused");
+                let outcome = of(&flown, &given);
                 if let Outcome::Wrong { faults, .. } = &outcome {
                     assert!(!faults.iter().any(|fault| fault.contains("no fault")), "{outcome}");
                     wrong += 1;
@@ -139,7 +144,7 @@ fn flown(scenario: &[u8]) -> Flight {
 fn flights() {
     let check = |flight: &Flight, profile, enter, exit| {
         let log = output::log(flight).expect("it fits");
-        Outcome::of(log.as_bytes(), &Given { profile, enter, exit }).expect("no log is refused")
+        of(log.as_bytes(), &Given { profile, enter, exit })
     };
     for (scenario, profile) in [
         (&include_bytes!("../scenarios/band.txt")[..], Profile::Whole),
@@ -192,7 +197,7 @@ fn the_command() {
     put(&folder, "broken", &[0; 12]);
     std::fs::create_dir(folder.join("empty")).expect("a folder");
     let with = |named: &[&str]| run(&[named, &THRESHOLDS].concat(), &folder);
-    let told = Outcome::of(wrong.as_bytes(), &GIVEN).expect("no log is refused");
+    let told = of(wrong.as_bytes(), &GIVEN);
     let refusal = LogView::from_bytes(&[0; 12]).expect_err("it is no log");
     assert_eq!(refusal, Refusal::BrokenLog);
     let ok = "right, 2 records";
@@ -261,14 +266,40 @@ fn many_files() {
 #[test]
 fn odd_names() {
     use std::os::unix::ffi::OsStrExt;
-    assert_eq!(on_a_line(Path::new("night/a b\nc\t.log")), "night/a b\\nc\\t.log");
+    assert_eq!(on_a_line("night/a b\nc\t.log"), "night/a b\\nc\\t.log");
     let odd = PathBuf::from(std::ffi::OsStr::from_bytes(b"\xff\n.log"));
-    assert_eq!(on_a_line(&odd), "\u{fffd}\\n.log");
+    assert_eq!(on_a_line(&odd.to_string_lossy()), "\u{fffd}\\n.log");
     let folder = checkout::scratch("checks-odd");
     put(&folder, "night/a.log", Log::new().as_bytes());
     std::os::unix::fs::symlink(folder.join("night"), folder.join("night/round")).expect("a link");
     std::os::unix::fs::symlink(folder.join("night/a.log"), folder.join("night/b.log")).expect("a link");
     std::os::unix::fs::symlink(folder.join("gone"), folder.join("night/c.log")).expect("a link");
-    let found: Vec<PathBuf> = files(&[folder.join("night")]).into_iter().map(|(path, _)| path).collect();
+    let found: Vec<PathBuf> = files(&[folder.join("night")], &["log"]).into_iter().map(|(path, _)| path).collect();
     assert_eq!(found, ["a.log", "b.log", "c.log"].map(|name| folder.join("night").join(name)));
+}
+
+/// For scripts: an object on a line for each flight, in order, with the words in bits.
+#[test]
+fn as_json() {
+    let folder = checkout::scratch("checks-json");
+    put(&folder, "a.log", log(&[HELD, FLOWN]).as_bytes());
+    put(&folder, "b.log", log(&[FLOWN, ([ONE, 0, 2], [ONE; 3], 1, f32::NAN), ([0; 3], [NAN, 0, 0], 1, 0.0)]).as_bytes());
+    put(&folder, "c\n.log", &[0; 12]);
+    put(&folder, "d-002.log", log(&[HELD]).as_bytes());
+    let names = ["a.log", "b.log", "c\n.log", "missing.log", "d-002.log"];
+    let (code, out, _) = run(&[&names[..], &THRESHOLDS, &["--json"]].concat(), &folder);
+    let lines: Vec<&str> = out.lines().collect();
+    assert_eq!((code, lines.len()), (Some(2), 5), "{out}");
+    assert_eq!(lines[0], r#"{"flight":"a.log","verdict":"right","records":2}"#);
+    assert_eq!(
+        lines[1],
+        r#"{"flight":"b.log","verdict":"wrong","record":3,"place":2,"faults":["its command's x is 7fc00000 (NaN), not finite"],"planner":["00000000","00000000","00000000"],"command":["7fc00000","00000000","00000000"],"flag":"00000001","margin":"00000000"}"#
+    );
+    let meaning = Refusal::BrokenLog.meaning();
+    assert_eq!(lines[2], format!(r#"{{"flight":"c\u000a.log","verdict":"refused","number":8,"why":"{meaning}"}}"#));
+    assert!(lines[3].starts_with(r#"{"flight":"missing.log","verdict":"unreadable","why":""#), "{}", lines[3]);
+    assert_eq!(
+        lines[4],
+        r#"{"flight":"d-002.log","verdict":"right","records":1,"as_if":"as if a flight began here (d-001.log is missing)"}"#
+    );
 }

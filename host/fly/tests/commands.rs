@@ -46,8 +46,8 @@ fn where_files_go() {
     for (arguments, to) in [(&["my.txt"][..], "flights"), (&["my.txt", "--out", "else/where"], "else/where")] {
         let (code, out, err) = said(&mut fly(arguments, &folder));
         assert_eq!((code, err.as_str()), (Some(0), ""));
-        assert!(out.contains(&format!("`make log FILE={to}/my-shield.log`")), "{out}");
-        for file in ["my-shield.csv", "my-earlier.csv", "my-shield.log", "my-earlier.log"] {
+        assert!(out.contains(&format!("`fosavalo log {to}/my-shield.flight`")), "{out}");
+        for file in ["my-shield.csv", "my-earlier.csv", "my-shield.log", "my-earlier.log", "my-shield.flight", "my-earlier.flight"] {
             assert!(folder.join(to).join(file).is_file(), "{file}");
         }
     }

@@ -15,15 +15,16 @@ fn the_table() {
 /// And of the pass of three legs, in which every flag is what the rule says.
 #[test]
 fn the_legs() {
-    let now = legs::table().expect("the legs meet");
+    let flight = legs::fly(pass::DRAWN).expect("the legs meet");
+    let now = legs::table(&flight);
     assert_eq!(now, include_str!("legs.txt"), "\n{now}");
-    assert_eq!(legs::fly(pass::DRAWN).expect("the legs meet").strays(), None);
+    assert_eq!(flight.strays(), None);
 }
 
 /// And of the pass whose segment is exchanged: the rule is kept over all of its ticks, so who flies is carried across, and ticks keep the peaks.
 #[test]
 fn the_exchanges() {
-    let now = exchange::table().expect("no pass is refused");
+    let now = exchange::table(&exchange::fly(pass::DRAWN).expect("no pass is refused"));
     assert_eq!(now, include_str!("exchange.txt"), "\n{now}");
     let mut carried = [0; 2];
     for seed in pass::SEEDS {

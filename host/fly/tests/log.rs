@@ -36,20 +36,11 @@ fn flights() -> [Flight; 5] {
 fn a_log_is_its_flight() {
     for flight in flights() {
         let log = output::log(&flight).expect("it fits");
-        let ticks = Ticks::of(log.view());
+        let ticks = Ticks::of(&log.iter().collect::<Vec<_>>());
         assert_eq!((log.len(), ticks.len()), (flight.ticks.len(), flight.ticks.len()));
         assert_eq!(ticks.changes(), flight.ticks.changes());
         assert!(csv(ticks.iter().map(|tick| tick.seconds).zip(&log)) == csv(output::rows(&flight)));
     }
-}
-
-/// A flight that is longer than a log: its first ticks.
-#[test]
-fn a_long_flight() {
-    let flight = flown(b"tick 65600");
-    let log = output::log(&flight).expect("what does not fit is left out");
-    assert_eq!(log.len(), MOST_RECORDS);
-    assert!(log.iter().zip(output::rows(&flight)).all(|(kept, (_, flown))| kept == flown));
 }
 
 /// Every cell of the CSV reads as the bits that it is, of flights and of records that no tick makes.

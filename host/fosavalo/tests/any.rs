@@ -187,7 +187,7 @@ fn logs_of_any_records() {
         for record in &view {
             copy.try_extend([record]).expect("it fits");
         }
-        copy.try_extend(&view).expect("it fits");
+        copy.try_extend(view).expect("it fits");
         assert_eq!(copy.iter().map(|record| *record.as_bytes()).collect::<Vec<_>>(), [&records[..], &records[..]].concat());
         assert_eq!(log.clone().into_bytes(), log.as_bytes());
     }

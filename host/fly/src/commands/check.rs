@@ -1,38 +1,44 @@
-//! `check LOGS --enter NUMBER --exit NUMBER`: whether logs, of whatever box, are what the shield's rule allows.
+//! `check LOGS`: whether flights, of whatever box, are what the shield's rule allows.
 
-use super::{Subcommand, NUMBER};
-use crate::arguments::{Arguments, ENTER, EXIT, PROFILE};
-use crate::check::{each, files, on_a_line, Given};
+use super::{Subcommand, LOGS, NUMBER};
+use crate::arguments::{Arguments, APART, ENTER, EXIT, JSON, PROFILE};
+use crate::check::{each, files, on_a_line, Task};
+use crate::kept::Kept;
 use crate::output::{note, print};
-use fosavalo::Profile;
+use std::collections::HashSet;
 use std::io::{self, IsTerminal, Write};
+use std::path::PathBuf;
 use std::time::{Duration, Instant};
 
 pub const SUBCOMMAND: Subcommand = Subcommand {
     name: "check",
-    takes: "LOG .. --enter NUMBER --exit NUMBER [--profile NAME]",
+    takes: "FLIGHT .. [--json]\nLOG .. --enter NUMBER --exit NUMBER [--profile NAME] [--apart] [--json]",
     brief: "logs of whatever box: whether each follows the shield's rule, or its first wrong record",
     about: || {
-        "Checks flight logs, of whatever box: whether each record's flag is the one that the log's own margins demand from a fresh
+        format!(
+            "Checks flights, of whatever box: whether each record's flag is the one that the log's own margins demand from a fresh
 shield, whether each that is flagged 0 carries the planner's words, with what is not finite made zero, and whether each
-flagged 1 carries finite ones. A line for each log, in the order given: right; or the first wrong record, what is wrong
+flagged 1 carries finite ones. A line for each flight, in the order given: right; or the first wrong record, what is wrong
 with it, and its words; or refused with the number and its meaning; or why it cannot be read. A folder is every file below
-it whose name ends in .log. Files are checked on all cores."
-            .to_string()
+it whose name ends in .log, or, where no thresholds are given, in .flight. Flights are checked on all cores.
+{LOGS}"
+        )
     },
     options: &[
-        (&[ENTER, EXIT], "the shield's thresholds, which a log does not tell"),
+        (&[ENTER, EXIT], "the shield's thresholds, which a log does not tell and a flight's file does"),
         (
             &[PROFILE],
-            "`whole` or 0, as it is if this is not given, or `lost-rotor` or 1: the third word that is passed on is
-then zero",
+            "`whole` or 0, as it is if nothing tells it, or `lost-rotor` or 1: the third word that is passed on is then
+zero",
         ),
+        (&[APART], "each log is a flight of its own, also where names end in -001, -002 .."),
+        (&[JSON], "as JSON, an object on a line"),
     ],
     more: || {
         format!(
-            "{NUMBER}. Records are counted from 1, as the ticks of the CSV; the place is counted from 0,
-as the core's verdict. Ends with 0 if all are right; with 1 if some are wrong; with 2 if some are refused or cannot be read, or
-nothing was checked, and a line on standard error says why."
+            "{NUMBER}. Records are counted from 1, as the ticks of the CSV;
+the place is counted from 0, as the core's verdict. Ends with 0 if all are right; with 1 if some are wrong; with 2 if some are
+refused or cannot be read, or nothing was checked, and a line on standard error says why."
         )
     },
     run,
@@ -43,15 +49,19 @@ fn run(arguments: &Arguments) -> Result<u8, String> {
         let example = "fosavalo check flights night/a.log --enter 0.03 --exit 0.07";
         return Err(arguments.which("logs", example) + "; the tests are `make test`");
     }
-    let (profile, thresholds) = (arguments.profile()?.unwrap_or(Profile::Whole), arguments.thresholds()?);
-    let (enter, exit) = thresholds.ok_or_else(|| arguments.no_thresholds())?;
-    let files = files(&arguments.named);
-    let (mut progress, mut written, mut counts) = (Progress::new(files.len()), Ok(()), [0; 3]);
-    each(&files, &Given { profile, enter, exit }, |path, outcome| {
+    arguments.profile()?;
+    let tasks = tasks(arguments)?;
+    let one_each = |task: &Task| task.as_ref().map_or(true, |(kept, _)| kept.file.is_none() && kept.logs.len() == 1);
+    let what = if tasks.iter().all(one_each) { "logs" } else { "flights" };
+    let (mut progress, mut written, mut counts) = (Progress::new(tasks.len()), Ok(()), [0; 3]);
+    each(&tasks, |called, as_if, outcome| {
         progress.erase();
         if written.is_ok() {
             // at one go, so that processes which share the output mix no lines
-            let line = format!("{}: {outcome}\n", on_a_line(path));
+            let line = match arguments.has(JSON) {
+                true => outcome.json(called, as_if) + "\n",
+                false => format!("{}: {}\n", on_a_line(called), outcome.told(as_if)),
+            };
             written = print(|to| to.write_all(line.as_bytes()));
         }
         counts[outcome.status()] += 1;
@@ -59,11 +69,35 @@ fn run(arguments: &Arguments) -> Result<u8, String> {
     });
     progress.erase();
     let [right, wrong, rest] = counts;
-    if files.len() > 1 {
-        note(&format!("check: {} logs: {right} right, {wrong} wrong, {rest} refused or unreadable", files.len()));
+    if tasks.len() > 1 {
+        note(&format!("check: {} {what}: {right} right, {wrong} wrong, {rest} refused or unreadable", tasks.len()));
     }
     written?;
     Ok(if rest > 0 { 2 } else { u8::from(wrong > 0) })
+}
+
+/// The flights that are named, each with what it is checked by. Of a folder's logs those are left out, where no thresholds are given, that a flight's file names.
+fn tasks(arguments: &Arguments) -> Result<Vec<Task>, String> {
+    let endings = if arguments.thresholds()?.is_some() { &["log"][..] } else { &["flight", "log"] };
+    let flights = Kept::named(&files(&arguments.named, endings), arguments.has(APART));
+    let with_file = flights.iter().flatten().filter(|kept| kept.file.is_some());
+    let told: HashSet<PathBuf> = with_file.flat_map(|kept| &kept.logs).map(|log| log.path.clone()).collect();
+    let by_its_file = |kept: &Kept| {
+        let found = |path: &PathBuf| told.contains(path) && !arguments.named.contains(path);
+        kept.file.is_none() && kept.logs.iter().all(|log| found(&log.path))
+    };
+    let mut tasks: Vec<Task> = Vec::new();
+    for flight in flights {
+        match flight {
+            Ok(kept) if by_its_file(&kept) => {}
+            Ok(kept) => {
+                let given = arguments.given(&kept)?.ok_or_else(|| arguments.no_thresholds(&kept))?;
+                tasks.push(Ok((kept, given)));
+            }
+            Err(why) => tasks.push(Err(why)),
+        }
+    }
+    Ok(tasks)
 }
 
 /// A line on standard error of how far it is, where that is a terminal and there are many files; gone when they are done.

@@ -79,8 +79,12 @@ fn run(arguments: &Arguments) -> Result<u8, String> {
     }
     if scenario.is_none() {
         let told = |table: Result<String, String>| show(&format!("\n{}", table?));
-        told(legs::table().map_err(|refusal| refusal.to_string()))?;
-        told(exchange::table().map_err(|refusal| refusal.to_string()))?;
+        let flight = legs::fly(pass::DRAWN).map_err(|refusal| refusal.to_string())?;
+        told(Ok(legs::table(&flight)))?;
+        lines(output::kept(&folder, "legs", &flight).map(|said| vec![said]))?;
+        let flown = exchange::fly(pass::DRAWN).map_err(|refusal| refusal.to_string())?;
+        told(Ok(exchange::table(&flown)))?;
+        lines(output::kept(&folder, "exchange", &flown.flight).map(|said| vec![said]))?;
         told(thrice::table())?;
         lines(thrice::write(&folder))?;
         told(curve::table().map_err(|refusal| refusal.to_string()))?;

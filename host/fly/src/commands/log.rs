@@ -1,11 +1,10 @@
-//! `log FILE`: a flight log as CSV, and its picture.
+//! `log FLIGHT`: a flight's records as CSV, and their picture.
 
-use super::{Subcommand, NUMBER};
+use super::{Subcommand, LOGS, NUMBER};
 use crate::arguments::{Arguments, ENTER, EXIT, OUT};
-use crate::output::{self, csv, note, of_file, print, read, title};
+use crate::output::{csv, note, of_file, print, title};
 use crate::picture::{Picture, Row};
 use crate::ticks::Ticks;
-use fosavalo::LogView;
 use std::io;
 use std::path::{Path, PathBuf};
 
@@ -13,19 +12,24 @@ const FOLDER: &str = "flights/drawn";
 
 pub const SUBCOMMAND: Subcommand = Subcommand {
     name: "log",
-    takes: "FILE [--enter NUMBER --exit NUMBER] [--out FOLDER]",
-    brief: "a log as CSV, and its picture",
+    takes: "FLIGHT [--out FOLDER]\nLOG .. [--enter NUMBER --exit NUMBER] [--out FOLDER]",
+    brief: "a flight's records as CSV, and their picture",
     about: || {
-        "Prints the flight log in FILE (`fosavalo fly` keeps one) as CSV on standard output, a record on a line under a line of names, and
-draws it where gnuplot is there. Bytes that are no log are refused with the number and its meaning."
-            .to_string()
+        format!(
+            "Prints a flight as CSV on standard output, a record on a line under a line of names, and draws it where gnuplot is there.
+{LOGS}"
+        )
     },
     options: &[
-        (&[ENTER, EXIT], "the shield's thresholds, which a log does not tell: the picture has them and the band between them"),
+        (
+            &[ENTER, EXIT],
+            "the shield's thresholds, which a log does not tell and a flight's file does: the picture has them and the
+band between them",
+        ),
         (
             &[OUT],
             "where the picture goes, `flights/drawn` if it is not given: NAME.svg and NAME.png, drawn from NAME.points;
-NAME is the log's",
+NAME is the flight's",
         ),
     ],
     more: || NUMBER.to_string(),
@@ -33,22 +37,20 @@ NAME is the log's",
 };
 
 fn run(arguments: &Arguments) -> Result<u8, String> {
-    let file = arguments.one("log", "fosavalo log flights/pass-shield.log")?;
-    let thresholds = arguments.thresholds()?;
+    let kept = arguments.flight("fosavalo log flights/pass-shield.flight")?;
+    let thresholds = arguments.given(&kept)?.map(|given| (given.enter, given.exit));
     let folder = arguments.path(OUT).unwrap_or(PathBuf::from(FOLDER));
-    let bytes = read(file).map_err(|error| of_file(file, error))?;
-    let log = LogView::from_bytes(&bytes).map_err(|refusal| of_file(file, refusal))?;
-    let ticks = Ticks::of(log);
-    print(|to| csv(ticks.iter().map(|tick| tick.seconds).zip(log), to))?;
-    let said = draw(file, &folder, &ticks, thresholds).map_err(|error| of_file(&folder, error))?;
+    let records = kept.records().map_err(|trouble| format!("{}: {trouble}", kept.called))?;
+    let ticks = Ticks::of(&records);
+    print(|to| csv(ticks.iter().map(|tick| tick.seconds).zip(records), to))?;
+    let said = draw(&kept.name, &folder, &ticks, thresholds).map_err(|error| of_file(&folder, error))?;
     note(&said);
     Ok(0)
 }
 
-fn draw(file: &Path, folder: &Path, ticks: &Ticks, thresholds: Option<(f32, f32)>) -> io::Result<String> {
+fn draw(name: &str, folder: &Path, ticks: &Ticks, thresholds: Option<(f32, f32)>) -> io::Result<String> {
     std::fs::create_dir_all(folder)?;
-    let name = output::name(file);
-    let title = title(&name, ticks, thresholds);
+    let title = title(name, ticks, thresholds);
     let row = Row { suffix: "", caption: "As the log has it", ticks };
-    Picture { title: &title, thresholds, rows: &[row] }.draw(&folder.join(&name))
+    Picture { title: &title, thresholds, rows: &[row] }.draw(&folder.join(name))
 }

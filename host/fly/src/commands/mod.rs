@@ -5,6 +5,9 @@ mod expand;
 mod explain;
 mod fly;
 mod log;
+pub mod new;
+mod replay;
+mod salvage;
 
 use crate::arguments::{Arguments, Asked, Opt};
 use crate::output::{note, print};
@@ -27,10 +30,24 @@ pub struct Subcommand {
     run: fn(&Arguments) -> Result<u8, String>,
 }
 
-pub const SUBCOMMANDS: [Subcommand; 5] = [fly::SUBCOMMAND, log::SUBCOMMAND, explain::SUBCOMMAND, check::SUBCOMMAND, expand::SUBCOMMAND];
+pub const SUBCOMMANDS: [Subcommand; 8] = [
+    fly::SUBCOMMAND,
+    new::SUBCOMMAND,
+    log::SUBCOMMAND,
+    explain::SUBCOMMAND,
+    check::SUBCOMMAND,
+    replay::SUBCOMMAND,
+    salvage::SUBCOMMAND,
+    expand::SUBCOMMAND,
+];
 
 /// What the help says of a number.
-const NUMBER: &str = "A number is a decimal, nan, inf,\n-inf, or 0x and the bits";
+const NUMBER: &str = "A number is a decimal, nan, inf, -inf, or 0x and the bits";
+
+/// And of what stands for a flight.
+const LOGS: &str =
+    "A flight is named by its own file, NAME.flight, which `fosavalo fly` writes; by its log; or by its logs where it has several,
+NAME-001.log, NAME-002.log .., which are one flight. Bytes that are no log are refused with the number and its meaning.";
 
 impl Subcommand {
     /// What `--help` says.
@@ -62,7 +79,7 @@ fn help() -> String {
     format!(
         "fosavalo SUBCOMMAND ..
 
-Flights through the proved core: flown, kept as logs, checked, explained.
+Flights through the proved core: flown, kept as logs, checked, explained, flown again.
 
 {each}
 `fosavalo SUBCOMMAND --help` has what each takes. Options stand anywhere, as `--enter 0.03` or `--enter=0.03`; behind `--` nothing is one, and

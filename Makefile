@@ -4,14 +4,15 @@
 #                  The files go to flights/, which nothing here removes
 #                  `make fly SCENARIO=my.txt` flies that file instead (docs/FLYING.md); OUT=folder has the files elsewhere;
 #                  INSTALL=no installs nothing for the picture
-# make log         a flight log as CSV on standard output, and its picture: `make log FILE=flights/pass-shield.log` (docs/FLYING.md);
-#                  with ENTER=0.03 EXIT=0.07 the picture has these thresholds; OUT and INSTALL as above
-# make explain     a flight log in words: who flew from which record to which and which margin made it so, and where the log's own flags differ:
-#                  `make explain FILE=flights/pass-shield.log ENTER=0.03 EXIT=0.07`; with CSV=yes as CSV (docs/FLYING.md)
-# make check       flight logs of whatever box: whether each follows the shield's rule, or its first wrong record and what is wrong with it; files or folders:
+# make log         a flight as CSV on standard output, and its picture: `make log FILE=flights/pass-shield.flight`, or a log (docs/FLYING.md);
+#                  with ENTER=0.03 EXIT=0.07 the picture of a log has these thresholds; OUT and INSTALL as above
+# make explain     a flight in words: who flew from which record to which and which margin made it so, and where the log's own flags differ:
+#                  `make explain FILE=flights/pass-shield.flight`, or a log with ENTER=0.03 EXIT=0.07; with CSV=yes as CSV (docs/FLYING.md)
+# make check       flights of whatever box: whether each follows the shield's rule, or its first wrong record and what is wrong with it; files or folders:
 #                  `make check LOGS="flights/pass-shield.log night" ENTER=0.03 EXIT=0.07`; with PROFILE=lost-rotor as flown with a rotor lost (docs/FLYING.md)
 # make expand      a pattern of legs and repeats, as text: its legs as they are flown, and the bytes of both, in flights/:
-#                  `make expand FILE=host/fly/scenarios/loop.txt` (docs/FLYING.md); OUT as above
+#                  `make expand FILE=host/fly/scenarios/loop.txt` (docs/FLYING.md); OUT as above. All of these are one program's, which has more:
+#                  `host/target/release/fosavalo --help`
 # make choices     the pass with other choices of set, filter and noise: what hangs on them
 # make test        the gate: proofs, must-fail edits, programs, the host's comparisons; its last line is `N passed, 0 failed`.
 #                  What the prover says is kept in gate/. Where an emulator cannot be had it ends with `, M skipped` (README.md)

@@ -8,7 +8,6 @@ use crate::pass::{self, Choice, Heading, Way, SECONDS};
 use crate::picture::{Picture, Row};
 use crate::ticks::Ticks;
 use crate::vector::V3;
-use crate::{legs, planner::Reference};
 use fosavalo::{Answer, Image, Leg, Pilot, RecoverableSet, Refusal, Route};
 use std::fmt::Write;
 use std::io;
@@ -59,14 +58,14 @@ pub struct Curved {
 }
 
 pub fn fly(choice: &Choice, seed: u64) -> Result<Curved, Refusal> {
-    let legs = circle();
+    let route = Route::new(&circle())?;
     let heading = |seconds| {
         let [yaw, turn, _] = turn(seconds);
         Heading { yaw, turn, own: true }
     };
-    let (mut margins, reference) = (Vec::new(), |time| -> Reference { legs::reference(&legs, time) });
+    let (mut margins, reference) = (Vec::new(), |time| Ok(route.sample(time)?.into()));
     let look = |image: &Image, answer: &Answer| margins.push(margin_before(&choice.set, image, answer.psi));
-    let flight = pass::fly_along(choice, seed, Rule::Shield, Some(Route::new(&legs)?), Way { reference, heading }, look)?;
+    let flight = pass::fly_along(choice, seed, Rule::Shield, Some(route.clone()), Way { reference, heading }, look)?;
     let mut before = Ticks::default();
     let pilots = flight.rule.pilots(flight.enter, flight.exit, margins.iter().copied());
     for ((tick, margin), pilot) in flight.ticks.iter().zip(&margins).zip(pilots) {

@@ -2,7 +2,6 @@
 //! last one is at that time; who flies is carried across, and the peaks of the jerk are read off the image.
 
 use crate::flight::{Flight, Rule};
-use crate::legs;
 use crate::pass::{self, Air, DT, FROM, TICKS, TO};
 use crate::planner::Planner;
 use crate::random::Random;
@@ -37,16 +36,15 @@ pub fn fly(seed: u64) -> Result<Exchanged, Refusal> {
     let mut stretches = vec![Stretch { from: 0, pilot: image.pilot(), peaks: image.peak_abs_jerk() }];
     for k in 0..TICKS {
         if let Some(&(_, end, t)) = EXCHANGES.iter().find(|(at, ..)| *at == k) {
-            let now = legs::reference(&[leg], image.time());
-            let [p0, v0, a0] = [now.position, now.velocity, now.acceleration].map(single);
-            leg = Leg { p0, v0, a0, pf: single(end), vf: [0.0; 3], af: [0.0; 3], t };
+            let now = leg.sample(image.time())?;
+            leg = Leg { p0: now.position, v0: now.velocity, a0: now.acceleration, pf: single(end), vf: [0.0; 3], af: [0.0; 3], t };
             let pilot = image.pilot();
             flight.exchange(&mut image, &leg)?;
             stretches.push(Stretch { from: k as usize, pilot, peaks: image.peak_abs_jerk() });
         }
         let heading = pass::heading(k as f64 * f64::from(DT));
         let rate = |attitude: Quat, wanted: V3| planner.rate(attitude, wanted, heading.yaw, f64::from(DT), &mut whims);
-        let reference = legs::reference(&[leg], image.time());
+        let reference = leg.sample(image.time())?.into();
         air.tick(&mut flight, &mut image, &reference, &heading, rate)?;
     }
     Ok(Exchanged { flight, stretches })

@@ -2,7 +2,6 @@
 
 use crate::flight::{Flight, Rule};
 use crate::pass::{self, Way, FROM, TO};
-use crate::planner::Reference;
 use crate::vector::V3;
 use fosavalo::{Leg, Pilot, Refusal, Route};
 use std::fmt::Write;
@@ -23,52 +22,18 @@ pub fn legs() -> Vec<Leg> {
     ENDS.into_iter().map(leg).collect()
 }
 
-/// Which leg, counted from 0, is flown at a time, and how long it has been: as the core has it.
-pub fn flown(legs: &[Leg], time: f32) -> (usize, f32) {
-    let mut from = 0.0;
-    for (at, leg) in legs.iter().enumerate() {
-        if time < from + leg.t {
-            return (at, time - from);
-        }
-        from += leg.t;
-    }
-    (legs.len().saturating_sub(1), legs.last().map_or(0.0, |leg| leg.t))
-}
-
-/// Where the route is at a time: the leg's quintic, as the core has it.
-pub fn reference(legs: &[Leg], time: f32) -> Reference {
-    let (at, x) = flown(legs, time);
-    let (Some(leg), x) = (legs.get(at), f64::from(x)) else {
-        return Reference { position: FROM, velocity: [0.0; 3], acceleration: [0.0; 3] };
-    };
-    let axis = |k: usize| {
-        let t = f64::from(leg.t);
-        let [p0, v0, a0, pf, vf, af] = [leg.p0, leg.v0, leg.a0, leg.pf, leg.vf, leg.af].map(|v| f64::from(v[k]));
-        let (dp, dv, da) = (pf - p0 - v0 * t - 0.5 * a0 * t * t, (vf - v0 - a0 * t) * t, (af - a0) * t * t);
-        let (c3, c4, c5) = (10.0 * dp - 4.0 * dv + 0.5 * da, -15.0 * dp + 7.0 * dv - da, 6.0 * dp - 3.0 * dv + 0.5 * da);
-        let s = x / t;
-        [
-            p0 + v0 * x + 0.5 * a0 * x * x + s * s * s * (c3 + s * (c4 + s * c5)),
-            v0 + a0 * x + s * s * (3.0 * c3 + s * (4.0 * c4 + s * 5.0 * c5)) / t,
-            a0 + s * (6.0 * c3 + s * (12.0 * c4 + s * 20.0 * c5)) / (t * t),
-        ]
-    };
-    let axes: [[f64; 3]; 3] = std::array::from_fn(axis);
-    let of = |what: usize| axes.map(|axis| axis[what]);
-    Reference { position: of(0), velocity: of(1), acceleration: of(2) }
-}
-
 /// The pass as drawn, on the route.
 pub fn fly(seed: u64) -> Result<Flight, Refusal> {
-    let legs = legs();
-    let way = Way { reference: |time| reference(&legs, time), heading: pass::heading };
-    pass::fly_along(&pass::SHOWN, seed, Rule::Shield, Some(Route::new(&legs)?), way, |_, _| {})
+    let route = Route::new(&legs())?;
+    let way = Way { reference: |time| Ok(route.sample(time)?.into()), heading: pass::heading };
+    pass::fly_along(&pass::SHOWN, seed, Rule::Shield, Some(route.clone()), way, |_, _| {})
 }
 
 /// What happened on each leg.
 pub fn table(flight: &Flight) -> String {
     let legs = legs();
-    let leg_of = |tick: &crate::ticks::Tick| flown(&legs, tick.answer.time).0;
+    let leg_at = |time: f32| flight.route.as_ref()?.sample(time).ok().map(|sample| sample.leg as usize);
+    let leg_of = |tick: &crate::ticks::Tick| leg_at(tick.answer.time).unwrap_or(0);
     let changes = flight.ticks.changes();
     let mut text = format!("A pass of three legs on a route, seed {}, our shield: {} ticks\n\n", pass::DRAWN, flight.ticks.len());
     let _ = writeln!(text, "{:6}   {:>7} {:>7} {:>7} {:>9} {:>10}", "", "seconds", "ticks", "changes", "planner", "furthest");

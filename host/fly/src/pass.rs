@@ -64,13 +64,12 @@ pub const CHOICES: [Choice; 9] = [
 ];
 
 pub fn set_up(choice: &Choice) -> SetUp {
-    let single = |v: V3| v.map(|x| x as f32);
     SetUp {
         set: choice.set,
         enter: choice.enter,
         exit: choice.exit,
         governor: Governor { err_lo: 0.3, err_hi: 1.5, g_min: 0.25 },
-        segment: Segment { p0: single(FROM), pf: single(TO), t: SECONDS as f32, ..SetUp::falcon_quad().segment },
+        segment: segment(),
         filter: GyroFilter { fc: choice.fc, fs: 1000.0 },
         ..SetUp::falcon_quad()
     }
@@ -81,16 +80,15 @@ pub fn title() -> String {
     format!("A slow pass above a stage: {SECONDS} s in {TICKS} ticks, enter {enter}, exit {exit}")
 }
 
-/// Where the trajectory is at a time: a quintic from rest to rest, as the core has it.
-pub fn reference(time: f32) -> Reference {
-    let x = (f64::from(time) / SECONDS).clamp(0.0, 1.0);
-    let way = sub(TO, FROM);
-    let (p, v, a) = (
-        x * x * x * (10.0 + x * (6.0 * x - 15.0)),
-        30.0 * x * x * (1.0 + x * (x - 2.0)) / SECONDS,
-        60.0 * x * (1.0 + x * (2.0 * x - 3.0)) / (SECONDS * SECONDS),
-    );
-    Reference { position: std::array::from_fn(|k| FROM[k] + p * way[k]), velocity: way.map(|w| v * w), acceleration: way.map(|w| a * w) }
+/// From rest to rest.
+fn segment() -> Segment {
+    let single = |v: V3| v.map(|x| x as f32);
+    Segment { p0: single(FROM), pf: single(TO), t: SECONDS as f32, ..SetUp::falcon_quad().segment }
+}
+
+/// Where the trajectory is at a time, by the core.
+pub fn reference(time: f32) -> Result<Reference, Refusal> {
+    Ok(segment().sample(time)?.into())
 }
 
 /// Flies the pass. The noise, the planner's whims and everything else depend on the seed alone.
@@ -123,12 +121,12 @@ pub fn fly_along(
     seed: u64,
     rule: Rule,
     route: Option<Route>,
-    Way { reference, heading }: Way<impl Fn(f32) -> Reference, impl Fn(f64) -> Heading>,
+    Way { reference, heading }: Way<impl Fn(f32) -> Result<Reference, Refusal>, impl Fn(f64) -> Heading>,
     mut look: impl FnMut(&Image, &Answer),
 ) -> Result<Flight, Refusal> {
     let (mut flight, mut image) = Flight::begin(&set_up(choice), rule, route)?;
     let mut whims = Random::new(2 * seed);
-    let mut air = Air::at(reference(0.0).position, heading(0.0).yaw, choice.gyro_noise, seed);
+    let mut air = Air::at(reference(0.0)?.position, heading(0.0).yaw, choice.gyro_noise, seed);
     let mut planner = Planner::new(&mut whims);
     for k in 0..TICKS {
         let heading = heading(k as f64 * f64::from(DT));
@@ -136,7 +134,7 @@ pub fn fly_along(
             true => Planner::rate_of(attitude, wanted, heading.yaw, heading.turn),
             false => planner.rate(attitude, wanted, heading.yaw, f64::from(DT), &mut whims),
         };
-        let answer = air.tick(&mut flight, &mut image, &reference(air.last.time), &heading, rate)?;
+        let answer = air.tick(&mut flight, &mut image, &reference(air.last.time)?, &heading, rate)?;
         look(&image, &answer);
     }
     Ok(flight)

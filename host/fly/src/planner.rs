@@ -3,6 +3,7 @@
 use crate::aircraft::GRAVITY;
 use crate::random::Random;
 use crate::vector::{add, axes, cross, dot, error, scale, sub, unit, Quat, M3, V3};
+use fosavalo::Sample;
 
 /// Position and velocity gains, 1/s² and 1/s, and the most that they may ask for, m/s².
 const HOLD: f64 = 1.2;
@@ -19,6 +20,13 @@ pub struct Reference {
     pub position: V3,
     pub velocity: V3,
     pub acceleration: V3,
+}
+
+impl From<Sample> for Reference {
+    fn from(Sample { position, velocity, acceleration, .. }: Sample) -> Self {
+        let [position, velocity, acceleration] = [position, velocity, acceleration].map(|v| v.map(f64::from));
+        Reference { position, velocity, acceleration }
+    }
 }
 
 pub struct Planner {

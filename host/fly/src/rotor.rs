@@ -6,7 +6,7 @@ use crate::flight::{Flight, Rule};
 use crate::output;
 use crate::pass::{self, Air, Choice, Heading, DT, TICKS};
 use crate::picture::{Picture, Row};
-use crate::planner::{Planner, Reference};
+use crate::planner::Planner;
 use crate::random::Random;
 use crate::vector::{Quat, V3};
 use fosavalo::{Profile, RecoverableSet, Refusal, Segment, SetUp};
@@ -64,13 +64,12 @@ pub fn fly(choice: &Choice, profile: Profile, seed: u64) -> Result<Down, Refusal
         }
         let heading = pass::heading(k as f64 * f64::from(DT));
         let rate = |attitude: Quat, wanted: V3| planner.rate(attitude, wanted, heading.yaw, f64::from(DT), &mut whims);
-        air.tick(&mut flight, &mut image, &pass::reference(air.last.time), &heading, rate)?;
+        air.tick(&mut flight, &mut image, &pass::reference(air.last.time)?, &heading, rate)?;
     }
 
     air.aircraft.rotors = Rotors::Three;
     let (from, heading) = (air.aircraft.position, Heading { turn: 0.0, ..pass::heading(STOPS as f64 * f64::from(DT)) });
     let straight = |seconds: f64| [from[0], from[1], from[2] + DESCENT * seconds];
-    let reference = |time: f32| Reference { position: straight(f64::from(time)), velocity: [0.0, 0.0, DESCENT], acceleration: [0.0; 3] };
     let (along, single) = ([0.0, 0.0, DESCENT as f32], |v: V3| v.map(|x| x as f32));
     let segment = Segment {
         p0: single(from),
@@ -89,7 +88,7 @@ pub fn fly(choice: &Choice, profile: Profile, seed: u64) -> Result<Down, Refusal
             Profile::LostRotor => Planner::rate_level(attitude),
             Profile::Whole => Planner::rate_of(attitude, [0.0; 3], heading.yaw, heading.turn),
         };
-        time = air.tick(&mut down.flight, &mut image, &reference(time), &heading, rate)?.time;
+        time = air.tick(&mut down.flight, &mut image, &segment.sample(time)?.into(), &heading, rate)?.time;
         down.last_tilt = air.aircraft.tilt();
         down.tilt = down.tilt.max(down.last_tilt);
         down.descent = down.descent.max(air.aircraft.velocity[2]);

@@ -2,15 +2,14 @@
 //! it from above, each round by itself.
 
 use crate::flight::{Flight, Rule};
-use crate::legs;
 use crate::output;
 use crate::pass::{self, Air, Choice, Heading, DT};
 use crate::pattern::Expanded;
 use crate::picture::{drawn, quoted};
-use crate::planner::Planner;
+use crate::planner::{Planner, Reference};
 use crate::scenario;
 use crate::vector::{Quat, V3};
-use fosavalo::{Leg, Pilot, RecoverableSet};
+use fosavalo::{Pilot, RecoverableSet, Route, Sample};
 use std::fmt::Write;
 use std::io;
 use std::path::Path;
@@ -36,7 +35,7 @@ pub struct Thrice {
     pub flight: Flight,
     /// Where the aircraft was at each tick.
     pub places: Vec<V3>,
-    pub legs: Vec<Leg>,
+    pub route: Route,
     /// The round of each leg, counted from 1; 0 before the first, and after the last one more than its.
     pub rounds: Vec<usize>,
 }
@@ -66,16 +65,15 @@ pub fn fly(seed: u64) -> Result<Thrice, String> {
 }
 
 fn along(expanded: &Expanded, seed: u64) -> Result<Thrice, fosavalo::Refusal> {
-    let legs: Vec<Leg> = expanded.route.legs().collect();
     let (mut flight, mut image) = Flight::begin(&pass::set_up(&CHOICE), Rule::Shield, Some(expanded.route.clone()))?;
-    let mut air = Air::at(legs::reference(&legs, 0.0).position, NORTH.yaw, CHOICE.gyro_noise, seed);
+    let mut air = Air::at(Reference::from(expanded.route.sample(0.0)?).position, NORTH.yaw, CHOICE.gyro_noise, seed);
     let mut places = Vec::new();
     for _ in 0..((expanded.seconds() + REST) / f64::from(DT)).round() as u64 {
         let rate = |attitude: Quat, wanted: V3| Planner::rate_of(attitude, wanted, NORTH.yaw, NORTH.turn);
         places.push(air.aircraft.position);
-        air.tick(&mut flight, &mut image, &legs::reference(&legs, air.last.time), &NORTH, rate)?;
+        air.tick(&mut flight, &mut image, &expanded.route.sample(air.last.time)?.into(), &NORTH, rate)?;
     }
-    Ok(Thrice { flight, places, legs, rounds: rounds(expanded) })
+    Ok(Thrice { flight, places, route: expanded.route.clone(), rounds: rounds(expanded) })
 }
 
 /// What happened in a part of the flight.
@@ -94,7 +92,8 @@ impl Thrice {
     /// The round that each tick is of.
     fn round_of(&self, at: usize) -> usize {
         let time = self.flight.ticks.get(at).map_or(0.0, |tick| tick.answer.time);
-        self.rounds.get(legs::flown(&self.legs, time).0).copied().unwrap_or(0)
+        let leg = self.route.sample(time).map_or(0, |sample| sample.leg as usize);
+        self.rounds.get(leg).copied().unwrap_or(0)
     }
 
     pub fn part(&self, round: usize) -> Part {
@@ -144,9 +143,9 @@ pub fn table() -> Result<String, String> {
 /// who flew.
 fn points(thrice: &Thrice) -> String {
     let mut text = String::new();
-    let seconds: f32 = thrice.legs.iter().map(|leg| leg.t).sum();
+    let seconds: f32 = thrice.route.legs().map(|leg| leg.t).sum();
     for k in 0..=(20.0 * seconds) as usize {
-        let [north, east, _] = legs::reference(&thrice.legs, k as f32 / 20.0).position;
+        let Ok(Sample { position: [north, east, _], .. }) = thrice.route.sample(k as f32 / 20.0) else { break };
         let _ = writeln!(text, "{east:e} {north:e}");
     }
     let panel = |at: usize| thrice.round_of(at).clamp(1, thrice.last().saturating_sub(1).max(1));

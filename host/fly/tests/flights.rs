@@ -48,8 +48,8 @@ fn the_legs_in_pieces() {
     for (leg, count) in legs.iter().zip([11u8, 11, 10]) {
         let t = leg.t / f32::from(count);
         let at = |k: u8| {
-            let there = legs::reference(&[*leg], t * f32::from(k));
-            [there.position, there.velocity, there.acceleration].map(|v| v.map(|x| x as f32))
+            let there = leg.sample(t * f32::from(k)).expect("a leg by itself is a route");
+            [there.position, there.velocity, there.acceleration]
         };
         for k in 0..count {
             let ([p0, v0, a0], [pf, vf, af]) = (at(k), if k + 1 == count { [leg.pf, leg.vf, leg.af] } else { at(k + 1) });
@@ -104,7 +104,8 @@ fn the_loop() {
         let flown = thrice::fly(seed).expect("the pattern is one");
         assert_eq!((flown.flight.strays(), flown.places.len()), (None, flown.flight.ticks.len()));
         assert_eq!(flown.rounds, [0, 1, 1, 1, 1, 2, 2, 2, 2, 3, 3, 3, 3, 4]);
-        assert!(flown.legs[1..5] == flown.legs[5..9] && flown.legs[1..5] == flown.legs[9..13] && flown.legs[0] != flown.legs[4]);
+        let legs: Vec<Leg> = flown.route.legs().collect();
+        assert!(legs[1..5] == legs[5..9] && legs[1..5] == legs[9..13] && legs[0] != legs[4]);
         for round in 1..=3 {
             let part = flown.part(round);
             assert!((7_900..8_100).contains(&part.ticks) && part.furthest < 0.3, "round {round} of seed {seed}");

@@ -1,4 +1,4 @@
--- What a desk tick leaves by what its calls gave, on either course. Of the core it takes the promises and two laws: it is refused for what `coreRefusal` says, and then changes nothing. Assumes nothing.
+-- What a desk tick leaves by what its calls gave, on either course. Of the core it takes the promises and two laws: it is done unless `coreRefusal` refuses, and then changes nothing. Assumes nothing.
 use Rattle.laws.proofs.Prelude.{_≡_, refl, sym, ap, _∙_, Bool, true, false, List, [], _∷_, ℕ, suc, _*_, Float, length, length-sets}
 use Rattle.words.{specs.Words.{word, bits, bytesOf, Put}, proofs.{Written.{then, put-over}, Standing.{Bytes, word-stands}}}
 use Rattle.image.specs.Layout.{YAW, INPUT-BYTES}
@@ -12,17 +12,14 @@ use Rattle.desk.specs.{declared.{filters.Desk.Desk, entry.DeskOutcome.{D
 use Rattle.desk.specs.Entry.{withHeading, moved, flownInput, LentToDesk, lentToDesk, DeskCourse, OnSegment, OnRoute, coreRefusal, coreCall, tickRefusalAt, deskTickCall}
 
 -- the lent input keeps its length
-pub heading-length : (input : List ℕ) (x y : Float) → length (withHeading input x y) ≡ length input
-unfolding withHeading
-heading-length input x y = length-sets input (4 * YAW) (bytesOf (bits x ∷ bits y ∷ []))
-
 pub flown-length : (desk sticks input : List ℕ) → length (flownInput desk sticks input) ≡ length input
-unfolding flownInput
-flown-length desk sticks input = heading-length input _ _
+unfolding flownInput withHeading
+flown-length desk sticks input = let d = moved desk sticks input in length-sets input (4 * YAW) (bytesOf (bits (d .heading .y) ∷ bits (d .turn .y) ∷ []))
 
 -- ---- the core, on either course
 
-pub core-done : (course : DeskCourse) (image input answer : List ℕ) → isDone (coreRefusal course image (length input) (length answer)) ≡ true → coreCall course image input answer .outcome ≡ Done
+pub core-done : (course : DeskCourse) (image input answer : List ℕ)
+    → isDone (coreRefusal course image (length input) (length answer)) ≡ true → coreCall course image input answer .outcome ≡ Done
 unfolding tickCall routeCall tickFrom
 core-done OnSegment image input answer e = rw e
 core-done (OnRoute route) image input answer e = rw e
@@ -38,7 +35,8 @@ as-a-tick : (course : DeskCourse) (image : List ℕ) (inputLen answerLen : ℕ) 
 as-a-tick OnSegment image inputLen answerLen e = refl
 as-a-tick (OnRoute route) image inputLen answerLen e = FormRefusals.in-their-turn image inputLen answerLen route ∙ rw e
 
-pub also-a-tick : (course : DeskCourse) (image : List ℕ) (inputLen answerLen : ℕ) → isDone (coreRefusal course image inputLen answerLen) ≡ true → isDone (tickRefusal image inputLen answerLen) ≡ true
+pub also-a-tick : (course : DeskCourse) (image : List ℕ) (inputLen answerLen : ℕ)
+    → isDone (coreRefusal course image inputLen answerLen) ≡ true → isDone (tickRefusal image inputLen answerLen) ≡ true
 also-a-tick course image inputLen answerLen e = go (isDone (tickRefusal image inputLen answerLen)) refl
   where
     go : (t : Bool) → isDone (tickRefusal image inputLen answerLen) ≡ t → t ≡ true

@@ -21,8 +21,8 @@ demand-three-beside-desk desk setup calls t right =
     subst (λ (image : List ℕ). Shows (Flies (enterOf setup) (exitOf setup) (marginsAlong (start setup) before ++ guided image t .margin ∷ [])) image t)
     (sym (core-sees first calls)) (demand-three setup before t right)
 
--- Demand 3 as crate `runs` has it, of a tick by the desk: after the same calls, with a desk of the right length, a desk tick of right lengths, on the image's segment or a right route. It is accepted, and what it answers is the
--- answer of the core's tick of the input that it left.
+-- Demand 3 as crate `runs` has it, of a tick by the desk: after the same calls, with a desk of the right length, a desk tick of right lengths, on the image's segment or on a right route.
+-- It is accepted, and what it answers is the answer of the core's tick of the input that it left.
 pub demand-three-by-desk : (desk setup : List ℕ) (calls : List AnyCall) (g : DeskGiven)
     → RightCourse (g .course) → length desk ≡ DESK-BYTES → length (g .sticks) ≡ STICKS-BYTES → length (g .input) ≡ INPUT-BYTES → length (g .answer) ≡ ANSWER-BYTES
     → let h = heldAfter (deskAndImage desk (start setup)) calls in

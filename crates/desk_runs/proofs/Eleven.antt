@@ -2,7 +2,8 @@
 use Rattle.laws.proofs.Prelude.{_≡_, Bool, true, false, cond, List, ℕ, ap, arith}
 use Rattle.outcome.specs.{declared.Outcome.{Outcome, the-variants.{Done, PassThrough}}, Outcomes.{number, differs}}
 use Rattle.runs.proofs.Gyro.{no-tick-gives-eleven, no-route-tick-gives-eleven}
-use Rattle.desk.specs.{declared.entry.DeskOutcome.the-variants.{DeskLength, SticksLength, Core}, Filters.{DESK-BYTES, DESK-SETUP-BYTES, STICKS-BYTES}, Entry.{deskNumber, deskRefusal, DeskCourse, OnSegment, OnRoute, coreRefusal, tickRefusalAt}}
+use Rattle.desk.specs.{declared.entry.DeskOutcome.the-variants.{DeskLength, SticksLength, Core}, Filters.{DESK-BYTES, DESK-SETUP-BYTES, STICKS-BYTES}}
+use Rattle.desk.specs.Entry.{deskNumber, deskRefusal, DeskCourse, OnSegment, OnRoute, coreRefusal, tickRefusalAt}
 
 -- the desk's own two are 15 and 16, and the rest is the core's
 not-eleven : (a b : Bool) (o : Outcome) → ¬ (o ≡ PassThrough) → ¬ (cond a DeskLength (cond b SticksLength (Core o)) ≡ Core PassThrough)

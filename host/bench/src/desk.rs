@@ -77,6 +77,27 @@ fn flown(run: &Run, mut desk: [u8; DESK], moved: &[Sticks]) -> Option<Vec<Input>
 #[cfg(test)]
 mod tests {
     use super::*;
+    use compare::joint::bytes::MOST_LEGS;
+    use compare::joint::guide::{Guide, MIXED};
+
+    /// On the segment and on a route, of one leg and of the most.
+    #[test]
+    #[cfg(any(target_arch = "x86_64", target_arch = "aarch64"))]
+    fn no_desk_tick_takes_more_stack_than_its_bar() {
+        let run = crate::joint::pass();
+        let (mut desk, mut image, mut answer) = (set_up().expect("it is set up"), run.start, [0; ANSWER]);
+        for legs in [1, MOST_LEGS] {
+            let route = Guide::new(8 * legs as u64 - 1, MIXED).steady();
+            for (at, input) in run.inputs.iter().take(256).enumerate() {
+                let (mut input, sticks) = (*input, sticks(at));
+                let mut tick = || assert_eq!(calls::tick(&mut desk, &sticks, &mut image, &mut input, &mut answer), 0);
+                let plain = stack::depth(&mut tick).expect("measured here");
+                let mut tick = || assert_eq!(calls::route_tick(&mut desk, &sticks, &mut image, &mut input, &route, &mut answer), 0);
+                let routed = stack::depth(&mut tick).expect("measured here");
+                assert!(plain <= stack::BAR && routed <= stack::BAR, "{plain} and {routed} bytes, with {legs} legs");
+            }
+        }
+    }
 
     #[test]
     fn both_tick_alike_and_the_heading_moves() {

@@ -44,23 +44,26 @@ most s (suc m) e f =
     let g : grains (fin false (suc m) e) ≤ MOST * 2 ^ 149 = rw (d .is) (mul-le-mul (le-of-suc-le-suc (d .few)) (pow-mono (le-of-suc-le-suc (d .under)))) in
     cut (suc m * up e) (grains (fin false (suc m) e)) (down e) (2 ^ 149) MOST (grains-exact false (suc m) e f) g (lit< tt)
 
--- ---- divided by n * 2 ^ j, and mended; and that times k * 2 ^ i
+-- ---- divided by n * 2 ^ j a number is m * 2 ^ g at most, and that times k * 2 ^ i is a * 2 ^ b at most: so both are finite
 
-module _ (n j m g : ℕ) (some : eqb n 0 ≡ false) (some-more : 0 < n * 2 ^ j) (f : T (fits binary32 (fin false m (pos g)))) (h : MOST ≤ m * 2 ^ g * (n * 2 ^ j)) where
-  pub divided : (x : Float) → T (fits binary32 x) → T (isFinite x) → Under (m * 2 ^ g) (x ⊘ fin false n (pos j))
+module _ (n j m g k i a b : ℕ) (some : eqb n 0 ≡ false) (more : 0 < n * 2 ^ j) (f : T (fits binary32 (fin false m (pos g)))) (h : MOST ≤ m * 2 ^ g * (n * 2 ^ j))
+    (f' : T (fits binary32 (fin false a (pos b)))) (h' : k * 2 ^ i * (m * 2 ^ g) ≤ a * 2 ^ b) where
+  times : (y : Float) → Under (m * 2 ^ g) y → Under (a * 2 ^ b) (fin false k (pos i) ⊗ y)
+  unfolding mul
+  times (fin s x e) u =
+      rounded (unlike false s) (k * 2 ^ i * (x * up e)) (1 * down e) a b (rw (one-mul (down e)) (down-pos e)) f'
+      (rw (one-mul (down e)) (le-trans (mul-le-mul-left (k * 2 ^ i) u) (rw (← mul-assoc (k * 2 ^ i) (m * 2 ^ g) (down e)) (mul-le-mul-right (down e) h'))))
+
+  pub divided : (x : Float) → T (fits binary32 x) → T (isFinite x) → let y = x ⊘ fin false n (pos j) in T (isFinite y) × T (isFinite (fin false k (pos i) ⊗ y))
   unfolding div isFinite
-  divided (fin s a e) l t =
-      let k : a * up e * 1 ≤ m * 2 ^ g * (n * 2 ^ j * down e) = rw (mul-one (a * up e), ← mul-assoc (m * 2 ^ g) (n * 2 ^ j) (down e)) (le-trans (most s a e l) (mul-le-mul-right (down e) h)) in
-      rw some (rounded (unlike s false) (a * up e * 1) (n * 2 ^ j * down e) m g (mul-pos some-more (down-pos e)) f k)
+  divided (fin s x e) l t =
+      let y = fin s x e ⊘ fin false n (pos j) in
+      let d : x * up e * 1 ≤ m * 2 ^ g * (n * 2 ^ j * down e) = rw (mul-one (x * up e), ← mul-assoc (m * 2 ^ g) (n * 2 ^ j) (down e)) (le-trans (most s x e l) (mul-le-mul-right (down e) h)) in
+      let u : Under (m * 2 ^ g) y = rw some (rounded (unlike s false) (x * up e * 1) (n * 2 ^ j * down e) m g (mul-pos more (down-pos e)) f d) in
+      (finite (m * 2 ^ g) y u, finite (a * 2 ^ b) (fin false k (pos i) ⊗ y) (times y u))
 
-  pub mended : (x : Float) → T (fits binary32 x) → Under (m * 2 ^ g) (finiteOr (x ⊘ fin false n (pos j)) 0·0)
+  pub mended : (x : Float) → T (fits binary32 x) → let y = finiteOr (x ⊘ fin false n (pos j)) 0·0 in T (isFinite y) × T (isFinite (fin false k (pos i) ⊗ y))
   unfolding div isFinite ofBits
-  mended nan l = zero-le
-  mended (inf s) l = zero-le
-  mended (fin s a e) l = let d = divided (fin s a e) l tt in let y = fin s a e ⊘ fin false n (pos j) in subst (Under (m * 2 ^ g)) (sym (finite-or-keeps y 0·0 (finite (m * 2 ^ g) y d))) d
-
-pub times : (k i b m g : ℕ) (y : Float) → Under b y → T (fits binary32 (fin false m (pos g))) → k * 2 ^ i * b ≤ m * 2 ^ g → Under (m * 2 ^ g) (fin false k (pos i) ⊗ y)
-unfolding mul
-times k i b m g (fin s a e) u f h =
-    rounded (unlike false s) (k * 2 ^ i * (a * up e)) (1 * down e) m g (rw (one-mul (down e)) (down-pos e)) f
-    (rw (one-mul (down e)) (le-trans (mul-le-mul-left (k * 2 ^ i) u) (rw (← mul-assoc (k * 2 ^ i) b (down e)) (mul-le-mul-right (down e) h))))
+  mended nan l = (tt, finite (a * 2 ^ b) (fin false k (pos i) ⊗ 0·0) (times 0·0 zero-le))
+  mended (inf s) l = (tt, finite (a * 2 ^ b) (fin false k (pos i) ⊗ 0·0) (times 0·0 zero-le))
+  mended (fin s x e) l = let d = divided (fin s x e) l tt in rw (finite-or-keeps (fin s x e ⊘ fin false n (pos j)) 0·0 (d .0)) d

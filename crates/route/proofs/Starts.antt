@@ -1,16 +1,16 @@
--- Where a leg starts, position and velocity of the sample are the leg's, as numbers: -0.0 and 0.0 are one there. Assumes nothing.
-use Rattle.laws.proofs.Prelude.{_≡_, refl, sym, ap, _∙_, Bool, true, false, List, ℕ, zero, suc, _*_, _^_, zero-mul, zero-add, sub-zero, mul-one, one-mul, arith, lt-ltb, le-ltb, lit<, lit≤, T, ℤ, pos, Float, inf, fin, binary32, fits, up, down, round, sum, add, sub, eq, lt, le, neg, isNan, ofBits, no}
+-- Where a leg starts, position and velocity of the sample are the leg's, as numbers: -0.0 and 0.0 are one there. Where it ends they need not be. Assumes nothing.
+use Rattle.laws.proofs.Prelude.{_≡_, refl, sym, ap, _∙_, Bool, true, false, List, ℕ, zero, suc, _*_, _^_, zero-mul, zero-add, sub-zero, mul-one, one-mul, arith, lt-ltb, le-ltb, lit<, lit≤, T, ℤ, pos, Float, inf, fin, binary32, fits, up, down, round, sum, add, sub, mul, div, eq, lt, le, neg, isNan, ofBits, no}
 use native.Mathlib.Nat.{sub-self}
 use lib.Ieee.{Fits.{cond-fits, mul-fits}, Bits.is-true}
-use Rattle.relay_math.specs.F32.{_⊕_, _⊖_, _⊗_, _⊘_, 0·0, 1e-3, 2·0, 3·0, isFinite, finiteOr, unsigned}
+use Rattle.relay_math.specs.F32.{_⊕_, _⊖_, _⊗_, _⊘_, f32, 0·0, 1e-3, 1·0, 2·0, 3·0, isFinite, finiteOr, unsigned}
 use Rattle.relay_math.proofs.{Order.{eq-refl-of, le-trans}, Signs.size-pos, Sums.{round-zero, round-own, zero-times}, Round.round-signed, FiniteOr.or-zero-finite, Zeros.{IsZero, none, plus, times as times-zero, finite as finite-zero}}
-use Rattle.relay_traj.specs.{declared.quintic.Quintic.Quintic, Quintic.{4·0, 5·0, 6·0, 24·0, 120·0, mendedDuration, mendEnds, ofMended, quintic, timeOn, sampleAt, eval}}
+use Rattle.relay_traj.specs.{declared.quintic.{Quintic.Quintic, Sample.Sample}, Quintic.{4·0, 5·0, 6·0, 24·0, 120·0, mendedDuration, mendEnds, ofMended, quintic, timeOn, sampleAt, eval}}
 use Rattle.relay_traj.{specs.Segment.{segment, eval3}, proofs.Leg.mended-lasts}
 use Rattle.words.{specs.Words.vec, proofs.WordsBack.float-fits}
 use Rattle.joint_tick.{specs.{declared.state.Leg.Leg, SetUp.segmentOf, Tick.sampleAt3}, proofs.FractionAndSample.finite-time-as-it-is}
 use Rattle.image.{specs.{Parts.legAt, Fits.{F32, FitsVec, FitsQuintic}}, proofs.Fitting.quintic-fits}
 use Rattle.route.specs.{Form.{legOf, vecsMeet}, Legs.{sampleOf, sampleOn, endOf, FirstAbove, mended3}}
-use Rattle.route.proofs.{LocalTime.past-all, LegWalks.third as all, LegFlown.{kept, end-unsigned, the-leg-flown}, Sizes.{finite, divided, mended, times}}
+use Rattle.route.proofs.{LocalTime.past-all, LegWalks.third as all, LegFlown.{kept, end-unsigned, the-leg-flown}, Sizes.{divided, mended}}
 
 -- ---- a zero and a number
 
@@ -41,22 +41,6 @@ step x (fin s (suc m) e) p q f = let z = zero-times x p in rw (z .1, beside (z .
 
 -- ---- an axis
 
-fifth : (x : Float) → F32 x → let c = finiteOr (x ⊘ 120·0) 0·0 in T (isFinite c) × T (isFinite (5·0 ⊗ c))
-unfolding fits ofBits
-fifth x f = let u = mended 15 3 1 122 refl (lit< tt) tt (lit≤ tt) x f in (finite _ _ u, finite _ _ (times 5 0 (2 ^ 122) 5 122 _ u tt (lit≤ tt)))
-
-fourth : (x : Float) → F32 x → let c = finiteOr (x ⊘ 24·0) 0·0 in T (isFinite c) × T (isFinite (4·0 ⊗ c))
-unfolding fits ofBits
-fourth x f = let u = mended 3 3 1 124 refl (lit< tt) tt (lit≤ tt) x f in (finite _ _ u, finite _ _ (times 1 2 (2 ^ 124) 1 126 _ u tt (lit≤ tt)))
-
-third : (x : Float) → F32 x → let c = finiteOr (x ⊘ 6·0) 0·0 in T (isFinite c) × T (isFinite (3·0 ⊗ c))
-unfolding fits ofBits
-third x f = let u = mended 3 1 1 126 refl (lit< tt) tt (lit≤ tt) x f in (finite _ _ u, finite _ _ (times 3 0 (2 ^ 126) 3 126 _ u tt (lit≤ tt)))
-
-second : (x : Float) → F32 x → T (isFinite x) → T (isFinite (x ⊘ 2·0)) × T (isFinite (2·0 ⊗ (x ⊘ 2·0)))
-unfolding fits ofBits
-second x f l = let u = divided 1 1 16777215 103 refl (lit< tt) tt (lit≤ tt) x f l in (finite _ _ u, finite _ _ (times 1 1 (16777215 * 2 ^ 103) 16777215 104 _ u tt (lit≤ tt)))
-
 -- at 0 the position is c0 and the velocity c1, where no coefficient and no factor of the velocity overflows
 at-zero : (q : Quintic) → FitsQuintic q → let ok : Float → Type 0 = λ x. T (isFinite x) in ok (q .c5) × ok (5·0 ⊗ q .c5) → ok (q .c4) × ok (4·0 ⊗ q .c4) → ok (q .c3) × ok (3·0 ⊗ q .c3)
     → ok (q .c2) × ok (2·0 ⊗ q .c2) → ok (q .c1) → ok (q .c0) → T (eq (sampleAt q 0·0 .p) (q .c0)) × T (eq (sampleAt q 0·0 .v) (q .c1))
@@ -72,13 +56,26 @@ at-zero q f k5 k4 k3 k2 k1 k0 =
     (step _ (q .c0) (p1 .1) k0 (f .1 .1 .1 .1 .1 .0) .0, step _ (q .c1) (v1 .1) k1 (f .1 .1 .1 .1 .0) .0)
 
 axis-starts : (p0 v0 a0 pf vf af t : Float) → F32 p0 → F32 v0 → F32 a0 → F32 t → let s = eval (quintic p0 v0 a0 pf vf af t) 0·0 in (eq (s .p) (finiteOr p0 0·0) ≡ true) × (eq (s .v) (finiteOr v0 0·0) ≡ true)
-unfolding quintic mendEnds ofMended eval
+unfolding quintic mendEnds ofMended eval fits ofBits
 axis-starts p0 v0 a0 pf vf af t f g h l =
     let d = mended-lasts t in
     let z : timeOn 0·0 (mendedDuration t) ≡ 0·0 = kept 0·0 (mendedDuration t) (d .0) (unfold le ofBits in tt, le-trans 0·0 1e-3 (mendedDuration t) (unfold le ofBits in tt) (d .1)) in
-    let r = at-zero (quintic p0 v0 a0 pf vf af t) (quintic-fits p0 v0 a0 pf vf af t f g h l) (fifth _ (mul-fits binary32 _ _)) (fourth _ (mul-fits binary32 _ _)) (third _ (mul-fits binary32 _ _))
-    (second (finiteOr a0 0·0) (cond-fits binary32 (isFinite a0) a0 0·0 h (unfold fits ofBits in tt)) (or-zero-finite a0)) (or-zero-finite v0) (or-zero-finite p0) in
+    let r = at-zero (quintic p0 v0 a0 pf vf af t) (quintic-fits p0 v0 a0 pf vf af t f g h l)
+    (mended 15 3 1 122 5 0 5 122 refl (lit< tt) tt (lit≤ tt) tt (lit≤ tt) _ (mul-fits binary32 _ _))
+    (mended 3 3 1 124 1 2 1 126 refl (lit< tt) tt (lit≤ tt) tt (lit≤ tt) _ (mul-fits binary32 _ _))
+    (mended 3 1 1 126 3 0 3 126 refl (lit< tt) tt (lit≤ tt) tt (lit≤ tt) _ (mul-fits binary32 _ _))
+    (divided 1 1 16777215 103 1 1 16777215 104 refl (lit< tt) tt (lit≤ tt) tt (lit≤ tt) (finiteOr a0 0·0) (cond-fits binary32 (isFinite a0) a0 0·0 h tt) (or-zero-finite a0))
+    (or-zero-finite v0) (or-zero-finite p0) in
     rw z (is-true _ (r .0), is-true _ (r .1))
+
+-- ---- the end is the leg's only as far as f32 goes: from rest to rest, from 0 to 1, in 2 s the sample ends there; in 5 s beyond it, and not at rest
+
+abbrev lasting : Float → Sample
+lasting t = eval (quintic 0·0 0·0 0·0 1·0 0·0 0·0 t) t
+
+pub at-the-end : (lasting 2·0 .p ≡ 1·0) × (lasting 2·0 .v ≡ 0·0) × (lasting 5·0 .p ≡ f32 0x3f800001) × (lasting 5·0 .v ≡ f32 0x34c80000)
+unfolding quintic eval isFinite ofBits add sub mul div neg lt eq
+at-the-end = (refl, refl, refl, refl)
 
 -- ---- a leg, and a leg of a route
 

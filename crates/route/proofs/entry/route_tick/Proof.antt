@@ -20,37 +20,25 @@ answer-length c = simp (ne-eqb _ _ (c .if3 .taken), eq-eqb _ _ (c .before .if2 .
 
 no-form : Need-returns-4
 no-form c =
-    let t = c .before in
-    let d = t .before .before in
-    let l = d .before .before .before .before .before .before .before .before in
+    let t = c .before in let d = t .before .before in let l = d .before .before .before .before .before .before .before .before in
     formless _ (d .before .form-refusal .ensures) (d .is-done .ensures) _ _ _
     (unbroken-taken _ _ _ (is-unbroken (l .before .before .if1 .left) (t .unbroken .ensures) (ap not (c .if5 .taken))) (l .before .if2 .left) (l .if3 .left)) (t .before .if4 .taken)
 
 broken-besides : Need-returns-5
 broken-besides c =
-    let t = c .before in
-    let l = t .before .before .before .before .before .before .before .before .before .before in
+    let t = c .before in let l = t .before .before .before .before .before .before .before .before .before .before in
     broken _ _ _ _ (l .before .before .if1 .left) (l .before .if2 .left) (l .if3 .left) (t .unbroken .ensures) (c .if5 .left)
 
 broken-image : Need-returns-6
 broken-image c =
-    let t = c .before in
-    let l = t .before .before .before .before .before .before .before .before .before .before .before .before .before in
+    let t = c .before in let l = t .before .before .before .before .before .before .before .before .before .before .before .before .before in
     broken _ _ _ _ (l .before .before .if1 .left) (l .before .if2 .left) (l .if3 .left) (t .unbroken2 .ensures) (not-true (t .unbroken2 .result) (c .if6 .taken))
 
 flies : Need-returns-7
 unfolding routeCall onRoute
 flies c =
-    let w = c .before .before .before .before in
-    let e = w .before .before .before in
-    let t = e .before in
-    let h = t .before in
-    let s = h .before in
-    let g = s .before .before in
-    let d = g .before in
-    let p = d .before .before in
-    let i = p .before in
-    let f = i .before .before in
+    let w = c .before .before .before .before in let e = w .before .before .before in let t = e .before in let h = t .before in let s = h .before in
+    let g = s .before .before in let d = g .before in let p = d .before .before in let i = p .before in let f = i .before .before in
     let l = f .before .before .before in
     flown _ _ _ _
     (form-decides _ (d .before .form-refusal .ensures) (d .is-done .ensures) _ _ _
@@ -75,9 +63,7 @@ route-tick-spec =
     (λ c κs. let f = c .before .before .before .before .before .before .before .before .before in (f .before .before .before .before .before .if1 .left, read-of (f .fixed-at .ensures)))
     (λ c. search needs) broken-image
     (λ c κs.
-    let t = c .before .before .before in
-    let p = t .before .before .before .before .before .before .before in
-    let f = p .before .before .before in
+    let t = c .before .before .before in let p = t .before .before .before .before .before .before .before in let f = p .before .before .before in
     let l = f .before .before .before in
     let n = l .before .before .if1 .left in (
       (n, l .if3 .left),

@@ -6,8 +6,7 @@ use Rattle.route.proofs.{LegWalks.{first, second, third}, form.legs_mee
 returns : Need-returns
 unfolding legsMeet legAt
 returns c =
-    let two = c .before in
-    let one = two .before .before in
+    let two = c .before in let one = two .before .before in
     sym (third (sym (one .before .vecs-meet .ensures) ∙ one .if1 .taken) (sym (two .before .vecs-meet2 .ensures) ∙ two .if2 .taken) ∙ sym (c .vecs-meet3 .ensures))
 
 returns-2 : Need-returns-2

@@ -7,8 +7,7 @@ use Rattle.route.proofs.{LegWalks.{first, second, third, met}, form.vec
 returns : Need-returns
 unfolding vecsMeet vec
 returns c =
-    let two = c .before .before .before in
-    let one = two .before .before .before .before in
+    let two = c .before .before .before in let one = two .before .before .before .before in
     sym (third
     (met _ _ _ _ (one .before .before .before .word-at .ensures) (one .before .before .word-at2 .ensures) (one .before .words-meet .ensures) (one .if1 .taken))
     (met _ _ _ _ (two .before .before .before .word-at3 .ensures) (two .before .before .word-at4 .ensures) (two .before .words-meet2 .ensures) (two .if2 .taken))

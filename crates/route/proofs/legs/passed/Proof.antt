@@ -16,8 +16,7 @@ loop-holds c = (omega arith, rw sub-zero)
 
 returns : Need-returns Inv-loop μ-loop
 returns c =
-    let d = c .before in
-    let at = d .before in
+    let d = c .before in let at = d .before in
     record {
       on = λ h. sym (at .before .loop .inv .1) ∙ flown-here _ _ _ _ _ h (d .duration-of .ensures) (c .if1 .taken);
       past = λ h. absurd (omega (arith, h, at .loop-test .taken));

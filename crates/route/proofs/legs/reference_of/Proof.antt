@@ -23,8 +23,7 @@ axes b k = rw (axis-of b k 1, axis-of b k 2)
 returns : Need-returns
 unfolding referenceOf sampleOf referenceAt
 returns c =
-    let y = c .before .before .before in
-    let x = y .before .before in
+    let y = c .before .before .before in let x = y .before .before in
     simp (
       axes,
       c .reference-at .ensures,

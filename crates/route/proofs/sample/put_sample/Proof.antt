@@ -6,11 +6,8 @@ use Rattle.route.proofs.sample.put_sample.{Statement.statement, Tie.{Ne
 returns : Need-returns
 unfolding sampleBytes
 returns c =
-    let jerk = c .before .before in
-    let acc = jerk .before .before .before .before in
-    let vel = acc .before .before .before .before in
-    let pos = vel .before .before .before .before in
-    let leg = pos .before .before .before .before in
+    let jerk = c .before .before in let acc = jerk .before .before .before .before in let vel = acc .before .before .before .before in
+    let pos = vel .before .before .before .before in let leg = pos .before .before .before .before in
     whole (then (then (then (then (leg .put-word .ensures) (pos .put-vec .ensures) refl) (vel .put-vec2 .ensures) refl) (acc .put-vec3 .ensures) refl) (jerk .put-vec4 .ensures) refl)
     (leg .before .before .before .before .pre .0)
 

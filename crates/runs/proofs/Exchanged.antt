@@ -5,10 +5,10 @@ use Rattle.latch.specs.Latch.{after}
 use Rattle.relay_math.specs.F32.{0·0}
 use Rattle.relay_geo.specs.declared.shield.SimplexShield.{SimplexShield}
 use Rattle.relay_traj.proofs.GovernorClock.{starts-at-zero}
-use Rattle.joint_tick.specs.SetUp.{segmentOf, exchange}
+use Rattle.joint_tick.specs.SetUp.{segmentOf, setUp, exchange}
 use Rattle.outcome.specs.{declared.Outcome.the-variants.Done, Outcomes.{left, Filled}}
-use Rattle.image.{specs.{Layout.{ENGAGED, GOVERNOR, SEGMENT, PEAKS, LEG-BYTES}, Parts.{segmentAt, legAt}, Image.{stateAt, imageOf, peaksOf}}, proofs.Decoded.{image-is, segment-written, state-fits}}
-use Rattle.lent_tick.{specs.Unbroken.Unbroken, proofs.{RowFour.unbroken-has, NeverRefused.exchange-fits}}
+use Rattle.image.{specs.{Layout.{ENGAGED, GOVERNOR, SEGMENT, PEAKS, LEG-BYTES, SETUP-LEG}, Parts.{segmentAt, legAt}, Image.{stateAt, imageOf, peaksOf}, Inputs.setupAt}, proofs.Decoded.{image-is, segment-written, state-fits}}
+use Rattle.lent_tick.{specs.Unbroken.Unbroken, proofs.{RowFour.unbroken-has, NeverRefused.{set-up-fits, exchange-fits}}}
 use Rattle.calls.{specs.Entry.{exchangeRefusal, exchangeCall}, proofs.ExchangeSteps.exchange-steps}
 use Rattle.runs.specs.{Runs.{Tick, Call, Ticks, Exchanges, tickOf, leftBy, guided, start, imageAfter, Right}, DemandThree.{enterOf, exitOf, flagOf, InBand}, Kept.{keptByExchanges, SameWords}}
 use Rattle.runs.proofs.{Induction.{call-steps, ran}, Middle.{in-band-as-before, flag-kept}, CallsKeep.{clock-over-any-run, exchange-same}}
@@ -56,6 +56,11 @@ module _ (image segment : List ℕ) (a : Unbroken image) (e : length segment ≡
   -- .. and every other word but the peaks is as it was, a NaN made 7fc00000.
   pub exchange-keeps : SameWords keptByExchanges image later
   exchange-keeps = subst (λ (l : Filled). SameWords keptByExchanges image (l .later)) (sym (exchange-done image segment a e)) (exchange-same image segment a)
+
+-- after set-up too the segment is the leg's
+pub segment-after-set-up : (setup : List ℕ) → segmentAt (start setup) SEGMENT ≡ segmentOf (legAt setup SETUP-LEG)
+unfolding start setUp setupAt
+segment-after-set-up setup = segment-written (setUp (setupAt setup)) (set-up-fits setup .segment)
 
 -- ---- across one: between the thresholds it changes hands no more than anything else does
 

@@ -185,8 +185,7 @@ module _ (b : List ℕ) {whole rest : Read} {count n : ℕ} {old new : List ℕ}
       → Going b whole more count old m later
   going-on item more next {x} {m} {later} e w =
       let c = came item next n x m (w .counted) in
-      let p = g .done in
-      let q = c .tree in
+      let p = g .done in let q = c .tree in
       let all = flown-append p q in
       let many : length (flownLegs (append p q)) ≡ length (flownLegs p) + length (flownLegs q) = ap length all ∙ length-append (flownLegs p) (flownLegs q) in
       record {

@@ -12,9 +12,7 @@ abbrev μ-loop : MeasureT-loop
 
 legs-meet-requires : Need-legs-meet-requires Inv-loop μ-loop
 legs-meet-requires c κs =
-    let first = c .before .before in
-    let turn = first .before .before in
-    let pre = turn .before .before .before .before .pre in
+    let first = c .before .before in let turn = first .before .before in let pre = turn .before .before .before .before .pre in
     let i = turn .before .loop .i in
     let one = leg-long _ _ _ pre (i - 1) (omega arith) (first .leg-in .ensures) in
     let two = leg-long _ _ _ pre i (turn .loop-test .taken) (c .leg-in2 .ensures) in
@@ -22,10 +20,7 @@ legs-meet-requires c κs =
 
 returns : Need-returns Inv-loop μ-loop
 returns c =
-    let met = c .before in
-    let second = met .before in
-    let first = second .before .before in
-    let turn = first .before .before in
+    let met = c .before in let second = met .before in let first = second .before .before in let turn = first .before .before in
     let pre = turn .before .before .before .before .pre in
     sym (meet-stops _ _ _ (pre .few) _ (turn .before .loop .inv .0) (turn .loop-test .taken)
     (joins (first .leg-in .ensures) (second .leg-in2 .ensures) (met .legs-meet .ensures) ∙ not-true (met .legs-meet .result) (c .if1 .taken)))
@@ -33,10 +28,7 @@ returns c =
 
 loop-again : Need-loop-again Inv-loop μ-loop
 loop-again c =
-    let met = c .before in
-    let second = met .before in
-    let first = second .before .before in
-    let turn = first .before .before in
+    let met = c .before in let second = met .before in let first = second .before .before in let turn = first .before .before in
     let pre = turn .before .before .before .before .pre in (
       omega arith,
       meet-on _ _ _ (pre .few) _ (turn .before .loop .inv .0) (turn .loop-test .taken)

@@ -16,17 +16,14 @@ loop-holds c = (omega arith, refl, refl)
 
 put-bytes-requires : Need-put-bytes-requires Inv-loop μ-loop
 put-bytes-requires c κs =
-    let turn = c .before .before .before in
-    let pre = turn .before .before .before .before .before .pre in
+    let turn = c .before .before .before in let pre = turn .before .before .before .before .before .pre in
     let l = leg-long _ _ _ (pre .0) (turn .before .loop .i) (turn .loop-test .taken) (c .leg-in .ensures) in
     let inv = turn .before .loop .inv in
     omega (arith, l, inv .1, pre .1, turn .loop-test .taken)
 
 loop-again : Need-loop-again Inv-loop μ-loop
 loop-again c =
-    let put = c .before .before in
-    let turn = put .before .before .before .before in
-    let inv = turn .before .loop .inv in
+    let put = c .before .before in let turn = put .before .before .before .before in let inv = turn .before .loop .inv in
     let pre = turn .before .before .before .before .before .pre in
     (omega arith, omega arith, put-one-more _ _ _ (pre .0) _ _ (turn .loop-test .taken) (put .before .leg-in .ensures) (put .put-bytes .ensures) (inv .2))
 

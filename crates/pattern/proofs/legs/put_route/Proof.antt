@@ -5,26 +5,19 @@ use Rattle.pattern.proofs.legs.put_route.Tie.{Need-returns, Need-return
 
 returns : Need-returns
 returns c =
-    let start = c .before .before .before .before .before in
-    let a = start .args in
+    let start = c .before .before .before .before .before in let a = start .args in
     no-room (legsAt (a .b .now) (a .places .now) (a .count)) (a .route .now) (a .written .now) (how-many _ _ _ (start .pre .0 .few)) (c .if1 .taken)
 
 returns-2 : Need-returns-2
 returns-2 c =
-    let met = c .before in
-    let start = met .before .before .before .before .before .before in
-    let a = start .args in
+    let met = c .before in let start = met .before .before .before .before .before .before in let a = start .args in
     apart (legsAt (a .b .now) (a .places .now) (a .count)) (a .route .now) (a .written .now) (how-many _ _ _ (start .pre .0 .few)) (met .before .if1 .left)
     (sym (met .all-meet .ensures) ∙ not-true (met .all-meet .result) (c .if2 .taken))
 
 returns-3 : Need-returns-3
 returns-3 c =
-    let word = c .before .before in
-    let trailer = word .before .before .before .before in
-    let legs = trailer .before .before .before .before in
-    let met = legs .before .before .before in
-    let start = met .before .before .before .before .before .before in
-    let a = start .args in
+    let word = c .before .before in let trailer = word .before .before .before .before in let legs = trailer .before .before .before .before in
+    let met = legs .before .before .before in let start = met .before .before .before .before .before .before in let a = start .args in
     let pre = start .pre in
     all-done (legsAt (a .b .now) (a .places .now) (a .count)) (a .route .now) (a .written .now) (how-many _ _ _ (pre .0 .few)) (met .before .if1 .left)
     (sym (met .all-meet .ensures) ∙ not-false (met .all-meet .result) (legs .before .before .if2 .left))

@@ -4,8 +4,7 @@ use Rattle.pattern.proofs.legs.put_trailer.{Statement.statement, Tie.{N
 
 returns : Need-returns
 returns c =
-    let second = c .before .before in
-    let first = second .before .before .before .before in
+    let second = c .before .before in let first = second .before .before .before .before in
     then (first .put-word .ensures) (second .put-word2 .ensures) refl
 
 pub put-trailer-spec : {M : Type 1} → statement M

@@ -64,8 +64,7 @@ pub +expand+expand-item-spec : {M : Type 1} → statement M
     (λ t. expand-lts.spec (expand-item-below t, expand-item.Post) (expand-at t) expand.Post expand-Inv-loop expand-μ-loop
     (λ c. let start = c .before .before in let pre = start .pre .1 in (pre .0, pre .2, going-start _ _ _ (start .args .places .now) (pre .3)))
     (λ c κs.
-    let turn = c .before in
-    let inv = turn .before .loop .inv in
+    let turn = c .before in let inv = turn .before .loop .inv in
     (omega arith, (turn .loop-test .taken, turn .before .before .before .before .pre .1 .1, inv .1, going-few (inv .2))))
     (λ c. search needs)
     (λ c. search needs)
@@ -81,8 +80,7 @@ pub +expand+expand-item-spec : {M : Type 1} → statement M
     (item-next (turned t call) (walked .counted) .1, omega arith, step-on (turned t call) walked))
     (λ c. search needs)
     (λ c.
-    let start = c .before .before .before .before in
-    let a = start .args in
+    let start = c .before .before .before .before in let a = start .args in
     step-end (a .b .now) (a .depth) (c .before .loop .at) (a .end) (start .pre .1 .1) (c .before .loop .inv .2) (c .loop-test .left)))
     (λ t. expand-item-lts.spec (item-claims t) (expand-item-at t) expand-item.Post
     (λ c κs. search needs)
@@ -98,16 +96,13 @@ pub +expand+expand-item-spec : {M : Type 1} → statement M
     (λ c. let told = c .before .before in let head = told .before .before in omega (arith, repeat-fits (item t head) (head-is t head (told .head .given .1)) .2))
     (λ c. search needs)
     (λ c κs.
-    let told = c .before .before .before in
-    let head = told .before .before in
+    let told = c .before .before .before in let head = told .before .before in
     let fits = repeat-fits (item t head) (head-is t head (told .head .given .1)) in
     (omega arith, (omega arith, omega (arith, fits .2), item t head .size, item t head .few)))
     (λ c. search needs)
     (λ c. search needs)
     (λ c κs.
-    let body = c .before .before in
-    let call = body .before .before .before .before in
-    let told = call .before .before .before .before in
+    let body = c .before .before in let call = body .before .before .before .before in let told = call .before .before .before .before in
     let head = told .before .before in
     let fits = repeat-fits (item t head) (head-is t head (told .head .given .1)) in
     let up = came-up _ _ _ (item t head .few) (sym (body .body .given .1) ∙ call .expand .ensures .counted) in
@@ -115,23 +110,15 @@ pub +expand+expand-item-spec : {M : Type 1} → statement M
     (λ c. let head = c .before .before in neither-done (item t head) (head-is t head (c .enum-told .given .1)))
     (λ c. search needs)
     (λ c.
-    let put = c .before .before in
-    let told = put .before .before in
-    let head = told .before .before in
+    let put = c .before .before in let told = put .before .before in let head = told .before .before in
     leg-done (item t head) (head-is t head (told .enum-told2 .given .1)) (put .put-place .ensures))
     (λ c. search needs)
     (λ c.
-    let call = c .before .before .before .before in
-    let deep = call .before .before in
-    let told = deep .before .before in
+    let call = c .before .before .before .before in let deep = call .before .before in let told = deep .before .before in
     let head = told .before .before in
     body-broken (item t head) (head-is t head (told .head .given .1)) (deep .if1 .left) (sym (c .enum-told3 .given .1) ∙ call .expand .ensures .counted))
     (λ c. search needs)
     (λ c.
-    let put = c .before .before in
-    let body = put .before .before .before in
-    let call = body .before .before .before .before in
-    let deep = call .before .before in
-    let known = deep .before .before in
-    let head = known .before .before in
+    let put = c .before .before in let body = put .before .before .before in let call = body .before .before .before .before in
+    let deep = call .before .before in let known = deep .before .before in let head = known .before .before in
     repeat-done (item t head) (head-is t head (known .head .given .1)) (deep .if1 .left) (told (body .body .given .1) (call .expand .ensures)) (put .put-rounds .ensures)))

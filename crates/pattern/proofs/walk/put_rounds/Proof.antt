@@ -28,25 +28,18 @@ returns c =
 
 loop-holds : Need-loop-holds Inv-loop μ-loop
 loop-holds c =
-    let start = c .before .before .before in
-    let pre = start .pre in
-    let e = c .before .at-most-33 .ensures in
+    let start = c .before .before .before in let pre = start .pre in let e = c .before .at-most-33 .ensures in
     (omega arith, to-end (start .args .places .now) _ _ _ (pre .0) (pre .3) (pre .1) e (c .if1 .left), refl, rounds-start _ _ _ _ (pre .0) (pre .3) (pre .1) e (c .if1 .left))
 
 loop-again : Need-loop-again Inv-loop μ-loop
 loop-again c =
-    let turn = c .before in
-    let inv = turn .before .loop .inv in
-    let few = turn .before .before in
-    let pre = few .before .before .before .pre in
+    let turn = c .before in let inv = turn .before .loop .inv in let few = turn .before .before in let pre = few .before .before .before .pre in
     let on = rounds-on _ _ _ _ (pre .0) (pre .3) (pre .1) (few .before .at-most-33 .ensures) (few .if1 .left) _ (inv .0) (turn .loop-test .taken) in
     (omega arith, omega arith, simp length-set (inv .2), rw (inv .3) on)
 
 returns-2 : Need-returns-2 Inv-loop μ-loop
 returns-2 c =
-    let inv = c .before .loop .inv in
-    let few = c .before .before in
-    let pre = few .before .before .before .pre in
+    let inv = c .before .loop .inv in let few = c .before .before in let pre = few .before .before .before .pre in
     let e = few .before .at-most-33 .ensures in
     record { counted = e; put = λ _. inv .3 ∙ rounds-end _ _ _ _ (pre .0) (pre .3) (pre .1) e (few .if1 .left) _ (c .loop-test .left) }
 

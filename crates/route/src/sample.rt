@@ -1,5 +1,4 @@
-// Where the craft should be on a route at a time, on lent bytes: what a tick on it at that time goes by, and position and velocity. Nothing is asked of the
-// caller; a refused call changes no byte.
+// Where the craft should be on a route at a time, on lent bytes. Nothing is asked of the caller; a refused call changes no byte.
 use super::form::form_refusal;
 use super::form::leg_count;
 use super::legs::Sampled;
@@ -37,6 +36,8 @@ fn put_sample(bytes: &mut [u8], s: Sampled)
     put_vec(bytes, JERK, s.sample.jerk);
 }
 
+// The leg flown, counted from 0, then position, velocity, acceleration and jerk: what a tick on the route at that time would go by, and where. Every bit of the time
+// has an answer, as a tick takes it.
 pub fn route_sample(route: &[u8], time: f32, sample: &mut [u8]) -> Outcome
     ensures { λ r. ⌜ left r (now (sample .exit)) ≡ sampleCall (now (route .entry)) time (now (sample .entry)) ⌝ }
 {

@@ -142,11 +142,12 @@ const MODULES: [Module; 5] = [
 ];
 
 /// Ours without a Rust original: crate, function, what it is.
-const ADDED: [(&str, &str, &str); 15] = [
+const ADDED: [(&str, &str, &str); 18] = [
     ("joint_tick", "set_up", "set-up over values"),
     ("joint_tick", "exchange", "the exchange of the segment over values"),
     ("joint_tick", "prepare", "the tick's first stage: fractions, gyro filter, governor"),
     ("joint_tick", "reference_at", "the second: where the trajectory is"),
+    ("joint_tick", "sample_at", "the same with position and velocity, for a sample of a route"),
     ("joint_tick", "guide_pick_follow", "the third: observers, attitudes, fallback, psi, margin; shield; rate controller"),
     ("calls", "setup", "set-up on lent bytes"),
     ("calls", "exchange", "the exchange of the segment on lent bytes"),
@@ -158,6 +159,8 @@ const ADDED: [(&str, &str, &str); 15] = [
     ("fosavalo", "fosavalo_tick_refusal", "the C call"),
     ("route", "route_tick", "the joint tick on a route, on lent bytes"),
     ("fosavalo", "fosavalo_route_tick", "the C call"),
+    ("route", "route_sample", "where the craft should be on a route at a time, on lent bytes"),
+    ("fosavalo", "fosavalo_route_sample", "the C call"),
 ];
 
 fn text(path: impl AsRef<Path>) -> Result<String, String> {

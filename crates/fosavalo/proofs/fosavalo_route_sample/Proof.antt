@@ -1,4 +1,4 @@
--- `fosavalo::fosavalo_route_sample`: the number of the outcome, and the sample's buffer as the call leaves it. Assumes nothing.
+-- `fosavalo::fosavalo_route_sample`: the number of the outcome, and the buffer as the call leaves it. Assumes nothing.
 use Rattle.laws.proofs.Prelude.{needs, ap}
 use Rattle.outcome.specs.Outcomes.{numbered}
 use Rattle.fosavalo.proofs.fosavalo_route_sample.{Statement.statement, Tie.{Need-returns, close, spec}}

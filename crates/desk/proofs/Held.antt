@@ -35,7 +35,8 @@ call-moves s desk Centres p =
     record { size = desk-length (deskCentre (deskAt desk)); filter = ap (filterOf s) (read-again _ (centred-fits desk)) ∙ reset-by s (deskAt desk) }
 call-moves s desk (Ticks t) p =
     by-test (λ (l : Left DeskOutcome LentToDesk). Moves s (eventsBy s (Ticks t)) desk (l .later .desk)) (done (length desk))
-    (λ e. rw (ap done (sym p) ∙ e) record { size = desk-length (moved desk (t .sticks) (t .input)); filter = ap (filterOf s) (read-again _ (stepped-fits desk _ _)) ∙ stepped-by s (deskAt desk) (t .sticks) (float (t .input) DT) })
+    (λ e. let again = ap (filterOf s) (read-again _ (stepped-fits desk _ _)) ∙ stepped-by s (deskAt desk) (t .sticks) (float (t .input) DT) in
+    rw (ap done (sym p) ∙ e) record { size = desk-length (moved desk (t .sticks) (t .input)); filter = again })
     (λ e. rw (ap done (sym p) ∙ e) record { size = p; filter = refl })
   where
     refusal : ℕ → DeskOutcome

@@ -4,7 +4,8 @@ use Rattle.latch.specs.Latch.{Flies}
 use Rattle.image.specs.Layout.{INPUT-BYTES, ANSWER-BYTES}
 use Rattle.outcome.specs.Outcomes.{Called}
 use Rattle.lent_tick.specs.Unbroken.{Unbroken}
-use Rattle.runs.{specs.{Runs.{Course, Segment, Route, Tick, tickOf, guided, start, marginsAlong, RightCourse, Right}, DemandThree.{enterOf, exitOf, Shows}}, proofs.{Induction.ran, DemandThree.demand-three}}
+use Rattle.runs.specs.{Runs.{Course, Segment, Route, Tick, tickOf, guided, start, marginsAlong, RightCourse, Right}, DemandThree.{enterOf, exitOf, Shows}}
+use Rattle.runs.proofs.{Induction.ran, DemandThree.demand-three}
 use Rattle.desk.{specs.{Filters.{DESK-BYTES, STICKS-BYTES}, Entry.{deskNumber, deskDone, GoodCourse}}, proofs.DeskCalls.{tick-accepted, input-length}}
 use Rattle.desk_runs.specs.Runs.{deskAndImage, DeskGiven, byDesk, AnyCall, deskTick, heldAfter, flownTick, coreAlong}
 use Rattle.desk_runs.proofs.Seen.{flown-by-core, core-sees, desk-size}

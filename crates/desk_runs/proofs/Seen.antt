@@ -6,7 +6,8 @@ use Rattle.relay_math.specs.F32.{Within as Between}
 use Rattle.relay_adrc.proofs.FilterLimits.{Limit, Held as Within}
 use Rattle.desk.specs.{Entry.{deskDone, LentToDesk, coreCall}, Filters.{DESK-BYTES, deskAt}, Runs.{Stick, filterOf, magLimit, rateLimit, DeskCall, deskBy, deskAfter, deskStart}}
 use Rattle.desk.proofs.{DeskCalls.{refused-changes-nothing, is-core-tick}, Held.{size-kept, sticks-held}, Within.sticks-within}
-use Rattle.desk_runs.specs.Runs.{DeskAndImage, deskAndImage, DeskGiven, byDesk, AnyCall, ByDesk, Button, OnCore, deskTick, heldBy, heldAfter, flownTick, coreCalls, coreAlong, deskCalls, deskAlong}
+use Rattle.desk_runs.specs.Runs.{DeskAndImage, deskAndImage, DeskGiven, byDesk, AnyCall, ByDesk, Button, OnCore, deskTick, heldBy, heldAfter, flownTick, coreCalls, coreAlong, deskCalls}
+use Rattle.desk_runs.specs.Runs.{deskAlong}
 
 -- ---- the core
 

@@ -45,7 +45,8 @@ fosavalo-tick-refusal-once κs a x y v w p q = (no-second p q, refl)
 
 pub fosavalo-route-tick-once : OneAnswer fosavalo_route_tick.ended fosavalo_route_tick.Reads.Post
 fosavalo-route-tick-once κs a x y v w p q =
-    let e = no-second p q in (ap (λ (c : Left ℕ Lent). c .outcome) e, both (ap (λ (c : Left ℕ Lent). c .later .image) e) (both refl (both refl (both (ap (λ (c : Left ℕ Lent). c .later .answer) e) refl))))
+    let e = no-second p q in
+    (ap (λ (c : Left ℕ Lent). c .outcome) e, both (ap (λ (c : Left ℕ Lent). c .later .image) e) (both refl (both refl (both (ap (λ (c : Left ℕ Lent). c .later .answer) e) refl))))
 
 pub fosavalo-route-sample-once : OneAnswer fosavalo_route_sample.ended fosavalo_route_sample.Reads.Post
 fosavalo-route-sample-once κs a x y v w p q =
@@ -73,4 +74,5 @@ fosavalo-log-check-once κs a x y v w p q =
 
 pub fosavalo-pattern-expand-once : OneAnswer fosavalo_pattern_expand.ended fosavalo_pattern_expand.Reads.Post
 fosavalo-pattern-expand-once κs a x y v w p q =
-    let e = no-second p q in (ap (λ (c : Left ℕ Buffers). c .outcome) e, both refl (both (ap (λ (c : Left ℕ Buffers). c .later .route) e) (both (ap (λ (c : Left ℕ Buffers). c .later .written) e) refl)))
+    let e = no-second p q in
+    (ap (λ (c : Left ℕ Buffers). c .outcome) e, both refl (both (ap (λ (c : Left ℕ Buffers). c .later .route) e) (both (ap (λ (c : Left ℕ Buffers). c .later .written) e) refl)))

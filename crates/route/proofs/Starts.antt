@@ -1,9 +1,11 @@
 -- Where a leg starts, position and velocity of the sample are the leg's, as numbers: -0.0 and 0.0 are one there. Where it ends they need not be. Assumes nothing.
-use Rattle.laws.proofs.Prelude.{_≡_, refl, sym, ap, _∙_, Bool, true, false, List, ℕ, zero, suc, _*_, _^_, zero-mul, zero-add, sub-zero, mul-one, one-mul, arith, lt-ltb, le-ltb, lit<, lit≤, T, ℤ, pos, Float, inf, fin, binary32, fits, up, down, round, sum, add, sub, mul, div, eq, lt, le, neg, isNan, ofBits, no}
+use Rattle.laws.proofs.Prelude.{_≡_, refl, sym, ap, _∙_, Bool, true, false, List, ℕ, zero, suc, _*_, _^_, zero-mul, zero-add, sub-zero, mul-one, one-mul, arith, lt-ltb, le-ltb, lit<, lit≤, T, ℤ}
+use Rattle.laws.proofs.Prelude.{pos, Float, inf, fin, binary32, fits, up, down, round, sum, add, sub, mul, div, eq, lt, le, neg, isNan, ofBits, no}
 use native.Mathlib.Nat.{sub-self}
 use lib.Ieee.{Fits.{cond-fits, mul-fits}, Bits.is-true}
 use Rattle.relay_math.specs.F32.{_⊕_, _⊖_, _⊗_, _⊘_, f32, 0·0, 1e-3, 1·0, 2·0, 3·0, isFinite, finiteOr, unsigned}
-use Rattle.relay_math.proofs.{Order.{eq-refl-of, le-trans}, Signs.size-pos, Sums.{round-zero, round-own, zero-times}, Round.round-signed, FiniteOr.or-zero-finite, Zeros.{IsZero, none, plus, times as times-zero, finite as finite-zero}}
+use Rattle.relay_math.proofs.{Order.{eq-refl-of, le-trans}, Signs.size-pos, Sums.{round-zero, round-own, zero-times}, Round.round-signed, FiniteOr.or-zero-finite}
+use Rattle.relay_math.proofs.Zeros.{IsZero, none, plus, times as times-zero, finite as finite-zero}
 use Rattle.relay_traj.specs.{declared.quintic.{Quintic.Quintic, Sample.Sample}, Quintic.{4·0, 5·0, 6·0, 24·0, 120·0, mendedDuration, mendEnds, ofMended, quintic, timeOn, sampleAt, eval}}
 use Rattle.relay_traj.{specs.Segment.{segment, eval3}, proofs.Leg.mended-lasts}
 use Rattle.words.{specs.Words.vec, proofs.WordsBack.float-fits}
@@ -55,7 +57,8 @@ at-zero q f k5 k4 k3 k2 k1 k0 =
     let v1 = step _ (2·0 ⊗ q .c2) (v2 .1) (k2 .1) (mul-fits binary32 2·0 (q .c2)) in
     (step _ (q .c0) (p1 .1) k0 (f .1 .1 .1 .1 .1 .0) .0, step _ (q .c1) (v1 .1) k1 (f .1 .1 .1 .1 .0) .0)
 
-axis-starts : (p0 v0 a0 pf vf af t : Float) → F32 p0 → F32 v0 → F32 a0 → F32 t → let s = eval (quintic p0 v0 a0 pf vf af t) 0·0 in (eq (s .p) (finiteOr p0 0·0) ≡ true) × (eq (s .v) (finiteOr v0 0·0) ≡ true)
+axis-starts : (p0 v0 a0 pf vf af t : Float) → F32 p0 → F32 v0 → F32 a0 → F32 t
+    → let s = eval (quintic p0 v0 a0 pf vf af t) 0·0 in (eq (s .p) (finiteOr p0 0·0) ≡ true) × (eq (s .v) (finiteOr v0 0·0) ≡ true)
 unfolding quintic mendEnds ofMended eval fits ofBits
 axis-starts p0 v0 a0 pf vf af t f g h l =
     let d = mended-lasts t in

@@ -7,7 +7,8 @@ use Rattle.relay_geo.specs.declared.shield.SimplexShield.{SimplexShield}
 use Rattle.relay_traj.proofs.GovernorClock.{starts-at-zero}
 use Rattle.joint_tick.specs.SetUp.{segmentOf, setUp, exchange}
 use Rattle.outcome.specs.{declared.Outcome.the-variants.Done, Outcomes.{left, Filled}}
-use Rattle.image.{specs.{Layout.{ENGAGED, GOVERNOR, SEGMENT, PEAKS, LEG-BYTES, SETUP-LEG}, Parts.{segmentAt, legAt}, Image.{stateAt, imageOf, peaksOf}, Inputs.setupAt}, proofs.Decoded.{image-is, segment-written, state-fits}}
+use Rattle.image.specs.{Layout.{ENGAGED, GOVERNOR, SEGMENT, PEAKS, LEG-BYTES, SETUP-LEG}, Parts.{segmentAt, legAt}, Image.{stateAt, imageOf, peaksOf}, Inputs.setupAt}
+use Rattle.image.proofs.Decoded.{image-is, segment-written, state-fits}
 use Rattle.lent_tick.{specs.Unbroken.Unbroken, proofs.{RowFour.unbroken-has, NeverRefused.{set-up-fits, exchange-fits}}}
 use Rattle.calls.{specs.Entry.{exchangeRefusal, exchangeCall}, proofs.ExchangeSteps.exchange-steps}
 use Rattle.runs.specs.{Runs.{Tick, Call, Ticks, Exchanges, tickOf, leftBy, guided, start, imageAfter, Right}, DemandThree.{enterOf, exitOf, flagOf, InBand}, Kept.{keptByExchanges, SameWords}}

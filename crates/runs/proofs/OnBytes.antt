@@ -4,7 +4,8 @@ use Rattle.words.specs.Words.{word, float, vec, flag, bits}
 use Rattle.relay_math.specs.Exact.{inRange}
 use Rattle.relay_traj.specs.{declared.segment.Segment3.Segment3, Governor.Running}
 use Rattle.relay_geo.specs.{declared.vectors.Direction.the-variants.Refused, Vectors.Finite3, Attitude.thrustAxisNed, Set.minusInfinity}
-use Rattle.joint_tick.specs.{declared.{profile.Profile.the-variants.Whole, state.{Answer.Answer, State.State, TickInput.TickInput}, stages.Reference.Reference}, Tick.{referenceAt, cleaned, pick, guidePickFollow, ticked}}
+use Rattle.joint_tick.specs.declared.{profile.Profile.the-variants.Whole, state.{Answer.Answer, State.State, TickInput.TickInput}, stages.Reference.Reference}
+use Rattle.joint_tick.specs.Tick.{referenceAt, cleaned, pick, guidePickFollow, ticked}
 use Rattle.joint_tick.proofs.{Shielding.{wantedAt, tick-margin}, TickNoAttitude.{Damped, bad-heading-tick, no-axis-tick}, AnswerFinite.answer-finite, TickClock.{tick-time, time-never-back}}
 use Rattle.image.specs.{Layout.{PROFILE, YAW, TORQUE, COMMAND, TIME, PSI, MARGIN}, Parts.profileAt, Image.{fixedAt, stateAt}, Inputs.inputAt, Fits.F32}
 use Rattle.image.proofs.{AnswerFits.{margin-fits, command-fits, torque-fits}, AnswerWords.{torque-answered, command-answered, command-words, time-answered, psi-word, margin-answered, margin-word}}

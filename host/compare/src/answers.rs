@@ -200,11 +200,11 @@ impl Call {
 const ADRC: [Part; 4] = [Part::Above(60.0), Part::Above(20.0), Part::Number(80.0), Part::Above(0.05)];
 
 /// Position, velocity, acceleration at both ends of a leg, and its duration.
-const LEG_PARTS: [Part; 7] =
+pub const LEG_PARTS: [Part; 7] =
     [Part::Vector(5.0), Part::Vector(1.0), Part::Vector(2.0), Part::Vector(5.0), Part::Vector(1.0), Part::Vector(2.0), Part::Above(10.0)];
 
 /// Set-up's words before the profile, as in flight: gains; set, enter and exit; the governor's; the leg; ADRC; fc and fs.
-fn set_up_parts() -> Vec<Part> {
+pub fn set_up_parts() -> Vec<Part> {
     let gains = [Part::Gains(2.0), Part::Gains(1.0), Part::Gains(0.1)];
     let shield = [Part::Above(2.0), Part::Above(0.1), Part::Above(2.0), Part::Above(0.3), Part::Above(1.0)];
     let governor = [Part::Above(1.0), Part::Above(3.0), Part::Above(1.0)];
@@ -213,7 +213,7 @@ fn set_up_parts() -> Vec<Part> {
 }
 
 /// A tick's: gyro, quaternion, tracking error, yaw, yaw rate, dt, agile, fractions.
-const INPUT: [Part; 8] = [
+pub const INPUT: [Part; 8] = [
     Part::Vector(3.0),
     Part::Quaternion,
     Part::Number(3.0),
@@ -227,7 +227,7 @@ const INPUT: [Part; 8] = [
 const KINDS: [Kind; 4] = [Kind::Flight, Kind::Damaged, Kind::Special, Kind::Bits];
 
 /// Words of one kind.
-fn filled<const N: usize>(kind: Kind, parts: &[Part], rng: &mut Rng) -> [f32; N] {
+pub fn filled<const N: usize>(kind: Kind, parts: &[Part], rng: &mut Rng) -> [f32; N] {
     let mut words = [0.0; N];
     generate::fill_as(kind, parts, None, u64::MAX, rng, &mut words);
     words

@@ -286,7 +286,7 @@ fn tree(rng: &mut Rng, deep: usize, from: usize, to: usize) -> Vec<Item> {
 }
 
 /// A tree of any depth, filled up to the most legs or one more, and wrapped at times.
-fn any(rng: &mut Rng) -> Vec<Item> {
+pub fn any(rng: &mut Rng) -> Vec<Item> {
     let (deep, at) = (rng.below(DEEP + 2), rng.below(3));
     let mut items = tree(rng, deep, at, at);
     let legs = count(Fault::None, &items) as usize;
@@ -301,7 +301,7 @@ fn any(rng: &mut Rng) -> Vec<Item> {
 }
 
 /// Bytes of a pattern with something wrong, mostly where an item begins: a tag, a count, a length off by one, an end.
-fn damaged(rng: &mut Rng, (mut bytes, heads): (Vec<u8>, Vec<usize>)) -> Vec<u8> {
+pub fn damaged(rng: &mut Rng, (mut bytes, heads): (Vec<u8>, Vec<usize>)) -> Vec<u8> {
     let (head, anywhere) = (rng.of(&heads).unwrap_or(0), rng.below(bytes.len().max(1)));
     let mut set = |at: usize, to: &dyn Fn(u8) -> u8| {
         if let Some(byte) = bytes.get_mut(at) {

@@ -15,7 +15,7 @@ use crate::slow::{margin, mended, stepped, threshold};
 use std::fmt;
 
 const WORDS: usize = RECORD / 4;
-type Record = [u8; RECORD];
+pub type Record = [u8; RECORD];
 
 counts! {
     /// What the logs came to.
@@ -239,7 +239,7 @@ fn agile(rng: &mut Rng) -> u32 {
 }
 
 /// A log as another box writes it: margins of its own, and right records to them.
-fn other(rng: &mut Rng, given: Given, length: usize) -> Vec<Record> {
+pub fn other(rng: &mut Rng, given: Given, length: usize) -> Vec<Record> {
     let (enter, exit) = mended(given.enter, given.exit);
     let margins: Vec<f32> = (0..length).map(|_| margin(rng, enter, exit)).collect();
     let flags = stepped(&margins, given.enter, given.exit);
@@ -260,7 +260,7 @@ fn other(rng: &mut Rng, given: Given, length: usize) -> Vec<Record> {
 }
 
 /// Something wrong with a record, or only something else: one word of it is another.
-fn spoil(rng: &mut Rng, record: &mut Record, given: Given) {
+pub fn spoil(rng: &mut Rng, record: &mut Record, given: Given) {
     let (k, third, any) = (rng.below(3), 2, rng.of(&OTHER).unwrap_or(2));
     let (agile_word, command) = (word(record, AGILE + k), word(record, COMMAND + k));
     let (enter, exit) = mended(given.enter, given.exit);

@@ -1,0 +1,88 @@
+//! Every wrong version of the host's comparison, as a program of the protocol.
+
+use crate::program::Calls;
+use compare::joint::wrong::{WRONG, WRONG_CUT_OFF, WRONG_ERROR, WRONG_EXCHANGE, WRONG_ON_ROUTES, WRONG_PROFILE};
+use compare::{audit, desk, log, pattern, slow};
+
+/// Which calls a version has wrong, as docs/CONFORMANCE.md names them.
+#[derive(Clone, Copy, PartialEq, Eq, Debug)]
+pub enum Of {
+    Joint,
+    Check,
+    Log,
+    Flags,
+    Patterns,
+    Desk,
+}
+
+impl Of {
+    pub const ALL: [Of; 6] = [Of::Joint, Of::Check, Of::Log, Of::Flags, Of::Patterns, Of::Desk];
+
+    pub fn name(self) -> &'static str {
+        match self {
+            Of::Joint => "the joint calls",
+            Of::Check => "the check of a log",
+            Of::Log => "the log",
+            Of::Flags => "flags",
+            Of::Patterns => "patterns",
+            Of::Desk => "the desk",
+        }
+    }
+
+    /// Whether the calls of this kind answer such a line.
+    pub fn has(self, question: &str) -> bool {
+        let call = question.split(' ').next().unwrap_or_default();
+        match self {
+            Of::Joint => ["setup", "tick", "route", "exchange", "refusal"].contains(&call),
+            Of::Check => call == "check",
+            Of::Log => ["append", "count", "record"].contains(&call),
+            Of::Flags => call == "flags",
+            Of::Patterns => call == "expand",
+            Of::Desk => ["desksetup", "centre", "desk"].contains(&call),
+        }
+    }
+}
+
+pub struct Wrong {
+    pub of: Of,
+    pub name: String,
+    pub calls: Calls,
+}
+
+/// The name of a fault that has no words of its own: those of its identifier.
+fn spelt(name: &str) -> String {
+    let mut words = String::new();
+    for c in name.chars() {
+        if c.is_ascii_uppercase() && !words.is_empty() {
+            words.push(' ');
+        }
+        words.push(c.to_ascii_lowercase());
+    }
+    words
+}
+
+pub fn all() -> Vec<Wrong> {
+    let right = Calls::right;
+    let mut all = Vec::new();
+    let mut add = |of: Of, name: String, calls: Calls| all.push(Wrong { of, name, calls });
+    for list in [WRONG, WRONG_ERROR, WRONG_PROFILE, WRONG_CUT_OFF, WRONG_EXCHANGE, WRONG_ON_ROUTES] {
+        list.iter().for_each(|version| add(Of::Joint, version.name.to_string(), Calls { joint: *version, ..right() }));
+    }
+    for (fault, name) in audit::judge::WRONG {
+        let check = |log: &[u8], given, verdict: &mut [u8]| audit::judge::check(*fault, log, given, verdict);
+        add(Of::Check, name.to_string(), Calls { check: Box::new(check), ..right() });
+    }
+    log::parts::WRONG.iter().for_each(|face| add(Of::Log, face.name.to_string(), Calls { log: *face, ..right() }));
+    for engine in slow::WRONG {
+        let flags = move |margins: &[u8], enter, exit, flags: &mut [u8]| engine.flags(margins, enter, exit, flags);
+        add(Of::Flags, engine.name.to_string(), Calls { flags: Box::new(flags), ..right() });
+    }
+    for fault in pattern::WRONG {
+        let expand = |pattern: &[u8], route: &mut [u8], length: &mut [u8]| pattern::expand(*fault, pattern, route, length);
+        add(Of::Patterns, spelt(&format!("{fault:?}")), Calls { expand: Box::new(expand), ..right() });
+    }
+    for fault in desk::WRONG {
+        add(Of::Desk, spelt(&format!("{fault:?}")), Calls { desk: Box::new(|call, lent| desk::expected(*fault, call, lent)), ..right() });
+    }
+    all
+}

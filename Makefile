@@ -36,11 +36,13 @@
 #                  and WebAssembly. What runs another machine's code is installed as gnuplot is (INSTALL=no)
 # make dist        what links and runs without the toolchain, for every target, in dist/ and there as a tar: archives, headers, .pc files, the modules of
 #                  WebAssembly with their JavaScript, the program `fosavalo` for this machine, licence, checksums
+# make kit         the conformance kit, for those who translate or wrap the core, in dist/ and there as a tar: vectors as text, the runner `conform`, adapters
+#                  to copy (docs/CONFORMANCE.md)
 # make docs        the safe crates' pages, host/target/doc/fosavalo/index.html and fosavalo_desk beside it
 # make map         docs/MAP.md, docs/PROMISES.md and docs/STATEMENTS.md anew, from the sources
 # make clean       removes all that was built, and no flight
 # make help        these lines
-.PHONY: fly log explain check expand choices test quick edits table archives targets core exhaustive routines ticks answers bench stack dist docs map clean help
+.PHONY: fly log explain check expand choices test quick edits table archives targets core exhaustive routines ticks answers bench stack dist kit docs map clean help
 
 HOST = cd host && cargo
 # one program for flights and logs; each of these targets is a short form of its subcommand
@@ -110,6 +112,9 @@ stack: archives
 
 dist:
 	@tools/dist
+
+kit:
+	@tools/kit
 
 docs: core
 	@$(HOST) doc --release --offline --no-deps --package fosavalo --package fosavalo-desk

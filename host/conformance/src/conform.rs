@@ -310,13 +310,13 @@ struct Judge {
 }
 
 impl Judge {
-    /// What is wrong at the level of the rule; None where nothing is.
-    fn rule(&mut self, question: &str, expected: &Answer, got: &Answer) -> Option<&'static str> {
+    /// What is wrong at the level of the rule, in words where it has its own; None where nothing is.
+    fn rule(&mut self, question: &str, expected: &Answer, got: &Answer) -> Option<String> {
         let mut words = question.split(' ');
         let call = words.next().unwrap_or_default();
-        let (Answer::Said(right, _), Answer::Said(number, buffers)) = (expected, got) else { return Some("answer") };
+        let (Answer::Said(right, _), Answer::Said(number, buffers)) = (expected, got) else { return Some(String::new()) };
         if number != right {
-            return Some("number");
+            return Some(String::new());
         }
         let input = words.next().and_then(bytes_of).unwrap_or_default();
         match call {
@@ -328,15 +328,31 @@ impl Judge {
             "exchange" if *number == 0 => self.events.push(Event::Exchange),
             "tick" | "route" if *number == 0 => {
                 let (Some(answer), Answer::Said(_, right)) = (buffers.first().filter(|answer| answer.len() == 40), expected) else {
-                    return Some("answer");
+                    return Some(String::new());
                 };
                 self.events.push(Event::Record(input.clone(), answer.clone()));
-                let wrong = self.log.as_mut().and_then(|log| log.next(&input, answer));
-                let far = !near(float(answer, 9), float(right.first().map_or(&[][..], |right| right), 9));
-                return wrong.or(far.then_some("margin"));
+                let (own, right) = (float(answer, 9), float(right.first().map_or(&[][..], |right| right), 9));
+                let log = self.log.as_mut()?;
+                return match log.next(&input, answer) {
+                    Some("flag") => Some(format!(
+                        "flag {}, and the margins so far, of which the last is {own}, demand {}; enter {}, exit {}",
+                        word(answer, 6),
+                        u32::from(log.engaged),
+                        log.enter,
+                        log.exit
+                    )),
+                    Some(_) => {
+                        let three = |bytes: &[u8], at: usize| {
+                            format!("{:08x} {:08x} {:08x}", word(bytes, at), word(bytes, at + 1), word(bytes, at + 2))
+                        };
+                        let (command, planner) = (three(answer, 3), three(&input, 11));
+                        Some(format!("command {command} does not go with flag {} and the planner's words {planner}", word(answer, 6)))
+                    }
+                    None => (!near(own, right)).then(|| format!("margin {own}, not near {right}")),
+                };
             }
             "tick" | "route" | "setup" | "exchange" => {}
-            _ if got.canonical() != expected.canonical() => return Some("answer"),
+            _ if got.canonical() != expected.canonical() => return Some(String::new()),
             _ => {}
         }
         None
@@ -401,31 +417,44 @@ fn mix(digest: u64, bytes: &[u8]) -> u64 {
     bytes.iter().fold(start, |hash, byte| (hash ^ u64::from(*byte)).wrapping_mul(0x0000_0100_0000_01b3))
 }
 
+/// Whether later answers may hang on this call: where it is unsupported, what differs behind it is no fault of its own.
+fn moves(question: &str) -> bool {
+    let (call, more) = question.split_once(' ').unwrap_or((question, ""));
+    match call {
+        "image" | "deskimage" => !more.is_empty(),
+        "refusal" | "bytes" | "count" | "record" | "check" | "flags" | "expand" | "sample" => false,
+        _ => true,
+    }
+}
+
 /// Asks every line up to the claimed level, in their order, and judges each at every level up to it.
 pub fn run<E>(rules: &[&Rule], claimed: Level, mut ask: impl FnMut(&Rule, &Line) -> Result<Answer, E>) -> Result<Report, E> {
     let (mut judge, mut all) = (Judge::default(), Vec::new());
     for rule in rules {
         let mut told: [Told; 3] = Default::default();
+        let mut adrift = false;
         judge.log = None;
         for line in rule.lines.iter().filter(|line| line.level <= claimed) {
             let got = ask(rule, line)?;
+            adrift |= got == Answer::Unsupported && moves(&line.question);
             for level in LEVELS.into_iter().filter(|level| line.level <= *level && *level <= claimed) {
                 let told = &mut told[level as usize];
                 // in the order of the levels: the rule's judge keeps a log
                 let wrong = match level {
                     Level::Rule => judge.rule(&line.question, &line.expected, &got),
-                    Level::Bits => (got != line.expected && got.canonical() != line.expected.canonical()).then_some(""),
-                    Level::Bytes => (got != line.expected).then_some(""),
+                    Level::Bits => (got != line.expected && got.canonical() != line.expected.canonical()).then(String::new),
+                    Level::Bytes => (got != line.expected).then(String::new),
                 };
                 match (&got, wrong) {
                     (Answer::Unsupported, _) => told.unsupported += 1,
                     (_, None) => told.passed += 1,
+                    (_, Some(_)) if adrift => told.unsupported += 1,
                     (_, Some(what)) => {
                         told.broken += 1;
                         let said = if level == Level::Bytes { got.text() } else { got.canonical().text() };
                         told.digest = mix(told.digest, format!("{} {said}\n", line.at).as_bytes());
                         if told.first.is_none() {
-                            told.first = Some(broken(line, &got, level, what));
+                            told.first = Some(broken(line, &got, level, &what));
                         }
                     }
                 }
@@ -494,6 +523,11 @@ fn differ(call: &str, right: &[Vec<u8>], own: &[Vec<u8>], level: Level) -> Vec<S
             found.push(format!("{} bytes, not {}", own.len(), right.len()));
             continue;
         }
+        if call == "flags" {
+            let wrong = (0..right.len()).filter(|at| right[*at] != own[*at]);
+            found.extend(wrong.map(|at| format!("flag {at} {}, not {}", own[at], right[at])));
+            continue;
+        }
         for at in 0..right.len().div_ceil(4) {
             let (a, b) = (&right[4 * at..right.len().min(4 * at + 4)], &own[4 * at..own.len().min(4 * at + 4)]);
             if a == b || (level != Level::Bytes && alike(a) == alike(b)) {
@@ -517,14 +551,12 @@ fn broken(line: &Line, got: &Answer, level: Level, what: &str) -> Broken {
         (Answer::Said(_, right), Answer::Said(_, own)) if right.len() != own.len() => {
             format!("{} buffers told, not {}", own.len(), right.len())
         }
+        _ if !what.is_empty() => what.to_string(),
         (Answer::Said(_, right), Answer::Said(_, own)) => {
             let all = differ(call, right, own, level);
             let rest = all.len().saturating_sub(4);
             let more = if rest > 0 { format!("; {rest} more") } else { String::new() };
-            let by_rule =
-                if what.is_empty() { String::new() } else { format!("the {what} does not go with the margins so far and the input: ") };
-            let by_rule = if what == "margin" { "the margin is not near: ".to_string() } else { by_rule };
-            format!("{by_rule}{}{more}", all[..all.len().min(4)].join("; "))
+            format!("{}{more}", all[..all.len().min(4)].join("; "))
         }
         _ => "this is no answer".to_string(),
     };

@@ -49,8 +49,64 @@ pub struct Wrong {
     pub calls: Calls,
 }
 
-/// The name of a fault that has no words of its own: those of its identifier.
+/// Faults of patterns and of the desk in words.
+const WORDS: [(&str, &str); 49] = [
+    ("FiveDeep", "repeats five deep taken"),
+    ("CountFirst", "5 before 12"),
+    ("JoinsBeforeRoom", "7 before 9"),
+    ("OnceLess", "each repeat flown once less"),
+    ("WithinARound", "joins looked at within a round alone"),
+    ("ThreeDeep", "repeats four deep refused"),
+    ("FiveDeepEmpty", "an empty repeat five deep taken"),
+    ("CountZero", "a count of 0 taken"),
+    ("CountTen", "a count of 10 taken"),
+    ("CountAscii", "a count's digit taken"),
+    ("OtherTag", "a tag of 2 skipped"),
+    ("BigEndian", "the length's bytes the other way round"),
+    ("LeftOver", "what is left over in a repeat not looked at"),
+    ("InnerShort", "a length beyond the end cut"),
+    ("LengthOfAll", "the length taken for that of all the repeat"),
+    ("OneLegMore", "33 legs taken"),
+    ("OneLegFewer", "32 legs refused"),
+    ("CountWraps", "the number of legs cut to 8 bits"),
+    ("CountWrapsLate", "the number of legs cut to 16 bits"),
+    ("NoneTaken", "a pattern of no leg taken"),
+    ("RoomFirst", "9 before 5"),
+    ("RoomForLegs", "room for the legs alone thought enough"),
+    ("OneByteMore", "a byte more of room wanted"),
+    ("LengthLate", "2 after 12"),
+    ("AcrossRounds", "joins from one round to the next not looked at"),
+    ("IntoARound", "joins into a repeat not looked at"),
+    ("EmptyBetween", "joins across an empty repeat not looked at"),
+    ("JoinPositions", "places alone compared at joins"),
+    ("JoinBits", "joins compared in bits"),
+    ("LastToFirst", "the last leg to meet the first"),
+    ("InnerOnce", "a repeat inside of another flown once"),
+    ("ItemCount", "items counted in the trailer"),
+    ("BackFromEnd", "bytes back from the end of the route"),
+    ("LengthOfLegs", "the trailer left out of the length"),
+    ("RestCleared", "the rest of the buffer cleared"),
+    ("LengthRefused", "the length written though it is refused"),
+    ("RateOfHeading", "the heading's rate for the turn"),
+    ("WrittenFirst", "written before the refusal is known"),
+    ("SteppedFirst", "the desk stepped before the refusal is known"),
+    ("CentreSteps", "a button that steps"),
+    ("DtCleanedForAll", "one cleaned dt for the desk and the core"),
+    ("DtOfGovernor", "dt cleaned as the governor does"),
+    ("ZoomWritten", "the zoom for the turn"),
+    ("FlownAsLent", "the core ticks on the input as it was lent"),
+    ("Unmended", "set-up as given, not mended"),
+    ("CentreForgets", "a button that forgets the limits"),
+    ("SticksBeforeDesk", "16 before 15"),
+    ("CoreBeforeSticks", "the core's numbers before 16"),
+    ("None", "no fault"),
+];
+
+/// Or as its name spells it.
 fn spelt(name: &str) -> String {
+    if let Some((_, words)) = WORDS.iter().find(|(own, _)| *own == name) {
+        return words.to_string();
+    }
     let mut words = String::new();
     for c in name.chars() {
         if c.is_ascii_uppercase() && !words.is_empty() {

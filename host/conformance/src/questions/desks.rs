@@ -35,7 +35,7 @@ fn desk(s: &mut Section) {
     let mut rng = Rng::new("kit desks", 0);
     for profile in [0, 1] {
         // the margin goes about its thresholds, so that the fallback, and with it the heading rate, is seen
-        s.set_up(&SetUp::new(profile).with(9, &[1.0, 3.25, 0.75, 0.5, 0.65]));
+        s.set_up(&SetUp::new(profile).with(9, &[1.0, 5.0, 0.75, 0.3, 0.6]));
         set_up(s, STICKS);
         look(s);
         for n in 0..60 {

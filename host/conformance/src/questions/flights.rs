@@ -9,9 +9,9 @@ use compare::joint::bytes::SETUP_PROFILE;
 use compare::steps::sincos;
 
 pub const SECTIONS: &[Made] = &[
-    Made { file: "11-dt", name: "a dt of 0, negative, NaN, infinite", words: &["A dt that is not finite and above 0 adds nothing.", "dt is put into 1e-4..0.1, and is 1e-3 if not finite."], place: PARTS, level: Level::Bits, lines: steps },
-    Made { file: "12-clock", name: "a clock that has stopped growing, and one at infinity", words: &["The time never falls between resets and is never NaN; it may reach +infinity", "Sample the segment at its time, or at the first axis's t_end if the time is +infinity"], place: PARTS, level: Level::Bits, lines: clock },
-    Made { file: "13-gate", name: "the governor's gate", words: &["the gate lies between g_min put into 0..1 (0 if it is not finite) and 1."], place: PARTS, level: Level::Bits, lines: gate },
+    Made { file: "11-dt", name: "a dt of 0, negative, NaN, infinite", words: &["A dt that is not finite and above 0 adds nothing.", "dt is put into 1e-4..0.1, and is 1e-3 if not finite."], place: PARTS, level: Level::Rule, lines: steps },
+    Made { file: "12-clock", name: "a clock that has stopped growing, and one at infinity", words: &["The time never falls between resets and is never NaN; it may reach +infinity", "Sample the segment at its time, or at the first axis's t_end if the time is +infinity"], place: PARTS, level: Level::Rule, lines: clock },
+    Made { file: "13-gate", name: "the governor's gate", words: &["the gate lies between g_min put into 0..1 (0 if it is not finite) and 1."], place: PARTS, level: Level::Rule, lines: gate },
     Made { file: "14-classes", name: "subnormal numbers and every other class, in every word", words: &["Every bit pattern of a float and every length of a buffer has a defined answer."], place: REQUEST, level: Level::Bits, lines: classes },
     Made { file: "15-free-fall", name: "a thrust that is next to nothing", words: &["The fallback is `desired_rate` plus `flatness_omega_ff`, and `desired_rate` alone where the latter refuses."], place: JOINT, level: Level::Bits, lines: free_fall },
     Made { file: "16-flights", name: "flights with all rotors", words: &["In the joint tick the margin's rate error is the filtered rate less RᵀR_d times the feedforward, so that a turn which was asked for is no error; where the feedforward refuses, the filtered rate as before."], place: REQUESTS, level: Level::Rule, lines: |s| flights(s, 0) },

@@ -67,10 +67,10 @@ macro_rules! versions {
 }
 use versions;
 
-/// A call on bytes by these. One that is taken and is to be refused gives 0 and does nothing, for the Rust may panic there.
+/// A call on bytes by these. One that is taken and is to be refused gives 0 and does nothing, for the Rust may panic there; but not for peaks, which it does not read.
 fn by(refusals: &impl Refusals, steps: &impl Steps, call: Call, lent: &mut Lending<'_>) -> u32 {
     let number = refusals.refused(call, lent);
-    if number == 0 && Right.refused(call, lent) == 0 {
+    if number == 0 && PeaksUnread.refused(call, lent) == 0 {
         steps.act(call, lent);
     }
     number

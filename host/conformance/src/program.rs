@@ -210,6 +210,6 @@ impl<'a> Program<'a> {
     }
 
     fn lend(&self, sticks: &[u8], input: &[u8], answer: Vec<u8>) -> desk::Lent {
-        desk::Lent { desk: self.desk.clone(), sticks: sticks.to_vec(), image: self.image.clone(), input: input.to_vec(), answer }
+        desk::Lent { desk: self.desk.clone(), sticks: sticks.to_vec(), image: self.image.clone(), input: input.to_vec(), route: Vec::new(), answer }
     }
 }

@@ -1,5 +1,5 @@
 // An adapter of the conformance kit: it reads a line and answers one (CONFORMANCE.md). Here for the WebAssembly modules; in another's place stand his calls.
-//   ./conform node adapter.mjs FOLDER      FOLDER holds fosavalo.js, fosavalo.wasm and fosavalo_desk.wasm
+//   ./conform node adapter.mjs FOLDER [FOLDER]      the first holds fosavalo.wasm and fosavalo_desk.wasm, and fosavalo.js if there is no second
 
 import { readFile } from 'node:fs/promises';
 import { createInterface } from 'node:readline';

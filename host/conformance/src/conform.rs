@@ -1,9 +1,9 @@
 //! Runs the vectors of the conformance kit through a program that reads a line and answers one, and says which rules it keeps.
-//! One file and the standard library: `rustc -O conform.rs`. `conform --help` has its use, CONFORMANCE.md the protocol and the form of the vectors.
+//! One file and the standard library: `rustc --edition 2021 -O conform.rs`. `conform --help` has its use, CONFORMANCE.md the protocol and the form of the vectors.
 
 use std::collections::BTreeMap;
 use std::fmt::Write as _;
-use std::io::{BufRead, BufReader, Write as _};
+use std::io::{BufRead, BufReader, Read as _, Write as _};
 use std::path::{Path, PathBuf};
 use std::process::{Child, Command, ExitCode, Stdio};
 use std::sync::mpsc::{self, RecvTimeoutError};
@@ -608,6 +608,9 @@ pub fn named(rules: &[&Rule], report: &Report, claimed: Level, known: &[(String,
     }
 }
 
+/// The longest answer that is read, in bytes: more than any call can tell.
+const LONGEST: u64 = 1 << 25;
+
 /// The program that is asked. All questions are on their way at once, so that it is not waited for line by line.
 struct Asked {
     child: Child,
@@ -629,12 +632,12 @@ impl Asked {
         };
         // where it ends early, what is missing is seen among the answers
         std::thread::spawn(move || to.write_all(questions.as_bytes()).is_ok());
-        let (sender, answers) = mpsc::sync_channel(4096);
+        let (sender, answers) = mpsc::sync_channel(256);
         std::thread::spawn(move || {
             let mut from = BufReader::with_capacity(1 << 16, from);
             loop {
                 let mut line = Vec::new();
-                match from.read_until(b'\n', &mut line) {
+                match from.by_ref().take(LONGEST).read_until(b'\n', &mut line) {
                     Ok(1..) if sender.send(line).is_ok() => {}
                     _ => return,
                 }
@@ -829,7 +832,11 @@ fn as_text(rules: &[&Rule], report: &Report, claimed: Level, names: &[String], t
         };
     }
     for (level, sum) in LEVELS.iter().zip(sums(report)).filter(|(level, _)| **level <= claimed) {
-        let verdict = if sum.broken + sum.unsupported == 0 { "passed" } else { "NOT passed" };
+        let verdict = match (sum.passed, sum.broken + sum.unsupported) {
+            (0, 0) => "not asked",
+            (_, 0) => "passed",
+            _ => "NOT passed",
+        };
         let _ = writeln!(
             out,
             "{:5} {verdict}: {} lines passed, {} broken, {} unsupported",
@@ -858,6 +865,9 @@ fn conform(given: &Options) -> Result<(String, bool), String> {
         Err(_) => Vec::new(),
     };
     let lines = || rules.iter().flat_map(|rule| rule.lines.iter()).filter(|line| line.level <= given.level);
+    if lines().next().is_none() {
+        return Err(format!("none of these rules has a line at the level of {}", given.level.name()));
+    }
     let mut questions = String::with_capacity(lines().map(|line| line.question.len() + 1).sum());
     lines().for_each(|line| {
         questions.push_str(&line.question);

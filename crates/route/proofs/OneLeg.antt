@@ -2,11 +2,11 @@
 use Rattle.laws.proofs.Prelude.{_≡_, refl, sym, ap, _∙_, subst, inl, inr, Bool, true, false, cond, List, ℕ, zero, suc, _*_, _≤_, zero-mul, arith, leb→le, T, ℤ, Float, nan, inf, fin}
 use Rattle.laws.proofs.Prelude.{binary32, fits, isNan, up, down, lt, le, eq, ofBits, sub, neg, add, sum, no}
 use lib.Ieee.{Fits.down-pos, Scale.round-same}
-use Rattle.relay_math.specs.F32.{_⊕_, _⊖_, 0·0, 1e-3, ∞, isFinite}
+use Rattle.relay_math.specs.F32.{_⊖_, 0·0, 1e-3, ∞, isFinite}
 use Rattle.relay_math.proofs.{Order.{le-trans, le-of-not-lt, le-refl-of, lt-irrefl, finite-number, not-lt-of-le}, Signs.{le-is, zero-is, is-below}, Sums.{zero-adds-nothing, round-zero, round-own}}
-use Rattle.relay_traj.specs.{declared.segment.Segment3.Segment3, Governor.Running, Quintic.{Lasts, mendedDuration, mendEnds, ofMended, quintic, timeOn, eval}, Segment.{segment, duration, eval3}}
+use Rattle.relay_traj.specs.{declared.segment.Segment3.Segment3, Governor.Running, Quintic.{Lasts, mendedDuration, mendEnds, ofMended, quintic, timeOn, eval}, Segment.{segment, eval3}}
 use Rattle.joint_tick.specs.{declared.state.Leg.Leg, SetUp.segmentOf, Tick.{sampleTime, sampleAt3, referenceIn, referenceAt}}
-use Rattle.route.specs.{Form.{legOf, legCount}, Legs.{durationOf, legFlown, sampleOf, sampleOn, referenceOn, endOf, FirstAbove, PastAll}, Entry.onRoute}
+use Rattle.route.specs.{Form.{legOf, legCount}, Legs.{durationOf, sampleOf, sampleOn, referenceOn, endOf, FirstAbove, PastAll}, Entry.onRoute}
 use Rattle.route.proofs.{LocalTime.lasts-plus, LegFlown.{duration-lasts, duration-fits, first-end, the-leg-flown, past-all-ends, above-or-past, kept}}
 
 -- ---- a time less nothing

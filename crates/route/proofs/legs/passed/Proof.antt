@@ -1,5 +1,5 @@
 -- `route::legs::passed`: what is found from leg i on, after the ends up to it, is what is found at all. Assumes nothing.
-use Rattle.laws.proofs.Prelude.{needs, _≡_, refl, sym, _∙_, _-_, _≤_, sub-zero, arith}
+use Rattle.laws.proofs.Prelude.{_≡_, refl, sym, _∙_, _-_, _≤_, sub-zero, arith}
 use Rattle.route.specs.Legs.{flownFrom, legFlown}
 use Rattle.route.proofs.{LegWalks.{flown-on, flown-here, flown-last}, legs.passed.Statement.statement}
 use Rattle.route.proofs.legs.passed.Tie.{InvT-loop, MeasureT-loop, Need-loop-holds, Need-returns, Need-loop-again, Need-returns-2, close, spec}

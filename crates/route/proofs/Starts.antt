@@ -1,10 +1,12 @@
 -- Where a leg starts, position and velocity of the sample are the leg's, as numbers: -0.0 and 0.0 are one there. Where it ends they need not be. Assumes nothing.
-use Rattle.laws.proofs.Prelude.{_≡_, refl, sym, ap, _∙_, Bool, true, false, _&&_, List, ℕ, zero, suc, _*_, zero-mul, zero-add, sub-zero, mul-one, one-mul, arith, lt-ltb, le-ltb, ne-eqb, mul-pos, lit<, lit≤}
+use Rattle.laws.proofs.Prelude.{_≡_, refl, sym, ap, _∙_, Bool, true, false, _&&_, List, ℕ, zero, suc, _*_, zero-mul, zero-add, sub-zero, mul-one, one-mul, arith, lt-ltb, le-ltb, ne-eqb, mul-pos}
+use Rattle.laws.proofs.Prelude.{lit<, lit≤}
 use Rattle.laws.proofs.Prelude.{T, ℤ, pos, Float, nan, inf, fin, binary32, fits, up, down, round, sum, add, sub, mul, div, eq, lt, le, neg, ofBits, no, both}
 use native.Mathlib.Nat.{sub-self}
 use lib.Ieee.{Fits.{cond-fits, mul-fits, down-pos}, Bits.is-true}
 use Rattle.relay_math.specs.{declared.Vec3.Vec3, F32.{_⊕_, _⊖_, _⊗_, f32, 0·0, 1e-3, 1·0, 2·0, 3·0, isFinite, finiteOr, unsigned}}
-use Rattle.relay_math.proofs.{Order.{eq-refl-of, finite-number, le-trans}, Signs.size-pos, Sums.{round-zero, round-own, zero-times}, Round.round-signed, FiniteOr.or-zero-finite, Zeros.{IsZero, none, plus, times as times-zero, finite as finite-zero}}
+use Rattle.relay_math.proofs.{Order.{eq-refl-of, finite-number, le-trans}, Signs.size-pos, Sums.{round-zero, round-own, zero-times}, Round.round-signed, FiniteOr.or-zero-finite}
+use Rattle.relay_math.proofs.Zeros.{IsZero, none, plus, times as times-zero, finite as finite-zero}
 use Rattle.relay_traj.specs.{declared.quintic.{Quintic.Quintic, Sample.Sample}, Quintic.{4·0, 5·0, mendedDuration, mendEnds, ofMended, quintic, timeOn, sampleAt, eval}}
 use Rattle.relay_traj.{specs.Segment.{segment, eval3}, proofs.Leg.mended-lasts}
 use Rattle.words.{specs.Words.vec, proofs.WordsBack.float-fits}

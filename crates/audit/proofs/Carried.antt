@@ -1,5 +1,5 @@
--- The flag carried along a list of records, as the shield does: if each is right by it, the verdict is "all right". Assumes nothing.
-use Rattle.laws.proofs.Prelude.{ℕ, zero, suc, _<_, _≡_, refl, sym, ap, _∙_, Bool, true, false, List, [], _∷_, le-of-suc-le-suc, arith, Float, lt, length, getD, take, length-map}
+-- The flag carried along a list of records, as the shield does: each is right by it exactly if the verdict is "all right". Assumes nothing.
+use Rattle.laws.proofs.Prelude.{ℕ, zero, suc, _<_, _≡_, refl, sym, ap, _∙_, Bool, true, false, List, [], _∷_, le-of-suc-le-suc, suc-le-suc, zero-lt-suc, arith, Float, lt, length, getD, take, length-map}
 use Rattle.latch.{specs.Latch.{latch, after}, proofs.LatchFlies.{flag-from, flag-flies-at}}
 use Rattle.joint_tick.specs.declared.profile.Profile.{Profile}
 use Rattle.slow.{specs.Back.lookBack, proofs.Slow.looks-back}
@@ -36,3 +36,16 @@ unfolding rightAt
 carried-right profile enter exit o rs c = verdict-says profile enter exit rs AllRight .1 (λ i h.
     let l : i < length (marginsIn rs) = rw (length-map rs marginIn) h in
     ap (λ (demanded : Bool). right profile demanded (getD rs i [])) (sym (looked-back enter exit o (marginsIn rs) i l)) ∙ carried-at profile enter exit true rs c i h)
+
+carried-from : (profile : Profile) (enter exit : Float) (before : Bool) (rs : List (List ℕ))
+    → ((i : ℕ) → i < length rs → right profile (after enter exit before (take (suc i) (marginsIn rs))) (getD rs i []) ≡ true) → Carried profile enter exit before rs
+unfolding after
+carried-from profile enter exit before [] f = _
+carried-from profile enter exit before (r ∷ rs) f = (f 0 (zero-lt-suc (length rs)), carried-from profile enter exit (latch enter exit before (marginIn r)) rs (λ i h. f (suc i) (suc-le-suc h)))
+
+-- and the other way round
+pub right-carried : (profile : Profile) (enter exit : Float) → lt enter exit ≡ true → (rs : List (List ℕ)) → verdictOf profile enter exit rs ≡ AllRight → Carried profile enter exit true rs
+unfolding rightAt
+right-carried profile enter exit o rs v = carried-from profile enter exit true rs (λ i h.
+    let l : i < length (marginsIn rs) = rw (length-map rs marginIn) h in
+    ap (λ (demanded : Bool). right profile demanded (getD rs i [])) (looked-back enter exit o (marginsIn rs) i l) ∙ verdict-says profile enter exit rs AllRight .0 v i h)

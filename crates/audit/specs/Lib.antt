@@ -1,3 +1,4 @@
 pub mod Right
 pub mod Verdict
+pub mod Series
 pub mod Entry

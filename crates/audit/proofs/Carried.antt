@@ -1,5 +1,6 @@
 -- The flag carried along a list of records, as the shield does: each is right by it exactly if the verdict is "all right". Assumes nothing.
-use Rattle.laws.proofs.Prelude.{ℕ, zero, suc, _<_, _≡_, refl, sym, ap, _∙_, Bool, true, false, List, [], _∷_, le-of-suc-le-suc, suc-le-suc, zero-lt-suc, arith, Float, lt, length, getD, take, length-map}
+use Rattle.laws.proofs.Prelude.{ℕ, zero, suc, _<_, _≡_, refl, sym, ap, _∙_, Bool, true, false, List, [], _∷_, le-of-suc-le-suc, suc-le-suc, zero-lt-suc, arith, Float, lt, length, getD, take}
+use Rattle.laws.proofs.Prelude.length-map
 use Rattle.latch.{specs.Latch.{latch, after}, proofs.LatchFlies.{flag-from, flag-flies-at}}
 use Rattle.joint_tick.specs.declared.profile.Profile.{Profile}
 use Rattle.slow.{specs.Back.lookBack, proofs.Slow.looks-back}
@@ -26,8 +27,7 @@ same false b f g = sym (f refl)
 -- a fresh latch over the margins up to a place says what looking back from there does: both are the user's rule
 looked-back : (enter exit : Float) → lt enter exit ≡ true → (ms : List Float) (i : ℕ) → i < length ms → after enter exit true (take (suc i) ms) ≡ lookBack enter exit ms (suc i)
 looked-back enter exit o ms i h =
-    let e = flag-from enter exit true ms i h in
-    let fast = flag-flies-at enter exit ms i h o in
+    let e = flag-from enter exit true ms i h in let fast = flag-flies-at enter exit ms i h o in
     let slow = looks-back enter exit ms i in
     same _ _ (λ f. slow .1 (fast .0 (e ∙ f))) (λ f. sym e ∙ fast .1 (slow .0 f))
 

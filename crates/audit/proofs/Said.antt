@@ -103,8 +103,7 @@ module _ (profile : Profile) (enter exit : Float) (rs : List (List ℕ)) (i : �
   shown : (demanded : Bool) → Rule demanded → right profile demanded r ≡ true → RightAt profile enter exit rs i
   unfolding right
   shown true rule e =
-      let w = both (eqb (flagWord r) 1) (finites r) e in
-      let f = eqb-true (flagWord r) 1 (w .0) in
+      let w = both (eqb (flagWord r) 1) (finites r) e in let f = eqb-true (flagWord r) 1 (w .0) in
       record {
         flag = inr f;
         flies = (λ z. absurd (omega (arith, z, f)), λ x. no (sym (rule .1 x)));
@@ -112,8 +111,7 @@ module _ (profile : Profile) (enter exit : Float) (rs : List (List ℕ)) (i : �
         fallback = λ z. finites-each profile r .0 (w .1);
       }
   shown false rule e =
-      let w = both (eqb (flagWord r) 0) (planners profile r) e in
-      let f = eqb-true (flagWord r) 0 (w .0) in
+      let w = both (eqb (flagWord r) 0) (planners profile r) e in let f = eqb-true (flagWord r) 0 (w .0) in
       record { flag = inl f; flies = (λ z. rule .0 refl, λ x. f); planner = λ z. planners-each profile r .0 (w .1); fallback = λ z. absurd (omega (arith, z, f)) }
 
   meets : (demanded : Bool) → Rule demanded → RightAt profile enter exit rs i → right profile demanded r ≡ true
@@ -126,8 +124,7 @@ module _ (profile : Profile) (enter exit : Float) (rs : List (List ℕ)) (i : �
   pub right-exactly : (rightAt profile enter exit rs i ≡ true) ↔ RightAt profile enter exit rs i
   unfolding rightAt
   right-exactly =
-      let demanded = lookBack enter exit (marginsIn rs) (suc i) in
-      let rule = looks-back enter exit (marginsIn rs) i in
+      let demanded = lookBack enter exit (marginsIn rs) (suc i) in let rule = looks-back enter exit (marginsIn rs) i in
       (shown demanded rule, meets demanded rule)
 
 -- Soundness: an accepted log shows the planner flying exactly where the user's rule says

@@ -17,8 +17,7 @@ pub demand-three-beside-desk : (desk setup : List ℕ) (calls : List AnyCall) (t
     let margins = marginsAlong (start setup) (coreAlong (deskAndImage desk (start setup)) calls) ++ guided (h .image) t .margin ∷ [] in
     Shows (Flies (enterOf setup) (exitOf setup) margins) (h .image) t
 demand-three-beside-desk desk setup calls t right =
-    let first = deskAndImage desk (start setup) in
-    let before = coreAlong first calls in
+    let first = deskAndImage desk (start setup) in let before = coreAlong first calls in
     subst (λ (image : List ℕ). Shows (Flies (enterOf setup) (exitOf setup) (marginsAlong (start setup) before ++ guided image t .margin ∷ [])) image t)
     (sym (core-sees first calls)) (demand-three setup before t right)
 
@@ -31,9 +30,7 @@ pub demand-three-by-desk : (desk setup : List ℕ) (calls : List AnyCall) (g : D
     let margins = marginsAlong (start setup) (coreAlong (deskAndImage desk (start setup)) calls) ++ guided (h .image) t .margin ∷ [] in
     (deskNumber (deskTick h g .outcome) ≡ 0) × (deskTick h g .later .answer ≡ tickOf (h .image) t .later .answer) × Shows (Flies (enterOf setup) (exitOf setup) margins) (h .image) t
 demand-three-by-desk desk setup calls g r p q i a =
-    let first = deskAndImage desk (start setup) in
-    let h = heldAfter first calls in
-    let t = flownTick h g in
+    let first = deskAndImage desk (start setup) in let h = heldAfter first calls in let t = flownTick h g in
     let unbroken : Unbroken (h .image) = subst Unbroken (sym (core-sees first calls)) (ran setup (coreAlong first calls) .unbroken) in
     let done = tick-accepted (byDesk (g .course)) (h .desk) (g .sticks) (h .image) (g .input) (g .answer) (good (g .course) r) (desk-size first calls p) q i a unbroken in
     let right : Right t = (input-length (byDesk (g .course)) (h .desk) (g .sticks) (h .image) (g .input) (g .answer) ∙ i, a, r) in (

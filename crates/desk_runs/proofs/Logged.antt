@@ -42,8 +42,7 @@ records-are h (ByDesk g ∷ calls) = go (deskDone (deskTick h g .outcome)) refl 
     go : (t : Bool) → deskDone (deskTick h g .outcome) ≡ t → recordsAlong after calls ≡ ticksKept (later .image) rest
         → cond t ((later .input ++ later .answer) ∷ []) [] ++ recordsAlong after calls ≡ ticksKept (h .image) (cond t (CoreTicks (flownTick h g) ∷ []) [] ++ rest)
     go true e more =
-        let c = CoreTicks (flownTick h g) in
-        let k = kept h g e in
+        let c = CoreTicks (flownTick h g) in let k = kept h g e in
         ap (λ (l : List (List ℕ)). l ++ recordsAlong after calls) (sym (k .0))
         ∙ ap (λ (l : List (List ℕ)). recordsOf (keepsOf (h .image) c) ++ l) (more ∙ ap (λ (image : List ℕ). ticksKept image rest) (sym (k .1)))
         ∙ sym (next-kept (h .image) c rest)

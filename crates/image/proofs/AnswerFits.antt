@@ -48,8 +48,7 @@ module _ (gains : GeoGains) (set : RecoverableSet) (w : BodyRate) (wanted : Refe
   guide-margin-fits : (p : Profile) → F32 (guide p gains set w wanted i .margin)
   unfolding guide guideWhole guideLostRotor
   guide-margin-fits Whole =
-      let r = quatToRotmat (i .quat) in
-      let rd = desiredR wanted i in
+      let r = quatToRotmat (i .quat) in let rd = desiredR wanted i in
       margin-of-fits set r rd (rateSq (rateError w r (feedforward wanted i) rd))
   guide-margin-fits LostRotor = margin-to-axis-fits set (quatToRotmat (i .quat)) (thrustAxisNed (cleaned wanted .acc)) (tiltRateSq w)
 

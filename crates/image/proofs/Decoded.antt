@@ -97,8 +97,7 @@ time-written s f = float-written s GOVERNOR (s .moving .governor .s) refl f
 pub segment-written : (s : State) → FitsSegment (s .fixed .segment) → segmentAt (imageOf s) SEGMENT ≡ s .fixed .segment
 unfolding segmentAt
 segment-written s f =
-    let at = quintic-back (image-is s) in
-    let g = s .fixed .segment in
+    let at = quintic-back (image-is s) in let g = s .fixed .segment in
     simp (at SEGMENT (g .0) refl (f .0), at (SEGMENT + QUINTIC-WORDS) (g .1) refl (f .1), at (SEGMENT + QUINTIC-WORDS + QUINTIC-WORDS) (g .2) refl (f .2))
 
 pub rate-written : (s : State) → FitsRate (s .moving .rate) → rateAt (imageOf s) RATE ≡ s .moving .rate
@@ -119,8 +118,7 @@ peaks s = peakAbsJerk3 (s .fixed .segment)
 
 pub peaks-written : (s : State) → (word (imageOf s) PEAKS ≡ bits (peaks s .0)) × (word (imageOf s) (PEAKS + 1) ≡ bits (peaks s .1)) × (word (imageOf s) (PEAKS + 2) ≡ bits (peaks s .2))
 peaks-written s =
-    let at = bits-back (image-is s) in
-    let f = peaks-fit (s .fixed .segment) in
+    let at = bits-back (image-is s) in let f = peaks-fit (s .fixed .segment) in
     (at PEAKS (peaks s .0) refl (f .0), at (PEAKS + 1) (peaks s .1) refl (f .1 .0), at (PEAKS + 2) (peaks s .2) refl (f .1 .1 .0))
 
 -- what is written is read again

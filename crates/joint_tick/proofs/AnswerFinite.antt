@@ -15,13 +15,11 @@ use Rattle.joint_tick.proofs.TickClock.{tick-time, time-never-back}
 pub guide-margin-ranges : (p : Profile) (gains : GeoGains) (set : RecoverableSet) (w : BodyRate) (wanted : Reference) (i : TickInput) → Ranges (guide p gains set w wanted i .margin)
 unfolding guide guideWhole guideLostRotor
 guide-margin-ranges Whole gains set w wanted i =
-    let r = quatToRotmat (i .quat) in
-    let rd = desiredR wanted i in
+    let r = quatToRotmat (i .quat) in let rd = desiredR wanted i in
     let wSq = rateSq (rateError w r (feedforward wanted i) rd) in
     subst Ranges (one-margin set r rd wSq) (margin-finite-or-minus-infinity set (psiOf r rd) wSq)
 guide-margin-ranges LostRotor gains set w wanted i =
-    let r = quatToRotmat (i .quat) in
-    let axis = thrustAxisNed (cleaned wanted .acc) in
+    let r = quatToRotmat (i .quat) in let axis = thrustAxisNed (cleaned wanted .acc) in
     subst Ranges (one-margin-to-axis set r axis (tiltRateSq w)) (margin-finite-or-minus-infinity set (psiToAxis r axis) (tiltRateSq w))
 
 minus-infinity-number : T (not (isNan minusInfinity))

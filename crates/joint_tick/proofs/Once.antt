@@ -26,8 +26,7 @@ one-margin set r Refused wSq = refl
 
 pub guided-once : (gains : GeoGains) (set : RecoverableSet) (w : BodyRate) (wanted : Reference) (i : TickInput)
     → (let t = thrustOf (cleaned wanted .acc) in
-    let r = quatToRotmat (i .quat) in
-    let rd = attitudeOn t (i .yaw) in
+    let r = quatToRotmat (i .quat) in let rd = attitudeOn t (i .yaw) in
     let ff = feedforwardOn t (cleaned wanted .jerk) (i .«yaw_rate») rd in
     _≡_ {A = Guided} record {
       fallback = withFeedforward (rateToward gains r rd) ff;
@@ -49,8 +48,7 @@ one-margin-to-axis set r direction.Refused wSq = refl
 
 pub guided-lost-once : (gains : GeoGains) (set : RecoverableSet) (w : BodyRate) (wanted : Reference) (i : TickInput)
     → (let axis = thrustAxisNed (sanitise3 (wanted .acc)) in
-    let r = quatToRotmat (i .quat) in
-    let v = sanitise3 (i .agile .0) in
+    let r = quatToRotmat (i .quat) in let v = sanitise3 (i .agile .0) in
     _≡_ {A = Guided} record {
       fallback = rateTowardAxis gains r axis;
       psi = psiToAxis r axis;

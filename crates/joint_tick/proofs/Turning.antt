@@ -100,8 +100,7 @@ module _ (source : Float → Reference) (s : State) (i : TickInput) (p : s .fixe
       → ticked source s i .answer .margin ≡ before
   unfolding guideWhole commanded rateSq dot prepare gyroFilter
   zeros-as-before rd f d a z n =
-      let m = matmul3 (transpose3 (quatToRotmat (i .quat))) rd in
-      let l = s .moving .lpf in
+      let m = matmul3 (transpose3 (quatToRotmat (i .quat))) rd in let l = s .moving .lpf in
       margin-is
       ∙ rw (d, a, less-zero _ (output-fits (l .roll) (i .gyro .0 .0)) (dot-fits (m .0) (f .0)) (dot-zero (m .0) (f .0) (n .0) z))
       (rw (less-zero _ (output-fits (l .pitch) (i .gyro .0 .1)) (dot-fits (m .1) (f .0)) (dot-zero (m .1) (f .0) (n .1) z))

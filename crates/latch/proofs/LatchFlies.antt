@@ -139,8 +139,7 @@ module _ (enter exit : Float) where
       reached = omega (arith, whole f);
       above = subst (λ (x : ℕ). releases exit (getD ms x nan) ≡ true) (add-zero (length (f .before))) (rw (same-place f 0 (omega (arith, whole f))) (f .above));
       calm = λ j l u.
-          let t : ℕ = j - suc (length (f .before)) in
-          let e : length (f .before) + suc t ≡ j = omega arith in
+          let t : ℕ = j - suc (length (f .before)) in let e : length (f .before) + suc t ≡ j = omega arith in
           subst (λ (x : ℕ). engages enter (getD ms x nan) ≡ false) e
           (rw (same-place f (suc t) (omega arith)) (f .calm (getD (f .later) t nan) (member (f .later) t (omega (arith, whole f)))));
     }

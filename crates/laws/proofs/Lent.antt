@@ -36,8 +36,7 @@ module _ {M : Type 1} {𝓤 : URA M} {H : Heap 𝓤} {A : Atoms 𝓤} {K : Type 
   answered t {C} {Λ} {E} {d} {rest} {q} v n Said is-said k =
       await t tt $ pick t (λ r. split t $ move t (1 ∷ []) $ use1 W (raw (fact 𝓤 (r ≡ n))) (is-said r) $ heard t (r ≡ n)
       (λ e. split t $ drop t $ facts t (row S) (Is (row S)) (shows 𝓤 H A (row S)) r (v ∷ []) (λ is.
-      let is-n = subst (λ (m : S .D). Is (row S) m (v ∷ [])) e is in
-      let spelled = tells S L n (v ∷ []) is-n in
+      let is-n = subst (λ (m : S .D). Is (row S) m (v ∷ [])) e is in let spelled = tells S L n (v ∷ []) is-n in
       subst (λ (u : Val). Seq K W Γ (lands C Λ E d u rest q)) (sym (ap only spelled)) (k (subst (Is (row S) n) spelled is-n)))))
 
 -- ---- a caller that lends the struct on, under the contract of the function that it calls

@@ -88,8 +88,7 @@ set-up-never-refused b =
 -- "nor the one that an accepted tick writes": whatever the input, and from any source of references
 pub tick-never-refused : (source : Float → Reference) (image input : List ℕ) → Unbroken image → Unbroken (imageOf (stateAfter source (stateAt image) (inputAt input)))
 tick-never-refused source image input u =
-    let s = stateAt image in
-    let n = unbroken-has image u .state in
+    let s = stateAt image in let n = unbroken-has image u .state in
     written-unbroken (stateAfter source s (inputAt input)) (tick-fits source s input (state-fits image))
     record { enter = n .enter; exit = n .exit; time = time-never-back source s (inputAt input) (n .time) .1; lasts = n .lasts }
 

@@ -67,15 +67,9 @@ profile-of-word w e = bit w e ∙ by (eqb w 1)
 pub unbroken-has : (b : List ℕ) → Unbroken b → Has b
 unfolding unbroken peaksStand fixedAt movingAt governorAt profileAt
 unbroken-has b u =
-    let peaks = both _ _ (u .row-four) in
-    let profile = both _ _ (peaks .0) in
-    let last = both _ _ (profile .0) in
-    let time = both _ _ (last .0) in
-    let engaged = both _ _ (time .0) in
-    let exit = both _ _ (engaged .0) in
-    let enter = both _ _ (exit .0) in
-    let z = both _ _ (peaks .1) in
-    let y = both _ _ (z .0) in
+    let peaks = both _ _ (u .row-four) in let profile = both _ _ (peaks .0) in let last = both _ _ (profile .0) in
+    let time = both _ _ (last .0) in let engaged = both _ _ (time .0) in let exit = both _ _ (engaged .0) in
+    let enter = both _ _ (exit .0) in let z = both _ _ (peaks .1) in let y = both _ _ (z .0) in
     record {
       count = eqb-true _ _ (enter .0);
       engaged = bit _ (engaged .1);
@@ -102,9 +96,7 @@ profile-canonical LostRotor = refl
 
 pub own-words : (b : List ℕ) → Unbroken b → OwnWords b
 own-words b u =
-    let h = unbroken-has b u in
-    let f = peaks-fit (segmentAt b SEGMENT) in
-    let at = ofBits-toBits binary32 in
+    let h = unbroken-has b u in let f = peaks-fit (segmentAt b SEGMENT) in let at = ofBits-toBits binary32 in
     let count : canon (word b COUNT) ≡ IMAGE-WORDS = ap canon (h .count) ∙ count-canonical in
     let engaged : canon (word b ENGAGED) ≡ flag (eqb (word b ENGAGED) 1) = unfold movingAt in ap canon (h .engaged) ∙ flag-canonical (eqb (word b ENGAGED) 1) in
     let profile : canon (word b PROFILE) ≡ profileWord (profileOf (word b PROFILE)) = unfold fixedAt profileAt in ap canon (h .profile) ∙ profile-canonical (profileOf (word b PROFILE)) in

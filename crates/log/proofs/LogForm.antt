@@ -16,11 +16,8 @@ pub record Log (b : List ℕ) : Type 0 where
 pub is-a-log : (b : List ℕ) → isLog b ≡ true → Log b
 unfolding isLog
 is-a-log b e =
-    let n = recordCount b in
-    let long = leb LOG-TRAILER-BYTES (length b) in
-    let size = eqb (fromEnd b 4) RECORD-BYTES in
-    let few = leb n MOST-RECORDS in
-    let back = eqb (fromEnd b 8) (RECORD-BYTES * n) in
+    let n = recordCount b in let long = leb LOG-TRAILER-BYTES (length b) in let size = eqb (fromEnd b 4) RECORD-BYTES in
+    let few = leb n MOST-RECORDS in let back = eqb (fromEnd b 8) (RECORD-BYTES * n) in
     let w = both (long && size && few && back) (eqb (length b) (RECORD-BYTES * n + LOG-TRAILER-BYTES)) e in
     let f = both (long && size) few (both (long && size && few) back (w .0) .0) in
     record {
@@ -37,8 +34,7 @@ pub record There (b : List ℕ) (i : ℕ) : Type 0 where
 pub there : (b : List ℕ) (i : ℕ) → hasRecord b i ≡ true → There b i
 unfolding hasRecord
 there b i e =
-    let t = both (isLog b) (ltb i (recordCount b)) e in
-    let l = is-a-log b (t .0) in
+    let t = both (isLog b) (ltb i (recordCount b)) e in let l = is-a-log b (t .0) in
     let h = ltb-true i (recordCount b) (t .1) in
     record { few = omega (arith, l .few); within = omega (arith, l .whole) }
 
@@ -54,12 +50,9 @@ pub record Taken (buffer : List ℕ) (len inputLen answerLen : ℕ) : Type 0 whe
 pub taken : (buffer : List ℕ) (len inputLen answerLen : ℕ) → isDone (appendRefusal buffer len inputLen answerLen) ≡ true → Taken buffer len inputLen answerLen
 unfolding appendRefusal
 taken buffer len inputLen answerLen e =
-    let log = take len buffer in
-    let n = recordCount log in
+    let log = take len buffer in let n = recordCount log in
     let t = done-none (appendTable buffer len inputLen answerLen) refl e in
-    let h = ltb-false (length buffer) len (t 2) in
-    let is = not-false (isLog log) (t 3) in
-    let l = is-a-log log is in
+    let h = ltb-false (length buffer) len (t 2) in let is = not-false (isLog log) (t 3) in let l = is-a-log log is in
     let m = eqb-false n MOST-RECORDS (t 5) in
     let e : len ≡ RECORD-BYTES * n + LOG-TRAILER-BYTES = sym (length-take-le len buffer h) ∙ l .whole in
     record {

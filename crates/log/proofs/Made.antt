@@ -86,9 +86,7 @@ module _ (buffer : List ℕ) (len : ℕ) (input answer : List ℕ) (t : Taken bu
   pub one-more-record : let log = take (len + RECORD-BYTES) (withRecord buffer at (n + 1) input answer) in
       (isLog log ≡ true) × (records log ≡ records (take len buffer) ++ (input ++ answer) ∷ [])
   one-more-record =
-      let x = take at buffer in
-      let r = input ++ answer in
-      let w = trailer (n + 1) in
+      let x = take at buffer in let r = input ++ answer in let w = trailer (n + 1) in
       let f : length x ≡ at = length-take-le at buffer (omega (arith, t .within)) in
       let g : length r ≡ RECORD-BYTES = omega (arith, length-append input answer, t .input-length, t .answer-length) in
       let few : n + 1 ≤ MOST-RECORDS = omega (arith, t .one-more) in

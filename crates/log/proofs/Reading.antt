@@ -26,8 +26,7 @@ pub after-appends : (h : LogBuffer) (appends : List ToAppend) → isLog (logIn h
 unfolding afterAll keptAlong
 after-appends h [] e = (e, sym (append-nil (records (logIn h))))
 after-appends h (g ∷ more) e =
-    let o = one h g e in
-    let r = after-appends (afterOne h g) more (o .0) in
+    let o = one h g e in let r = after-appends (afterOne h g) more (o .0) in
     (r .0, r .1 ∙ ap (λ (rs : List (List ℕ)). rs ++ keptAlong (afterOne h g) more) (o .1) ∙ append-assoc (records (logIn h)) (keptBy h g) (keptAlong (afterOne h g) more))
 
 -- ---- reading a log

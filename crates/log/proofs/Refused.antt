@@ -33,9 +33,7 @@ pub same-refusal : (buffer : List ℕ) (len : ℕ) (input answer : List ℕ) →
     → (appendRefusal buffer len (length input) (length answer) ≡ BrokenLog) ↔ ((length buffer < len) ⊎ (isLog (take len buffer) ≡ false))
 unfolding appendRefusal
 same-refusal buffer len input answer h k =
-    let log = take len buffer in
-    let u = ltb (length buffer) len in
-    let x = ltb (length buffer - len) RECORD-BYTES in
+    let log = take len buffer in let u = ltb (length buffer) len in let x = ltb (length buffer - len) RECORD-BYTES in
     let y = eqb (recordCount log) MOST-RECORDS in
     rw (h, k) (
       λ e. elim (broken u (isLog log) x y e) [ inl l ↦ inl (ltb-true (length buffer) len l) | inr r ↦ inr r ],

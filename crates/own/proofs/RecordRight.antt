@@ -126,11 +126,8 @@ module _ (setup : List ℕ) (calls : List Call) (t : Tick) (p : isProfile (word 
 
   fallback-kept : b ≡ true → (axis : ℕ) → axis < 3 → isFinite (floatOf (commandWord kept axis)) ≡ true
   fallback-kept e axis h =
-      let source = sourceOn (t .course) image in
-      let s = stateAt image in
-      let i = inputAt (t .input) in
-      let command = done image t .answer .command in
-      let f = command-fits source s (t .input) in
+      let source = sourceOn (t .course) image in let s = stateAt image in let i = inputAt (t .input) in
+      let command = done image t .answer .command in let f = command-fits source s (t .input) in
       let w = command-words (done image t .answer) f in
       let finite : Finite3 (command .0) = rw (tick-fallback source s i e) (sanitise3-finite (guidance source s i .fallback .0)) in
       let words = ap (λ (c : Called). commandWords (c .later .answer)) (tick-done image t a given) ∙ three (w .0) (w .1) (w .2) in

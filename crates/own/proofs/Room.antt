@@ -48,8 +48,7 @@ module _ (h : LogBuffer) (g : ToAppend) (m : ℕ) (r : Room h (suc m)) (i : leng
   room-after : Room (afterOne h g) m
   unfolding afterAll NoneRefused recordsOf
   room-after =
-      let k = after-appends h (g ∷ []) (r .log) in
-      let one = kept-all h (g ∷ []) (taken, tt) in
+      let k = after-appends h (g ∷ []) (r .log) in let one = kept-all h (g ∷ []) (taken, tt) in
       record { log = k .0; few = omega (arith, ap length (k .1), ap length one, length-append (records (logIn h)) (keptAlong h (g ∷ []))); room = rw taken (omega (arith, as-long h g)) }
 
 -- ---- one call
@@ -72,8 +71,7 @@ one-call image h (Ticks t) m r = go (isDone (tickOf image t .outcome)) refl
     go : (b : Bool) → isDone (tickOf image t .outcome) ≡ b → NoneRefused h (keepsOf image (Ticks t)) × Room (afterAll h (keepsOf image (Ticks t))) m
     go true d =
         let g : ToAppend = record { input = t .input; answer = tickOf image t .later .answer } in
-        let i = accepted-right image t d .0 in
-        let a = answer-whole image t d in
+        let i = accepted-right image t d .0 in let a = answer-whole image t d in
         let one : Room h (suc m) = let e : 1 + m ≡ suc m = omega arith in subst (Room h) e (rw d at r) in
         rw d ((taken h g m one i a, tt), room-after h g m one i a)
     go false d = rw d (tt, subst (Room h) (zero-add m) (rw d at r))

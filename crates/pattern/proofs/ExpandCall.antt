@@ -112,7 +112,6 @@ module _ (b old new : List ℕ) {x m : ℕ} (size : length old ≡ MOST-LEGS) (w
     (route written : List ℕ) (k : length written ≡ 4) where
   pub routed : (m ≡ 0 → ⊥) → {o : Outcome} {later : Buffers} → left o later ≡ expandedCall (legsAt b new m) route written → left o later ≡ expandCall b route written
   routed some e =
-      let p = tree b old new size w in
-      let n = all-counted b old new size w few in
+      let p = tree b old new size w in let n = all-counted b old new size w few in
       e ∙ ap (λ (ls : List (List ℕ)). expandedCall ls route written) (legs-found b old new size w few)
       ∙ expanded b route written k p (tree-is b old new size w) (omega (arith, n, some)) (omega (arith, n))

@@ -62,8 +62,7 @@ module _ (b c : List ℕ) (k : ℕ) (same : (m : ℕ) → m < LEG-BYTES → getD
   unfolding word
   word-same j h =
       let first : getD b (4 * (k + j)) 0 ≡ getD c (4 * j) 0 =
-      let e : 4 * (k + j) + 0 ≡ 4 * (k + j) = omega arith in
-      let f : 4 * j + 0 ≡ 4 * j = omega arith in
+      let e : 4 * (k + j) + 0 ≡ 4 * (k + j) = omega arith in let f : 4 * j + 0 ≡ 4 * j = omega arith in
       ap (λ (i : ℕ). getD b i 0) (sym e) ∙ byte-same j 0 h (omega arith) ∙ ap (λ (i : ℕ). getD c i 0) f in
       rw (first, byte-same j 1 h (omega arith), byte-same j 2 h (omega arith), byte-same j 3 h (omega arith))
 
@@ -139,8 +138,7 @@ pub record Taken (b : List ℕ) (routeLen : ℕ) : Type 0 where
 pub taken : (b : List ℕ) (routeLen writtenLen : ℕ) → isDone (expandRefusal b routeLen writtenLen) ≡ true → Taken b routeLen
 unfolding expandRefusal
 taken b routeLen writtenLen e =
-    let t = done-none (expandTable b routeLen writtenLen) refl e in
-    let n = length (legsOf b) in
+    let t = done-none (expandTable b routeLen writtenLen) refl e in let n = length (legsOf b) in
     record {
       some = pos n (eqb-false n 0 (t 2));
       few = ltb-false MOST-LEGS n (t 3);
@@ -163,9 +161,7 @@ unfolding expandCall
 flies b route written =
     either (λ (l : Expanded). isDone (l .outcome) ≡ true → Flies b route (l .later .route)) (expandRefusal b (length route) (length written))
     (λ d _.
-    let t = taken b (length route) (length written) d in
-    let ls = legsOf b in
-    let len = route-length ls (t .long) in
+    let t = taken b (length route) (length written) d in let ls = legsOf b in let len = route-length ls (t .long) in
     let front : take (routeLength (length ls)) (sets route 0 (routeOf ls)) ≡ routeOf ls =
     ap (λ (k : ℕ). take k (sets route 0 (routeOf ls))) (sym len ∙ none (length (routeOf ls))) ∙ run-slice route 0 (routeOf ls) (omega (arith, len, t .room)) in
     record {
@@ -200,8 +196,7 @@ pub rounds-meet : (xs ms ys : List (List ℕ)) (n : ℕ) → 1 ≤ length ms →
     → legsMeet (legAt (getD ms (length ms - 1) []) 0) (legAt (getD ms 0 []) 0) ≡ true
 unfolding times
 rounds-meet xs ms ys n h e =
-    let k = length ms - 1 in
-    let later = ms ++ times n ms ++ ys in
+    let k = length ms - 1 in let later = ms ++ times n ms ++ ys in
     let all : ms ++ (ms ++ times n ms) ++ ys ≡ ms ++ later = append-assoc ms (ms ++ times n ms) ys in
     let here : getD (xs ++ (ms ++ (ms ++ times n ms) ++ ys)) (length xs + k) [] ≡ getD ms k [] =
     getD-append-add xs (ms ++ (ms ++ times n ms) ++ ys) k [] ∙ ap (λ (l : List (List ℕ)). getD l k []) all ∙ List·getD-append ms later [] k (omega arith) in

@@ -111,8 +111,7 @@ module _ {b : List ℕ} {at end depth n : ℕ} {old : List ℕ} (given : Item b 
       unfolding repeated sizeOf flownLegs
       repeat-done {x} {m} {r} {mid} {new} w o =
           let c = came (read (depth - 1) (slice (at + 4) (at + 4 + len) b)) (at + 4 + len) n x m (w .counted) in
-          let ls = flownLegs (c .tree) in
-          let one = repeat-fits e .0 in
+          let ls = flownLegs (c .tree) in let one = repeat-fits e .0 in
           let all : flownLegs (repeat rounds (c .tree) nothing) ≡ times rounds ls = append-nil (times rounds ls) in
           let many : length (flownLegs (repeat rounds (c .tree) nothing)) ≡ rounds * length ls = ap length all ∙ length-times rounds ls in
           let next : x ≡ at + sizeOf (headOf (slice at end b)) =
@@ -184,9 +183,7 @@ module _ (b : List ℕ) {whole rest : Read} {count n : ℕ} {old new : List ℕ}
   pub going-on : (item more : Read) (next : ℕ) {x m : ℕ} {later : List ℕ} → rest ≡ before item more → Walk b item next n new (Past x m) later
       → Going b whole more count old m later
   going-on item more next {x} {m} {later} e w =
-      let c = came item next n x m (w .counted) in
-      let p = g .done in let q = c .tree in
-      let all = flown-append p q in
+      let c = came item next n x m (w .counted) in let p = g .done in let q = c .tree in let all = flown-append p q in
       let many : length (flownLegs (append p q)) ≡ length (flownLegs p) + length (flownLegs q) = ap length all ∙ length-append (flownLegs p) (flownLegs q) in
       record {
         done = append p q;
@@ -220,8 +217,7 @@ module _ {b : List ℕ} {depth at end : ℕ} {whole : Read} {count n : ℕ} {old
   item-next {x} {m} e =
       let s = slice at end b in
       let c = came (itemWithin depth s) (at + sizeOf (headOf s)) n x m e in
-      let z = sized (insideOf depth) s (headOf s) (c .tree) (head-room s) (c .is-it) in
-      let p = c .place in
+      let z = sized (insideOf depth) s (headOf s) (c .tree) (head-room s) (c .is-it) in let p = c .place in
       (omega (arith, p, size-some (headOf s)), omega (arith, p, z, length-slice at end b (t .within)))
 
   pub step-broken : {next : ℕ} {later : List ℕ} → Broken ≡ walkedTo (at + sizeOf (headOf (slice at end b))) n (itemWithin depth (slice at end b)) → Walk b whole next count old Broken later

@@ -28,8 +28,7 @@ module _ (depth n : ℕ) (inner more : Pattern) (some : 1 ≤ n) (few : n ≤ 9)
   repeat-starts : Repeat n (length (patternBytes inner)) ≡ headOf (patternBytes (repeat n inner more))
   unfolding patternBytes
   repeat-starts =
-      let len = length (patternBytes inner) in
-      let s = patternBytes (repeat n inner more) in
+      let len = length (patternBytes inner) in let s = patternBytes (repeat n inner more) in
       let e : len ≡ len % 256 + 256 * (len / 256) = omega arith in
       let all = length-append (patternBytes inner) (patternBytes more) in
       ap (Repeat n) e
@@ -40,8 +39,7 @@ module _ (depth n : ℕ) (inner more : Pattern) (some : 1 ≤ n) (few : n ≤ 9)
       → read (suc depth) (patternBytes (repeat n inner more)) ≡ is (repeat n inner more)
   unfolding patternBytes itemOf sizeOf insideOf repeated before append
   repeat-back i r =
-      let len = length (patternBytes inner) in
-      let s = patternBytes (repeat n inner more) in
+      let len = length (patternBytes inner) in let s = patternBytes (repeat n inner more) in
       let item : itemWithin (suc depth) s ≡ is (repeat n inner nothing) =
       ap (itemOf (insideOf (suc depth)) s) (sym repeat-starts)
       ∙ ap (λ (x : List ℕ). repeated n (read depth x)) (take-at (patternBytes inner) (patternBytes more) len refl) ∙ ap (repeated n) i in
@@ -183,9 +181,7 @@ module _ (depth : ℕ) (inside : List ℕ → Read) (right : (c : List ℕ) (q :
   items-right (suc n) b p h y e = elim (le-or-lt (length b) 0) [
     | inl l ↦ none-right depth b p (omega arith) (sym (items-none inside (suc n) b (omega arith)) ∙ e)
     | inr l ↦
-        let size = sizeOf (headOf b) in
-        let less = length-drop size b in
-        let some = size-some (headOf b) in
+        let size = sizeOf (headOf b) in let less = length-drop size b in let some = size-some (headOf b) in
         let q = both (itemOf inside b (headOf b)) (itemsOf inside n (drop size b)) p (sym (items-here inside n b l) ∙ e) in
         rw (q .together)
         (item-right b (headOf b) (q .first) (q .second) y (head-room b) (head-tags b) (q .first-is)

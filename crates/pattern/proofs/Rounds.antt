@@ -92,11 +92,9 @@ module _ (old : List ℕ) (from to n : ℕ) (size : length old ≡ 32) (some : 1
   pub rounds-on : (i : ℕ) → to ≤ i → i < end
       → set (sets old from (take (i - from) all)) i (getD (sets old from (take (i - from) all)) (i - (to - from)) 0) ≡ sets old from (take (i + 1 - from) all)
   rounds-on i h k =
-      let m = i - from in
-      let e1 : from + m ≡ i = omega arith in
+      let m = i - from in let e1 : from + m ≡ i = omega arith in
       let e2 : from + (m - (to - from)) ≡ i - (to - from) = omega arith in
-      let e3 : m + 1 ≡ i + 1 - from = omega arith in
-      let now = sets old from (take m all) in
+      let e3 : m + 1 ≡ i + 1 - from = omega arith in let now = sets old from (take m all) in
       ap (λ (j : ℕ). set now j (getD now (i - (to - from)) 0)) (sym e1)
       ∙ ap (λ (j : ℕ). set now (from + m) (getD now j 0)) (sym e2)
       ∙ round-step m (omega arith) (omega (arith, whole-end))

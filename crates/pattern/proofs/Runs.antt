@@ -56,8 +56,7 @@ run-slice b n vs h =
 -- what stands there already changes nothing
 pub own-run : (b : List ℕ) (n m : ℕ) → n ≤ m → m ≤ length b → sets b n (slice n m b) ≡ b
 own-run b n m h k =
-    let e : length (slice n m b) ≡ m - n = length-slice n m b k in
-    let f : n + length (slice n m b) ≡ m = omega arith in
+    let e : length (slice n m b) ≡ m - n = length-slice n m b k in let f : n + length (slice n m b) ≡ m = omega arith in
     sets-eq (slice n m b) b n (omega arith)
     ∙ rw (f, ← take-take n m b h, take-append-drop n (take m b)) (take-append-drop m b)
 

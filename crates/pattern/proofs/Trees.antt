@@ -56,9 +56,7 @@ module _ (inside : List ℕ → Read) where
   turns zero n b h k = items-none zero b (omega arith) ∙ sym (items-none n b (omega arith))
   turns (suc m) zero b h k = items-none (suc m) b (omega arith) ∙ sym (items-none zero b (omega arith))
   turns (suc m) (suc n) b h k =
-      let size = sizeOf (headOf b) in
-      let less = length-drop size b in
-      let some = size-some (headOf b) in
+      let size = sizeOf (headOf b) in let less = length-drop size b in let some = size-some (headOf b) in
       elim (le-or-lt (length b) 0) [
         | inl z ↦ items-none (suc m) b (omega arith) ∙ sym (items-none (suc n) b (omega arith))
         | inr l ↦
@@ -78,8 +76,7 @@ read-none depth b h = read-is depth b ∙ items-none (insideOf depth) (length b)
 -- the item at the start, and what is read after it
 pub read-here : (depth : ℕ) (b : List ℕ) → 0 < length b → read depth b ≡ before (itemWithin depth b) (read depth (drop (sizeOf (headOf b)) b))
 read-here depth b h =
-    let inside = insideOf depth in
-    let rest = drop (sizeOf (headOf b)) b in
+    let inside = insideOf depth in let rest = drop (sizeOf (headOf b)) b in
     let less = length-drop (sizeOf (headOf b)) b in
     read-is depth b
     ∙ turns inside (length b) (suc (length b)) b (omega arith) (omega arith)

@@ -45,9 +45,7 @@ equal (zeros (none s e) (none t d)) = rw (zero-mul (up e), zero-mul (up d), zero
 pub rounds : (s : Bool) (a c : ℕ) → Opposite (round binary32 s a c) (round binary32 (not s) a c)
 unfolding round units odd
 rounds s a c =
-    let n = a * 2 ^ 149 in
-    let k = size (n / c) - 24 in
-    let u = c * 2 ^ k in
+    let n = a * 2 ^ 149 in let k = size (n / c) - 24 in let u = c * 2 ^ k in
     let q = nearest (n / u) (compare (n % u * 2) u) in
     go (ltb (q * 2 ^ k) (2 ^ 277)) q k
   where

@@ -55,6 +55,5 @@ unless false x h = h
 pub feedforward-finite : (a j : Vec3) (yaw yawRate : Float) (w : BodyRate) → flatnessOmegaFf a j yaw yawRate ≡ rate.Rate w → Finite3 (w .0)
 unfolding flatnessOmegaFf
 feedforward-finite a j yaw yawRate w e =
-    let c = norm (thrustForce a) in
-    let b3 = over (thrustForce a) c in
+    let c = norm (thrustForce a) in let b3 = over (thrustForce a) c in
     subst FiniteRate e (unless (tooWeak c) _ (from-finite c b3 j yawRate (desiredAttitude b3 yaw)))

@@ -26,9 +26,7 @@ one {u} {v} p q = one-less (mul-fits binary32 2·0 (u ⊗ u ⊕ v ⊗ v)) (twice
 pub zeros-level : (q : Quat) → ZeroQuat q → Level (quatToRotmat q)
 unfolding quatToRotmat
 zeros-level q h =
-    let w = is-zero (q .0) (h .w) in
-    let x = is-zero (q .1) (h .x) in
-    let y = is-zero (q .2) (h .y) in
+    let w = is-zero (q .0) (h .w) in let x = is-zero (q .1) (h .x) in let y = is-zero (q .2) (h .y) in
     let z = is-zero (q .3) (h .z) in
     record {
       ones = (one y z, one x z, one x y);

@@ -20,8 +20,7 @@ by-turn s b u n R S C t l hs hc = rw (t .quarter-is s, t .back-is, t .rest-is) (
 large-near : (s : Bool) (x : Float) → Both s (fixed x * 2 ^ 101) (large s x)
 unfolding large reduceOf
 large-near s x =
-    let X = fixed x in
-    let d = reduceOf X in
+    let X = fixed x in let d = reduceOf X in
     by-turn s (d .back) (X * 2 ^ 101) (d .n) (d .r * 2 ^ 101) _ _ (turn X) (few X) (sin-near (d .r) (small X)) (cos-near (d .r) (small X))
 
 -- ---- below 2 ^ -12 nothing is taken off
@@ -36,8 +35,7 @@ half-below u L Q h k = omega arith
 
 tiny-near : (s : Bool) (m : ℕ) (e : ℤ) → T (fits binary32 (fin s m e)) → m * up e * 4096 < down e → Both s (grains (fin s m e)) record { sine = fin s m e; cosine = One }
 tiny-near s m e F K =
-    let u = grains (fin s m e) in
-    let E = grains-exact s m e F in
+    let u = grains (fin s m e) in let E = grains-exact s m e F in
     let S : u * 4096 < 2 ^ 149 = lt-of-not-le (λ (g : 2 ^ 149 ≤ u * 4096). not-le-of-lt K (at-least u (2 ^ 149) (m * up e) (down e) 4096 (lit< tt) (sym E) g)) in
     subst (Both s u) (own-size s m e)
     (by-turn s false u 0 u (fin false m e) One (no-turn u (half-below u (2 ^ 149) P149 S (lit≤ tt))) (lit< tt)

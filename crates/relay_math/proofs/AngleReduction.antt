@@ -35,9 +35,7 @@ fields false m e b h k = omega arith
 pub parts : (s : Bool) (m : ℕ) (e : ℤ) → T (fits binary32 (fin s m e)) → down e ≤ m * up e * 4096 → m * up e ≤ 8192 * down e → Parts (fin s m e)
 unfolding fixed isNan grains fits
 parts s m e f h k =
-    let n = grains (fin false m e) in
-    let d = reads m e f in
-    let E = grains-exact false m e f in
+    let n = grains (fin false m e) in let d = reads m e f in let E = grains-exact false m e f in
     let l : 2 ^ 137 ≤ n = le-of-mul-le-mul-right {k = 4096} (at-least (m * up e) (down e) n (2 ^ 149) 4096 (down-pos e) E h) (lit< tt) in
     let v : 137 < size n = lt-of-not-le (λ (g : size n ≤ 137). not-le-of-lt (lt-of-lt-of-le (size-lt n) (pow-mono g)) l) in
     let u : size n ≤ 163 = size-le n 163 (lt-of-le-of-lt (at-most (m * up e) (down e) n (2 ^ 149) 8192 (down-pos e) E k) (lit< tt)) in

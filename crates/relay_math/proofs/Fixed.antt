@@ -49,8 +49,7 @@ five-eighths R g S =
 square-is : (R g : ℕ) → R ≤ Half → Square (cutSquare R) (R * g * (R * g)) (One * g * (One * g))
 unfolding cutSquare
 square-is R g S =
-    let h = R / 65536 in
-    let x : h < F = omega arith in
+    let h = R / 65536 in let x : h < F = omega arith in
     let a : h * 65536 * (h * 65536) ≤ R * R = mul-le-mul (div-mul-le-self R 65536) (div-mul-le-self R 65536) in
     let b : R ≤ h * 65536 + 65536 = omega arith in
     let c : R * R ≤ (h * 65536 + 65536) * (h * 65536 + 65536) = mul-le-mul b b in
@@ -81,8 +80,7 @@ module _ {z a b : ℕ} (s : Square z a b) where
 -- ---- R (1 - q / F), cut twice, in units of 2 ^ -48
 less-close : (R q : ℕ) → q ≤ F → (lessPart R q * F ≤ (F - q) * R + 65537 * F) × ((F - q) * R ≤ lessPart R q * F)
 less-close R q Q =
-    let h = R / 65536 in
-    let c = h * q / 65536 in
+    let h = R / 65536 in let c = h * q / 65536 in
     let a : h * 65536 * q ≤ R * q = mul-le-mul-right q (div-mul-le-self R 65536) in
     let b : R * q ≤ (h * 65536 + 65536) * q = mul-le-mul-right q (omega arith) in
     let i : R - c + c ≡ R = sub-add-cancel (part-of-less R q Q) in
@@ -95,8 +93,7 @@ whole-close q Q E c = let d = less-close One q Q in carry One 65537 Err (lessPar
 
 times-close : {e : ℕ} {x : Nest} (R q g : ℕ) → 0 < g → R ≤ One → q ≤ F → e * 65536 + 65537 ≤ Err → Share 1 e (F - q) x → Close One Err (lessPart R q) (scaled (R * g) (One * g) x)
 times-close {e} R q g G S Q E c =
-    let l = One * g in
-    let d = less-close R q Q in
+    let l = One * g in let d = less-close R q Q in
     let h : lessPart R q * F * l ≤ ((F - q) * R + 65537 * F) * l = mul-le-mul-right l (d .0) in
     let k : (F - q) * R * l ≤ lessPart R q * F * l = mul-le-mul-right l (d .1) in
     let i : (e * 65536 + 65537) * g ≤ Err * g = mul-le-mul-right g E in

@@ -30,11 +30,8 @@ pub placed : (s : Bool) (m : ℕ) (e : ℤ) → T (fits binary32 (fin s m e)) �
 unfolding fits
 placed s zero e t = (0, lit< tt, simp zero-mul, rw (zero-mul (up e)) (mul-pos (pow-pos 128) (down-pos e)))
 placed s (suc m) e t =
-    let a : Bool = eqb (suc m % 2) 1 in
-    let b : Bool = ltb (suc m) (2 ^ 24) in
-    let c : Bool = leb (down e) (2 ^ 149) in
-    let d : Bool = ltb (suc m * up e) (2 ^ 128 * down e) in
-    let u : T (a && b && c) = and-l (a && b && c) d t in
+    let a : Bool = eqb (suc m % 2) 1 in let b : Bool = ltb (suc m) (2 ^ 24) in let c : Bool = leb (down e) (2 ^ 149) in
+    let d : Bool = ltb (suc m * up e) (2 ^ 128 * down e) in let u : T (a && b && c) = and-l (a && b && c) d t in
     let l = place e (leb→le (down e) (2 ^ 149) (and-r (a && b) c u)) in
     let is = mul-assoc (suc m) (up e) (2 ^ 149) ∙ ap (λ (x : ℕ). suc m * x) (l .1) ∙ sym (mul-assoc (suc m) (2 ^ l .0) (down e)) in
     (l .0, ltb→lt (suc m) (2 ^ 24) (and-r a b (and-l (a && b) c u)), is, ltb→lt (suc m * up e) (2 ^ 128 * down e) (and-r (a && b && c) d t))
@@ -82,15 +79,10 @@ pub record Digits (n b : ℕ) : Type 0 where
 
 pub reads : (m : ℕ) (e : ℤ) → T (fits binary32 (fin false m e)) → Digits (grains (fin false m e)) (toBits binary32 (fin false m e))
 reads m e f =
-    let p = placed false m e f in
-    let j = p .0 in
-    let n = grains (fin false m e) in
-    let g : n ≡ m * 2 ^ j = grains-of (fin false m e) false (m * 2 ^ j) (refl, p .2) in
-    let k = size n - 24 in
+    let p = placed false m e f in let j = p .0 in let n = grains (fin false m e) in
+    let g : n ≡ m * 2 ^ j = grains-of (fin false m e) false (m * 2 ^ j) (refl, p .2) in let k = size n - 24 in
     let a : size n ≤ 24 + j = size-le n (24 + j) (lt-of-le-of-lt (le-of-eq g) (shl-lt 24 j (p .1))) in
-    let s : k ≤ j = omega arith in
-    let c = m * 2 ^ (j - k) in
-    let w : n ≡ c * 2 ^ k = g ∙ shift m j k s in
+    let s : k ≤ j = omega arith in let c = m * 2 ^ (j - k) in let w : n ≡ c * 2 ^ k = g ∙ shift m j k s in
     let d : n / 2 ^ k ≡ c = ap (λ (x : ℕ). x / 2 ^ k) w ∙ shl-shr c k in
     let top : size n ≤ 277 = size-le n 277 (grains-under false m e f) in
     record {

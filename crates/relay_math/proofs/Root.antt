@@ -52,11 +52,9 @@ module _ (b : ℕ) (p : 0 < b) (h : b < 2 ^ 23) where
 
   pub scaled-small : Scaled b (b * 2 ^ (leadingZeros 32 b - 8)) (31 - leadingZeros 32 b)
   scaled-small =
-      let t = leading-top 32 b p (omega arith) in
-      let j = t .0 in
+      let t = leading-top 32 b p (omega arith) in let j = t .0 in
       let i : leadingZeros 32 b - 8 ≡ 23 - j = omega (arith, zeros) in
-      let e : 31 - leadingZeros 32 b ≡ j = omega (arith, zeros) in
-      let s : j + (23 - j) ≡ 23 = omega (arith, zeros) in
+      let e : 31 - leadingZeros 32 b ≡ j = omega (arith, zeros) in let s : j + (23 - j) ≡ 23 = omega (arith, zeros) in
       let r : suc j + (23 - j) ≡ 24 = omega (arith, zeros) in
       rw (i, e)
       record {
@@ -120,9 +118,7 @@ module _ (X m e : ℕ) (w : Scaled X m e) where
 
   root-fits : T (fits binary32 (rootGrains (X * 2 ^ 149)))
   root-fits =
-      let k = half e in
-      let q = nearestRoot (under m e) in
-      let f : q < 2 ^ 25 = omega (arith, ends) in
+      let k = half e in let q = nearestRoot (under m e) in let f : q < 2 ^ 25 = omega (arith, ends) in
       rw root-is (odd-fits binary32 25 false q k f (omega (arith, ends)) (lt-of-lt-of-le (shl-lt 25 k f) (pow-mono {i = 25 + k} {j = 277} (omega (arith, w .under)))))
 
   pub root-read : ofBits binary32 (half e * 2 ^ 23 + nearestRoot (under m e)) ≡ rootGrains (X * 2 ^ 149)
@@ -144,8 +140,7 @@ above-one h m l i j = let s : h * h ≤ 1024 * 1024 = mul-le-mul (le-of-lt l) (l
 
 below-one : (q k m : ℕ) → q + k ≡ 2 ^ 24 → 0 < k → k ≤ 1024 → 2 ^ 24 ≤ m + 2 * k → m + 2 * k ≤ 2 ^ 24 + 1 → Closest (m * 2 ^ 24) q
 below-one q k m e p l i j =
-    let s : k * k ≤ 1024 * 1024 = mul-le-mul l l in
-    let t : 1 * k ≤ k * k = mul-le-mul-right k p in
+    let s : k * k ≤ 1024 * 1024 = mul-le-mul l l in let t : 1 * k ≤ k * k = mul-le-mul-right k p in
     let w : q * q + 2 * ((q + k) * k) ≡ (q + k) * (q + k) + k * k = omega arith in
     let v : q * q + 2 * (2 ^ 24 * k) ≡ 2 ^ 24 * 2 ^ 24 + k * k = rw e at w in
     (omega arith, omega arith)
@@ -159,8 +154,7 @@ near-one {n} {b} d h =
           let q : b / 2 + 0x1fc0_0000 ≡ 126 * 2 ^ 23 + (2 ^ 23 + (b - 0x3f80_0000) / 2) = omega arith in
           rw q (closest-read n (b % 2 ^ 23 + 2 ^ 23) 149 (rw e at w) _ (above-one ((b - 0x3f80_0000) / 2) _ (omega arith) (omega arith) (omega arith)))
       | inr g ↦
-          let e : b / 2 ^ 23 + 22 ≡ 148 = omega arith in
-          let k = (0x3f80_0001 - b) / 2 in
+          let e : b / 2 ^ 23 + 22 ≡ 148 = omega arith in let k = (0x3f80_0001 - b) / 2 in
           let q : b / 2 + 0x1fc0_0000 ≡ 125 * 2 ^ 23 + (2 ^ 24 - k) = omega arith in
           rw q (closest-read n (b % 2 ^ 23 + 2 ^ 23) 148 (rw e at w) _ (below-one (2 ^ 24 - k) k _ (omega arith) (omega arith) (omega arith) (omega arith) (omega arith)))
     ]
@@ -175,8 +169,7 @@ bits-pos m e f =
 
 scaled : (m : ℕ) (e : ℤ) → T (fits binary32 (fin false (suc m) e)) → (M : ℕ) × (E : ℕ) × Scaled (grains (fin false (suc m) e)) M E
 scaled m e f =
-    let b = toBits binary32 (fin false (suc m) e) in
-    let d = reads (suc m) e f in
+    let b = toBits binary32 (fin false (suc m) e) in let d = reads (suc m) e f in
     elim (le-or-lt (2 ^ 23) b) [
       | inl h ↦ (b % 2 ^ 23 + 2 ^ 23, b / 2 ^ 23 + 22, scaled-normal d h)
       | inr h ↦ (b * 2 ^ (leadingZeros 32 b - 8), 31 - leadingZeros 32 b, rw (small-is d h) (scaled-small b (bits-pos m e f) h))

@@ -20,9 +20,7 @@ units-neg q k = go q (ltb (q * 2 ^ k) (2 ^ 277))
 pub round-signed : (s : Bool) (a c : ℕ) → round binary32 s a c ≡ signed s (round binary32 false a c)
 unfolding round
 round-signed true a c =
-    let n = a * 2 ^ 149 in
-    let k = size (n / c) - 24 in
-    let u = c * 2 ^ k in
+    let n = a * 2 ^ 149 in let k = size (n / c) - 24 in let u = c * 2 ^ k in
     units-neg (nearest (n / u) (compare (n % u * 2) u)) k
 round-signed false a c = refl
 
@@ -71,8 +69,7 @@ pub to-float : (s : Bool) (v : ℕ) → v ≤ 281474976710656
     → add binary32 (mul binary32 (ofInt binary32 (pos (v / 16777216))) (fin s 1 (negsuc 23))) (mul binary32 (ofInt binary32 (pos (v % 16777216))) (fin s 1 (negsuc 47))) ≡ signed s (toFloat v)
 unfolding toFloat ofInt
 to-float s v h =
-    let a : v / 16777216 ≤ 16777216 = omega arith in
-    let b : v % 16777216 < 16777216 = omega arith in
+    let a : v / 16777216 ≤ 16777216 = omega arith in let b : v % 16777216 < 16777216 = omega arith in
     rw (mul-down s 23 (v / 16777216) _ (round-whole binary32 false (v / 16777216) a), mul-down s 47 (v % 16777216) _ (round-whole binary32 false (v % 16777216) (le-of-lt b)))
     (add-values s _ _ (v / 16777216) (2 ^ 24) (v % 16777216) (2 ^ 48) (lit< tt) (lit< tt) (high-value s (v / 16777216) a) (down-value s (v % 16777216) 47 101 refl (lit≤ tt) b)
     ∙ round-same binary32 s (v / 16777216 * 2 ^ 48 + v % 16777216 * 2 ^ 24) (2 ^ 24 * 2 ^ 48) v 281474976710656 (lit< tt) (lit< tt) (halves v) ∙ round-signed s v 281474976710656)
@@ -80,13 +77,10 @@ to-float s v h =
 -- ---- how far rounding goes: less than one unit in the last place, which is enough here
 closest-near : (n d p M : ℕ) → 0 < d * p → p ≤ M → (closest n (d * p) * p * d ≤ n + M * d) × (n ≤ closest n (d * p) * p * d + M * d)
 closest-near n d p M U h =
-    let u = d * p in
-    let q = n / u in
-    let c = closest n u in
+    let u = d * p in let q = n / u in let c = closest n u in
     let a : c * u ≤ suc q * u = mul-le-mul-right u (nearest-le q (compare (n % u * 2) u)) in
     let b : q * u ≤ c * u = mul-le-mul-right u (nearest-ge q (compare (n % u * 2) u)) in
-    let g : q * u ≤ n = div-mul-le-self n u in
-    let e : n < q * u + u = lt-div-mul-add U in
+    let g : q * u ≤ n = div-mul-le-self n u in let e : n < q * u + u = lt-div-mul-add U in
     let i : d * p ≤ d * M = mul-le-mul-left d h in
     (omega arith, omega arith)
 
@@ -105,8 +99,7 @@ pub rounded : (v d : ℕ) → 0 < d → v ≤ d → (G : ℕ) × HasValue (round
 rounded v d D h = elim (eq-or-lt-of-le h) [
   | inl e ↦ let x = exact d (2 ^ 149) (2 ^ 125) in rw (e, round-same binary32 false d d 1 1 D (lit< tt) (mul-comm d 1), one-rounds) (2 ^ 149, (refl, refl), x .0, x .1)
   | inr l ↦
-      let n = v * 2 ^ 149 in
-      let k = drop 24 n d in
+      let n = v * 2 ^ 149 in let k = drop 24 n d in
       let few : size (n / d) ≤ 149 = size-le (n / d) 149 (div-lt-iff-lt-mul D .1 (rw (mul-comm (2 ^ 149) d) (mul-lt-mul-of-pos-right l (lit< tt)))) in
       let s = closest-near n d (2 ^ k) (2 ^ 125) (mul-pos D (pow-pos k)) (pow-mono {j = 125} (omega arith)) in
       (closest n (d * 2 ^ k) * 2 ^ k, round-val binary32 v d (lt-of-le-of-lt (total _ v d (2 ^ 149) (2 ^ 125) h D (s .0)) (lit< tt)), s .0, s .1)

@@ -72,7 +72,6 @@ as-fraction m e h = omega (arith, leb→le (m * up e * 1) (1 * 1 * down e) (subs
 pub product-finite : (x y : Float) → T (le (fabsf x) 1·0) → T (le (fabsf y) 1·0) → T (isFinite (x ⊗ y))
 unfolding mul fabsf le ofBits
 product-finite (fin s m e) (fin t n d) h k =
-    let a = m * up e * (n * up d) in
-    let c = down e * down d in
+    let a = m * up e * (n * up d) in let c = down e * down d in
     let r : Small (round binary32 false a c) = round-small a c (mul-pos (down-pos e) (down-pos d)) (mul-le-mul (as-fraction m e h) (as-fraction n d k)) in
     size-finite (round binary32 (unlike s t) a c) (rw (round-signed (unlike s t) a c) (signed-small (unlike s t) (round binary32 false a c) r))

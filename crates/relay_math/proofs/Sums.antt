@@ -115,8 +115,7 @@ sum-grows (inf false) (inf false) f p q = tt
 sum-grows (inf false) (fin t n d) f p q = tt
 sum-grows (fin s m e) (inf false) f p q = tt
 sum-grows (fin false m e) (fin t n d) f p q =
-    let a = m * up e * down d in
-    let w = a + n * up d * down e in
+    let a = m * up e * down d in let w = a + n * up d * down e in
     let k : a * down e ≤ w * down e = mul-le-mul-right (down e) (omega arith) in
     let l : m * up e * over e d ≡ a * down e = ap (λ (z : ℕ). m * up e * z) (mul-comm (down e) (down d)) ∙ sym (mul-assoc (m * up e) (down d) (down e)) in
     rw (plus-is false m e t n d p q) (round-above m e w (over e d) f (mul-pos (down-pos e) (down-pos d)) (omega arith))
@@ -124,8 +123,7 @@ sum-grows (fin true m e) (fin false n d) f p q =
     let w = m * up e * down d + n * up d * down e in
     rw (plus-is true m e false n d p q) (minus-first m e (round binary32 false w (over e d)) (round-not-below w (over e d) (mul-pos (down-pos e) (down-pos d))))
 sum-grows (fin true m e) (fin true n d) f p q =
-    let a = scaled m e d (none m e true p refl) in
-    let b = scaled n d e (none n d true q refl) in
+    let a = scaled m e d (none m e true p refl) in let b = scaled n d e (none n d true q refl) in
     let w = m * up e * down d + n * up d * down e in
     rw (plus-is true m e true n d p q) (minus-first m e (round binary32 true w (over e d)) (rounds-zero true w (over e d) (omega arith)))
 

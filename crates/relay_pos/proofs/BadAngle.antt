@@ -22,8 +22,7 @@ value-beyond (fin t n d) y s A C p v z h =
 -- m * 2 ^ j grains of A / D with j = 0 would be less than D
 few : (m D A L : ℕ) → m ≤ L → m * 1 * D ≡ A * L → D < A → 0 < L → ⊥
 few m D A L h e k z =
-    let i : m * D ≤ L * D = mul-le-mul-right D h in
-    let j : suc D * L ≤ A * L = mul-le-mul-right L k in
+    let i : m * D ≤ L * D = mul-le-mul-right D h in let j : suc D * L ≤ A * L = mul-le-mul-right L k in
     omega (arith, i, j, e, z)
 
 doubled : (a : ℕ) → a ≤ a * 2

@@ -58,8 +58,7 @@ pub clock-over-any-run : (g : RefGovernor) (ks : List GovernorTick) → Running 
 unfolding afterTicks advance
 clock-over-any-run g [] r = (le-refl-of (g .s) (never-nan r), r)
 clock-over-any-run g (k ∷ ks) r =
-    let one = clock-never-back g (k .error) (k .dt) r in
-    let g' = advance g (k .error) (k .dt) .governor in
+    let one = clock-never-back g (k .error) (k .dt) r in let g' = advance g (k .error) (k .dt) .governor in
     let rest = clock-over-any-run g' ks (one .1) in
     (le-trans (g .s) (g' .s) (afterTicks g' ks .s) (one .0) (rest .0), rest .1)
 

@@ -95,9 +95,7 @@ local-time (fin s m e) (fin false n j) (inf t) f p u h g l k = absurd (l .0)
 local-time (fin s m e) (fin false n j) (fin true i c) f p u h g l k = absurd (lasts-plus i c (l .1))
 local-time (fin true m e) (fin false n j) (fin false i c) f p u h g l k = zero-time m e n j i c p h g
 local-time (fin false m e) (fin false n j) (fin false i c) f p u h g l k =
-    let X = m * up e in
-    let N = n * up j in
-    let L = i * up c in
+    let X = m * up e in let N = n * up j in let L = i * up c in
     let B = ltb-false (X * down j) (N * down e) (unfold lt in not-lt-of-le (fin false m e) (fin false n j) h) in
     let C = mul-pos (down-pos e) (down-pos j) in
     let a = under m e (N * down c + L * down j) (down j * down c) f (mul-pos (down-pos j) (down-pos c)) (unfold add sum in k) in

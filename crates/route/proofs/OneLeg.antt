@@ -45,8 +45,7 @@ by-end : (s : Bool) (m : ℕ) (e : ℤ) (d : Float) → let x = fin s m e in T (
 unfolding isFinite isNan
 by-end s m e d f p g l h true q = unfold timeOn in rw (not-lt-of-le (fin s m e) 0·0 p, q)
 by-end s m e d f p g l h false q =
-    let n = finite-number d (l .0) in
-    let w = le-of-not-lt d (fin s m e) n tt q in
+    let n = finite-number d (l .0) in let w = le-of-not-lt d (fin s m e) n tt q in
     kept (fin s m e) d (l .0) (p, w) ∙ one s m e d f g l (le-of-not-lt (fin s m e) d tt n h) w
 
 from-the-end : (x d : Float) → T (fits binary32 x) → T (le 0·0 x) → T (fits binary32 d) → Lasts d → lt x d ≡ false → timeOn (cond (eq x ∞) d x) d ≡ d
@@ -78,10 +77,7 @@ module _ (b : List ℕ) (time : Float) (r : Running time) where
   past-end : PastAll b 1 time → referenceOn b 1 time ≡ referenceAt (segmentOf (legOf b 0)) time
   unfolding referenceOn sampleOn sampleOf referenceAt durationOf
   past-end p =
-      let d = durationOf b 0 in
-      let l = duration-lasts b 0 in
-      let g = duration-fits b 0 in
-      let e = ends (legOf b 0) in
+      let d = durationOf b 0 in let l = duration-lasts b 0 in let g = duration-fits b 0 in let e = ends (legOf b 0) in
       let at = late (segmentOf (legOf b 0)) d in
       let a = at d (e .0) (e .1) (e .2) l (from-the-end d d g (le-trans 0·0 1e-3 d (unfold le ofBits in tt) (l .1)) g l (lt-irrefl d)) in
       let z = at time (e .0) (e .1) (e .2) l (from-the-end time d (r .holds) (r .from-zero) g l (rw (← first-end b) (p .none 0 (omega arith)))) in

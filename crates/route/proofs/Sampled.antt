@@ -29,9 +29,7 @@ fit g t = search fitting
 pub sample-told : (b : List ℕ) (n : ℕ) (time : Float) → 0 < n → n ≤ MOST-LEGS → Told (sampleBytes (sampleOn b n time)) (sampleOn b n time)
 unfolding sampleOn sampleOf
 sample-told b n time p m =
-    let s = sampleOn b n time in
-    let f = fit (segmentOf (legOf b (s .leg))) _ in
-    let at = vec-back (sample-is s) in
+    let s = sampleOn b n time in let f = fit (segmentOf (legOf b (s .leg))) _ in let at = vec-back (sample-is s) in
     record {
       leg = word-back (sample-is s) 0 refl (lt-of-lt-of-le (one-of-them b time n p) (le-trans m (lit≤ tt)));
       pos = at 1 _ refl (f .0);

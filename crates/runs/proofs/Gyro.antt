@@ -98,8 +98,7 @@ module _ (setup : List ℕ) (taken : SetsUp setup) where
   apart : {k : ℕ} → Filter k → word (start setup) k ≡ 0x3f80_0000 → ¬ (word (start setup) (k + 2) ≡ 0)
   unfolding biquadAt float lt ofBits
   apart {k} axis one zero =
-      let f = biquadAt (start setup) k in
-      let e : f .b0 ≡ f .b2 = alike f (stored axis) in
+      let f = biquadAt (start setup) k in let e : f .b0 ≡ f .b2 = alike f (stored axis) in
       no (sym (ap (λ (w : ℕ). lt 0·0 (floatOf w)) zero) ∙ ap (lt 0·0) (sym e) ∙ ap (λ (w : ℕ). lt 0·0 (floatOf w)) one)
 
   at : (calls : List Call) (k : ℕ) → k < IMAGE-WORDS → lasting k ≡ true → word (imageAfter (start setup) calls) k ≡ word (start setup) k

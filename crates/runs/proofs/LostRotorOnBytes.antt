@@ -27,8 +27,7 @@ same-but-heading a b d =
 pub heading-unread-on-bytes : (c : Course) (image a b answer : List ℕ) → word image PROFILE ≡ 1 → ButHeading a b → flying c image b answer ≡ flying c image a answer
 unfolding tickFrom
 heading-unread-on-bytes c image a b answer p d =
-    let source = sourceOn c image in
-    let s = stateAt image in
+    let source = sourceOn c image in let s = stateAt image in
     let i = headed (inputAt a) (float b YAW) (float b YAW-RATE) in
     let u = heading-unread source s (inputAt a) (lost image p) (float b YAW) (float b YAW-RATE) in
     flying-is c image b answer

@@ -88,8 +88,7 @@ pub one-more : (enter exit : Float) (ms : List Float) (b : List ℕ) (i : ℕ)
     → set (sets b 0 (map flag (flagsTo enter exit ms i))) i (flag (lookBack enter exit ms (i + 1))) ≡ sets b 0 (map flag (flagsTo enter exit ms (i + 1)))
 unfolding flagsTo
 one-more enter exit ms b i =
-    let done : List ℕ = map flag (flagsTo enter exit ms i) in
-    let next : ℕ = flag (lookBack enter exit ms (suc i)) in
+    let done : List ℕ = map flag (flagsTo enter exit ms i) in let next : ℕ = flag (lookBack enter exit ms (suc i)) in
     let e : 0 + length done ≡ i = omega (arith, length-map (flagsTo enter exit ms i) flag, flags-to-length enter exit ms i) in
     rw (add-one i, map-append flag (flagsTo enter exit ms i) (lookBack enter exit ms (suc i) ∷ []))
     (subst (λ (n : ℕ). set (sets b 0 done) n next ≡ sets b 0 (done ++ (next ∷ []))) e (sets-append b 0 done (next ∷ [])))
@@ -107,6 +106,5 @@ pub all-flags : (enter exit : Float) (margins b : List ℕ) (i : ℕ) → length
     → sets b 0 (map flag (flagsTo enter exit (marginsIn margins) i)) ≡ map flag (slowFlags enter exit (marginsIn margins))
 all-flags enter exit margins b i h u l =
     let ms : List Float = marginsIn margins in
-    let n : length ms ≡ length b = margins-length margins (length b) h in
-    let e : i ≡ length ms = omega arith in
+    let n : length ms ≡ length b = margins-length margins (length b) h in let e : i ≡ length ms = omega arith in
     rw e (over-all b (map flag (slowFlags enter exit ms)) (sym (length-map (slowFlags enter exit ms) flag ∙ flags-to-length enter exit ms (length ms) ∙ n)))

@@ -92,8 +92,7 @@ module _ (enter exit : Float) (ms : List Float) where
     where
       agree : (k : ℕ) → k < length (slowFlags enter exit ms) → getD (slowFlags enter exit ms) k true ≡ getD (flags enter exit ms) k true
       agree k h =
-          let l : k < length ms = subst (λ (n : ℕ). k < n) slow-length h in
-          let slow = slow-flies-at k l in
+          let l : k < length ms = subst (λ (n : ℕ). k < n) slow-length h in let slow = slow-flies-at k l in
           let fast = flag-flies-at enter exit ms k l o in
           same _ _ (λ e. fast .1 (slow .0 e)) (λ e. slow .1 (fast .0 e))
 

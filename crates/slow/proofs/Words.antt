@@ -43,8 +43,7 @@ in-order (suc x) t (suc y) u T U h =
     elim (eq-or-lt-of-le l) [
       | inl p ↦ let k : 8388608 + t ≤ 8388608 + u = omega arith in subst (λ (z : ℕ). (8388608 + t) * 2 ^ x ≤ (8388608 + u) * 2 ^ z) p (mul-le-mul-right (2 ^ x) k)
       | inr g ↦
-          let a : 8388608 + t ≤ 8388608 * 2 = omega arith in
-          let b : 8388608 ≤ 8388608 + u = omega arith in
+          let a : 8388608 + t ≤ 8388608 * 2 = omega arith in let b : 8388608 ≤ 8388608 + u = omega arith in
           le-trans (mul-le-mul-right (2 ^ x) a)
           (le-trans (le-of-eq (mul-assoc 8388608 2 (2 ^ x) ∙ ap (λ (z : ℕ). 8388608 * z) (sym (pow-succ' 2 x))))
           (le-trans (mul-le-mul-left 8388608 (pow-mono g)) (mul-le-mul-right (2 ^ y) b)))

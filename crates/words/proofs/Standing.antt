@@ -54,8 +54,7 @@ canons-more b k (suc n) =
 word-behind : {b t : List ℕ} (n : ℕ) → Put b 0 (canons b 0 n) t → word t n ≡ word b n
 unfolding word
 word-behind {b} {t} n p =
-    let l = length-bytesOf (canons b 0 n) in
-    let m = length-canons b 0 n in
+    let l = length-bytesOf (canons b 0 n) in let m = length-canons b 0 n in
     let at : (i : ℕ) → 4 * n ≤ i → getD t i 0 ≡ getD b i 0 = λ i h. ap (λ (l : List ℕ). getD l i 0) (p .is) ∙ sets-other (bytesOf (canons b 0 n)) b 0 i (inr (omega arith)) in
     rw (at (4 * n) (omega arith), at (4 * n + 1) (omega arith), at (4 * n + 2) (omega arith), at (4 * n + 3) (omega arith))
 

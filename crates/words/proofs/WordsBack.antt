@@ -9,9 +9,7 @@ use Rattle.words.specs.Words.{fourBytes, word, float, vec, floatsOfVec, 
 -- four bytes by weight are the word, below 2 ^ 32
 four : (w : ℕ) → w % 256 + w / 256 % 256 * 256 + w / 65536 % 256 * 65536 + w / 16777216 % 256 * 16777216 ≡ w % 4294967296
 four w =
-    let a = w / 256 in
-    let b = a / 256 in
-    let d = b / 256 in
+    let a = w / 256 in let b = a / 256 in let d = b / 256 in
     let e : w / 65536 ≡ b = sym (div-div-eq-div-mul w 256 256) in
     let f : w / 16777216 ≡ d = sym (div-div-eq-div-mul w 256 65536) ∙ sym (div-div-eq-div-mul a 256 256) in
     rw (e, f) (sum w (w % 256) a (a % 256) b (b % 256) d (d % 256) (d / 256)
@@ -21,8 +19,7 @@ four w =
     sum : (w w₀ a a₀ b b₀ d d₀ e : ℕ) → w₀ + a * 256 ≡ w → a₀ + b * 256 ≡ a → b₀ + d * 256 ≡ b → d₀ + e * 256 ≡ d
         → w₀ < 256 → a₀ < 256 → b₀ < 256 → d₀ < 256 → w₀ + a₀ * 256 + b₀ * 65536 + d₀ * 16777216 ≡ w % 4294967296
     sum w w₀ a a₀ b b₀ d d₀ e hw ha hb hd lw la lb ld =
-        let n = w₀ + a₀ * 256 + b₀ * 65536 + d₀ * 16777216 in
-        let all : w ≡ n + e * 4294967296 = omega arith in
+        let n = w₀ + a₀ * 256 + b₀ * 65536 + d₀ * 16777216 in let all : w ≡ n + e * 4294967296 = omega arith in
         sym (ap (λ (v : ℕ). v % 4294967296) all ∙ add-mul-mod-self-right n e 4294967296 ∙ mod-eq-of-lt (omega arith))
 
 -- the word at place k of written words is the k-th of them, and 0 past their end

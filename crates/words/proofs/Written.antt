@@ -87,8 +87,7 @@ pub put-word : {b t : List ℕ} {k : ℕ} {ws : List ℕ} → Put b k ws t → 4
 unfolding word
 put-word {b} {t} {k} {ws} p h i l =
     let at : (j : ℕ) → j < 4 → getD t (4 * k + (4 * i + j)) 0 ≡ getD (bytesOf ws) (4 * i + j) 0 = λ j m. put-byte p h (4 * i + j) (omega arith) in
-    let e : 4 * (k + i) ≡ 4 * k + 4 * i = omega arith in
-    let z : 4 * i + 0 ≡ 4 * i = omega arith in
+    let e : 4 * (k + i) ≡ 4 * k + 4 * i = omega arith in let z : 4 * i + 0 ≡ 4 * i = omega arith in
     let none : getD t (4 * k + 4 * i) 0 ≡ getD (bytesOf ws) (4 * i) 0 = rw z at (at 0 (omega arith)) in
     rw (e, add-assoc (4 * k) (4 * i) 1, add-assoc (4 * k) (4 * i) 2, add-assoc (4 * k) (4 * i) 3, none, at 1 (omega arith), at 2 (omega arith), at 3 (omega arith))
     (word-bytesOf ws i)

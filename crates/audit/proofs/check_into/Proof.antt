@@ -6,13 +6,8 @@ use Rattle.audit.proofs.{VerdictCall.{mended, finished}, check_into.{St
 
 done : Need-returns-4
 done c =
-    let put = c .before .before in
-    let w = put .before in
-    let v = w .before .before in
-    let p = v .before in
-    let m = p .before in
-    let ok = m .before in
-    let l = ok .before .before .before in
+    let put = c .before .before in let w = put .before in let v = w .before .before in let p = v .before in
+    let m = p .before in let ok = m .before in let l = ok .before .before .before in
     finished _ _ _ _ _ (l .before .if1 .left)
     (sym (l .is-log .ensures) ∙ not-false (l .is-log .result) (ok .before .before .if2 .left))
     (sym (ok .before .is-profile .ensures) ∙ not-false (ok .before .is-profile .result) (ok .if3 .left))
@@ -37,9 +32,7 @@ check-into-spec =
     (λ c κs. search needs)
     (λ c κs. search needs)
     (λ c κs.
-    let m = c .before in
-    let ok = m .before in
-    let l = ok .before .before .before in
+    let m = c .before in let ok = m .before in let l = ok .before .before .before in
     (sym (l .is-log .ensures) ∙ not-false (l .is-log .result) (ok .before .before .if2 .left), mended _ _ (held (l .before .before .before .before .good .1 .1 .0 .1)) (m .mend .ensures)))
     (λ c κs. search needs)
     (λ c κs. search needs)

@@ -23,21 +23,14 @@ loop-holds c = (omega arith, refl, rw sub-zero)
 
 returns : Need-returns Inv-loop μ-loop
 returns c =
-    let j = c .before in
-    let s = j .before in
-    let m = s .before in
-    let in-loop = m .before .before in
+    let j = c .before in let s = j .before in let m = s .before in let in-loop = m .before .before in
     let pre = in-loop .before .before .before .pre in
-    let t = turn _ _ (pre .0) (in-loop .loop-test .taken) in
-    let inv = in-loop .before .loop .inv in
+    let t = turn _ _ (pre .0) (in-loop .loop-test .taken) in let inv = in-loop .before .loop .inv in
     sym (stops _ _ _ (pre .1) _ _ t (inv .1) (m .float-at .ensures) (s .latch .ensures) (j .right .ensures) (c .if1 .taken)) ∙ inv .2
 
 loop-again : Need-loop-again Inv-loop μ-loop
 loop-again c =
-    let j = c .before in
-    let s = j .before in
-    let m = s .before in
-    let in-loop = m .before .before in
+    let j = c .before in let s = j .before in let m = s .before in let in-loop = m .before .before in
     let pre = in-loop .before .before .before .pre in
     let t = turn _ _ (pre .0) (in-loop .loop-test .taken) in
     let inv = in-loop .before .loop .inv in (
@@ -49,8 +42,7 @@ loop-again c =
 returns-2 : Need-returns-2 Inv-loop μ-loop
 unfolding verdictFrom
 returns-2 c =
-    let pre = c .before .before .before .pre in
-    let inv = c .before .loop .inv in
+    let pre = c .before .before .before .pre in let inv = c .before .loop .inv in
     sym (ap (verdictFrom _ _ _ _ _) (all-turns _ _ (pre .0) (inv .0) (c .loop-test .left))) ∙ inv .2
 
 pub judged-spec : {M : Type 1} → statement M

@@ -5,8 +5,7 @@ use Rattle.slow.proofs.{FlagsCall.{mended, finished}, flags_into.{State
 
 done : Need-returns-3
 done c =
-    let put = c .before .before in
-    let m = put .before .before in
+    let put = c .before .before in let m = put .before .before in
     finished _ _ _ _ (m .before .if2 .left) (m .before .before .if1 .left) (m .mend .ensures) (put .put-flags .ensures)
 
 pub flags-into-spec : {M : Type 1} → statement M

@@ -11,9 +11,7 @@ abbrev μ-loop : MeasureT-loop
 
 returns : Need-returns Inv-loop μ-loop
 returns c =
-    let band = c .before .before in
-    let read = band .before in
-    let turn = read .before in
+    let band = c .before .before in let read = band .before in let turn = read .before in
     let pre = turn .before .before .before .before .pre in
     ap not (c .finite-above .ensures)
     ∙ sym (decides _ _ (pre .1 .0) (pre .1 .1) _ _ (turn .loop-test .taken) (omega arith) _ (read .float-at .ensures)
@@ -22,9 +20,7 @@ returns c =
 
 loop-again : Need-loop-again Inv-loop μ-loop
 loop-again c =
-    let band = c .before in
-    let read = band .before in
-    let turn = read .before in
+    let band = c .before in let read = band .before in let turn = read .before in
     let pre = turn .before .before .before .before .pre in (
       omega arith,
       goes-on _ _ (pre .1 .0) (pre .1 .1) _ _ (turn .loop-test .taken) (omega arith) _ (read .float-at .ensures) (sym (band .in-band .ensures) ∙ not-false (band .in-band .result) (c .if1 .left))

@@ -13,11 +13,8 @@ abbrev μ-loop : MeasureT-loop
 loop-again : Need-loop-again Inv-loop μ-loop
 unfolding float
 loop-again c =
-    let read = c .before .before in
-    let turn = read .before in
-    let hi = turn .before .before .before in
-    let lo = hi .before in
-    let start = lo .before .before in
+    let read = c .before .before in let turn = read .before in let hi = turn .before .before .before in
+    let lo = hi .before in let start = lo .before .before in
     let pre = start .pre in (
       omega arith,
       goes-on _ _ (pre .1 .0) (pre .1 .1) _ _ (turn .loop-test .taken) (omega arith) _ (ap floatOf (read .word-at .ensures))

@@ -17,12 +17,8 @@ exchanged image segment {b} p q e n k g x w = rw (p, q, ← e, not-false b n, w,
 
 writes : Need-returns-4
 writes c =
-    let u = c .before .before .before .before in
-    let l = u .before in
-    let h = l .before in
-    let t = h .before .before in
-    let i = t .before in
-    let a = i .before .before in
+    let u = c .before .before .before .before in let l = u .before in let h = l .before in let t = h .before .before in
+    let i = t .before in let a = i .before .before in
     exchanged _ _ (a .before .if1 .left) (a .if2 .left) (i .unread-unbroken .ensures) (t .if3 .left)
     (h .state-at .ensures) (l .leg-at .ensures) (u .exchange .ensures) (c .before .before .put-state .ensures)
 

@@ -21,21 +21,14 @@ broken : Need-returns-4
 unfolding tickCall tickFrom tickRefusal
 broken c =
     let t = c .before in
-    let f = t .before .before .before .before .before .before in
-    let l = f .before .before .before in
+    let f = t .before .before .before .before .before .before in let l = f .before .before .before in
     simp (← t .unbroken .ensures, not-true (t .unbroken .result) (c .if4 .taken), eq-eqb _ _ (l .if3 .left), eq-eqb _ _ (l .before .if2 .left), eq-eqb _ _ (l .before .before .if1 .left))
 
 flies : Need-returns-5
 unfolding tickCall
 flies c =
-    let w = c .before .before .before .before in
-    let e = w .before .before .before in
-    let t = e .before in
-    let h = t .before in
-    let s = h .before in
-    let p = s .before in
-    let i = p .before in
-    let f = i .before .before in
+    let w = c .before .before .before .before in let e = w .before .before .before in let t = e .before in
+    let h = t .before in let s = h .before in let p = s .before in let i = p .before in let f = i .before .before in
     let l = f .before .before .before in
     flown _ _ _ _ (unbroken-taken _ _ _ (is-unbroken (l .before .before .if1 .left) (t .unbroken .ensures) (e .if4 .left)) (l .before .if2 .left) (l .if3 .left)) refl refl
     (i .input-at .ensures) (f .fixed-at .ensures) (p .read-and-prepare .ensures) (rw (← f .fixed-at .ensures) (s .reference-at .ensures))
@@ -52,9 +45,7 @@ tick-spec =
     (λ c κs. let f = c .before .before .before .before .before in (f .before .before .before .before .before .if1 .left, read-of (f .fixed-at .ensures)))
     (λ c. search needs) broken
     (λ c κs.
-    let t = c .before .before .before in
-    let p = t .before .before .before in
-    let f = p .before .before .before in
+    let t = c .before .before .before in let p = t .before .before .before in let f = p .before .before .before in
     let l = f .before .before .before in
     let n = l .before .before .if1 .left in (
       (n, l .if3 .left),

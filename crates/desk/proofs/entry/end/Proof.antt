@@ -4,15 +4,13 @@ use Rattle.desk.proofs.entry.end.{Statement.statement, Tie.{Need-return
 
 puts-back : Need-returns
 puts-back c =
-    let b = c .before .before in
-    let t = b .before .before in
+    let b = c .before .before in let t = b .before .before in
     let n = sym (t .before .is-done .ensures) ∙ not-true _ (t .if1 .taken) in
     record { outcome = refl; desk = rw n; input = rw n (b .put-back .ensures .is) }
 
 keeps : Need-returns-2
 keeps c =
-    let b = c .before .before in
-    let t = b .before .before in
+    let b = c .before .before in let t = b .before .before in
     let n = sym (t .before .is-done .ensures) ∙ not-false _ (t .if1 .left) in
     record { outcome = refl; desk = rw n (b .put-desk .ensures); input = rw n }
 

@@ -6,8 +6,7 @@ use Rattle.desk.proofs.entry.step_into.{Statement.statement, Tie.{Need-
 returns : Need-returns
 unfolding moved flownInput
 returns c =
-    let h = c .before .before in
-    let s = h .before .before .before .before in
+    let h = c .before .before in let s = h .before .before .before .before in
     let v = s .before .before .before in (
       simp (s .step .ensures, s .before .float-at .ensures, v .vec-at .ensures, v .before .desk-at .ensures),
       simp (h .put-heading .ensures, s .step .ensures, s .before .float-at .ensures, v .vec-at .ensures, v .before .desk-at .ensures),

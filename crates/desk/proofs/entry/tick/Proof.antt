@@ -21,8 +21,7 @@ ends : Need-returns-4
 ends c =
     let e = c .before .before .before .before in
     let k = e .before .before .before .before .before .before .before in
-    let s = k .before .before .before .before .before .before in
-    let w = s .before .before .before in
+    let s = k .before .before .before .before .before .before in let w = s .before .before .before in
     let l = w .before .before .before .before in
     leaves _ _ _ _ _ _ (l .before .before .if1 .left) (l .before .if2 .left) (λ i. omega (arith, l .before .before .before .before .slice-known3 .given i))
     (w .before .before .word-at .ensures) (w .word-at2 .ensures) (s .step-into .ensures) (k .tick .ensures) (e .end .ensures)

@@ -6,8 +6,7 @@ use Rattle.image.proofs.image.put_state.{Statement.statement, Tie.{Need
 returns : Need-returns
 unfolding imageOf
 returns c =
-    let peaks = c .before .before in
-    let rest = peaks .before .before .before .before in
+    let peaks = c .before .before in let rest = peaks .before .before .before .before in
     let worked = rest .before .before in
     whole (then (rest .put-before-peaks .ensures) (rw (worked .peak-abs-jerk .ensures) at (peaks .put-vec .ensures)) refl) (worked .before .before .before .pre)
 

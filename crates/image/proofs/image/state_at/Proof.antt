@@ -5,8 +5,7 @@ use Rattle.image.proofs.image.state_at.{Statement.statement, Tie.{Need-
 returns : Need-returns
 unfolding movingAt rateAt lpfAt
 returns c =
-    let rate = c .before .before .before in
-    let rest = rate .before .before .before in
+    let rate = c .before .before .before in let rest = rate .before .before .before in
     simp (
       c .biquad-at3 .ensures,
       c .before .biquad-at2 .ensures,

@@ -6,6 +6,5 @@ rate-error-spec =
     close (spec (λ c. search needs) (λ c. search needs) (λ c. search needs) (λ c. search needs) (λ c. search needs)
     (λ c. simp (c .enum-told2 .given .1, c .before .before .before .feedforward .given .1)) (λ c κs. search needs)
     (λ c.
-    let m = c .before .before .before .before .before .before in
-    let d = m .before .before in
+    let m = c .before .before .before .before .before .before in let d = m .before .before in
     simp (m .commanded .ensures, d .r-d .given .1, d .before .before .before .feedforward .given .1)))

@@ -27,6 +27,5 @@ append-spec =
     rw (c .before .record-count .ensures) ((t .input-length, t .answer-length), (t .room, t .one-more)))
     (λ c. search needs)
     (λ c.
-    let n = c .before .before .before .before in
-    let e = n .before .before in
+    let n = c .before .before .before .before in let e = n .before .before in
     written _ _ _ _ (e .before .before .append-refusal .ensures) (e .before .is-done .ensures) (e .if1 .left) (n .record-count .ensures) (c .before .before .put-record .ensures)))

@@ -8,9 +8,7 @@ put-record-spec =
     (λ c κs. search needs) (λ c. search needs) (λ c κs. search needs) (λ c. search needs) (λ c. search needs) (λ c κs. search needs)
     (λ c. search needs)
     (λ c.
-    let third = c .before .before in
-    let second = third .before .before .before .before in
+    let third = c .before .before in let second = third .before .before .before .before in
     let first = second .before .before .before .before in
-    let given = first .before .before .before .before .before in
-    let a = given .args in
+    let given = first .before .before .before .before .before in let a = given .args in
     recorded (a .buffer .now) (a .count) (a .input .now) (a .answer .now) (given .pre .0) (first .put-bytes .ensures) (second .put-bytes2 .ensures) (third .put-trailer .ensures)))

@@ -4,8 +4,7 @@ use Rattle.log.proofs.entry.put_trailer.{Statement.statement, Tie.{Need
 
 returns : Need-returns
 returns c =
-    let third = c .before .before in
-    let second = third .before .before .before .before in
+    let third = c .before .before in let second = third .before .before .before .before in
     let first = second .before .before .before .before in
     then (then (first .put-word .ensures) (second .put-word2 .ensures) refl) (third .put-word3 .ensures) refl
 

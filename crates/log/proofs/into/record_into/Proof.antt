@@ -26,9 +26,7 @@ record-into-spec =
     omega (arith, ap length (c .record-at .ensures), l, r .before .before .before .if1 .left))
     (λ c. search needs)
     (λ c.
-    let d = c .before .before .before in
-    let r = d .before .before .before in
-    let i = r .before .before in
+    let d = c .before .before .before in let r = d .before .before .before in let i = r .before .before in
     let there = not-false (r .has-record .result) (d .before .before .if3 .left) in
     let l = record-length _ _ (sym (r .has-record .ensures) ∙ there) in
     let into = i .before .before .before .before .args .into .now in

@@ -9,18 +9,13 @@ returns c = simp (← c .before .before .normalize .ensures, c .enum-told .given
 returns-2 : Need-returns-2
 unfolding desiredAttitude
 returns-2 c =
-    let n = c .before .before in
-    let h = n .before .before in
-    let b = h .before .before in
+    let n = c .before .before in let h = n .before .before in let b = h .before .before in
     simp (← b .before .before .normalize .ensures, b .b3 .given .1, ← h .heading .ensures, ← n .before .cross .ensures, ← n .normalize2 .ensures, c .enum-told2 .given .1)
 
 returns-3 : Need-returns-3
 unfolding desiredAttitude
 returns-3 c =
-    let k = c .before .before in
-    let n = k .before .before in
-    let h = n .before .before in
-    let b = h .before .before in
+    let k = c .before .before in let n = k .before .before in let h = n .before .before in let b = h .before .before in
     simp (← b .before .before .normalize .ensures, b .b3 .given .1, ← h .heading .ensures, ← n .before .cross .ensures, ← n .normalize2 .ensures, k .b2 .given .1, c .cross2 .ensures)
 
 pub desired-attitude-spec : {M : Type 1} → statement M

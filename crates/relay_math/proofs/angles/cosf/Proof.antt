@@ -10,9 +10,7 @@ cosf-spec =
     (λ c κs. let d = c .before .before in sized _ _ _ (held (d .before .before .good .0 .1)) (d .before .signed-of .ensures) (d .served .ensures) (c .before .if1 .taken) (c .if2 .taken))
     (λ c κs. search needs) (λ c. search needs) (λ c κs. search needs) (λ c κs. search needs)
     (λ c.
-    let e = c .before .before .before in
-    let b = e .before .before in
-    let d = b .before .before in
+    let e = c .before .before .before in let b = e .before .before in let d = b .before .before in
     let f = held (d .before .before .good .0 .1) in
     is-cosine _ _ _ f (arm _ _ _ f (d .before .signed-of .ensures) (d .served .ensures) true true (b .before .if1 .taken) (b .if2 .taken))
     (c .turned-of .ensures ∙ simp (c .before .either-poly .ensures .0, one, e .reduce .ensures .0, e .before .fixed-of .ensures .0)))

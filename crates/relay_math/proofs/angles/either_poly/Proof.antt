@@ -19,14 +19,12 @@ pub either-poly-spec : {M : Type 1} → statement M
 either-poly-spec =
     close (spec (λ c κs. search needs) (λ c κs. search needs) (λ c κs. search needs) (λ c κs. search needs) (λ c κs. search needs)
     (λ c κs.
-    let b = c .before .before .before .before in
-    let a = b .before .args in
+    let b = c .before .before .before .before in let a = b .before .args in
     let f = falling (a .sine) (a .r) (b .before .pre .0) in
     simp (c .pick-of5 .ensures, c .before .pick-of4 .ensures, c .before .before .pick-of3 .ensures, c .before .before .before .pick-of2 .ensures, b .pick-of .ensures)
     (f .0, (b .before .pre .1, f .1)))
     (λ c.
-    let d = c .before in
-    let b = d .before .before .before .before in
+    let d = c .before in let b = d .before .before .before .before in
     let a = b .before .args in (
       c .poly-of .ensures .0 ∙ simp (d .pick-of5 .ensures, d .before .pick-of4 .ensures, d .before .before .pick-of3 .ensures)
           (simp (d .before .before .before .pick-of2 .ensures, b .pick-of .ensures) (one (a .sine) (a .r) (a .z))),

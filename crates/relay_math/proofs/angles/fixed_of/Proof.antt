@@ -10,8 +10,7 @@ parts c = known (c .args .x) (held (c .good .0 .1)) (c .pre .0) (c .pre .1)
 returns : Need-returns
 unfolding fixed
 returns c =
-    let b = toBits binary32 (c .args .x) in
-    let k = b / 8388608 % 256 - 102 in
+    let b = toBits binary32 (c .args .x) in let k = b / 8388608 % 256 - 102 in
     let h : k ≤ 38 = omega (arith, parts c .high) in
     let e = shl-exact {a = b % 8388608 + 8388608} 24 k 64 (omega arith) (omega arith) in
     (e, rw e (lt-of-lt-of-le (shl-lt 24 k (omega arith)) (pow-mono {i = 24 + k} {j = 62} (omega arith))))

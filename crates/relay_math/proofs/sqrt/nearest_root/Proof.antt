@@ -5,9 +5,7 @@ use Rattle.relay_math.proofs.{Squares.{square-le, own-square, capped}, 
 -- a small difference did not wrap
 tested : (n r d : ℕ) → n < 2 ^ 48 → r ≤ 2 ^ 26 → (d + (r * r - r + 1)) % 2 ^ 64 ≡ n → d < 2 * r → (r * r < n + r) × (n ≤ r * r + r) × (r ≤ 2 ^ 24)
 tested n r d h b e t =
-    let q = square-le r b in
-    let o = own-square r in
-    let l : r * r < n + r = omega arith in
+    let q = square-le r b in let o = own-square r in let l : r * r < n + r = omega arith in
     (l, omega arith, capped n r h l)
 
 pub nearest-root-spec : {M : Type 1} → statement M

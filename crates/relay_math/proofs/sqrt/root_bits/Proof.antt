@@ -8,9 +8,7 @@ sized d l = rw (as-product d l) (under-size (M d) ((E d + 103) % 2) (omega arith
 returns : Need-returns
 returns c = (
   λ x h.
-      let s = c .before in
-      let d = s .args .d in
-      let r = c .nearest-root in
+      let s = c .before in let d = s .args .d in let r = c .nearest-root in
       let w : Scaled x (M d) (E d) = record { is = h; low = omega arith; high = omega arith; under = omega (arith, s .pre) } in
       let k : (d / 2 + 51 * 2 ^ 23) / 2 ^ 23 ≡ half (E d) = omega (arith, s .pre) in
       rw k (closest-read x (M d) (E d) w (r .result) (rw (as-product d (s .pre .0)) at (r .ensures .0), rw (as-product d (s .pre .0)) at (r .ensures .1))),

@@ -11,9 +11,7 @@ Low a = ltb a 2147483648
 -- what `|` gives is no less than either, and has the top bit only of one that has it
 low-or : (a b : ℕ) → Low (bitOr a b) ≡ (Low a && Low b)
 low-or a b =
-    let s = or-add-and a b in
-    let l = and-le-l a b in
-    let r = and-le-r a b in
+    let s = or-add-and a b in let l = and-le-l a b in let r = and-le-r a b in
     elim (le-or-lt 2147483648 a) [
       | inl h ↦ rw (le-ltb a 2147483648 h, le-ltb (bitOr a b) 2147483648 (omega arith))
       | inr h ↦ elim (le-or-lt 2147483648 b) [

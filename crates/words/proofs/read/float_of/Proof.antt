@@ -11,8 +11,7 @@ is-nan (fin s m x) e = cc
 
 defined : Need-float-from-bits-result
 defined c =
-    let p = c .before in
-    let w = p .before .args .w in
+    let p = c .before in let w = p .before .args .w in
     subst (λ (b : Bool). T (not b)) (sym (nanBits-is binary32 w)) (subst T (sym (sym (p .is-plain .ensures) ∙ c .if1 .taken)) tt)
 
 returns-nan : Need-returns-2

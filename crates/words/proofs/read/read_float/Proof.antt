@@ -6,8 +6,7 @@ use Rattle.words.proofs.read.read_float.{Statement.statement, Tie.{Need
 
 defined : Need-float-from-bits-result
 defined c =
-    let w = c .before in
-    let a = w .before .before in
+    let w = c .before in let a = w .before .before in
     let plain : Plain true (a .args .bytes .now) = subst (λ (p : Bool). Plain p (a .args .bytes .now)) (c .if1 .taken) (a .pre .1) in
     rw (nanBits-is binary32 (w .word-at .result), w .word-at .ensures) (plain (a .args .k) (a .pre .0))
 

@@ -8,10 +8,8 @@ four-more : (b : List ℕ) (at : ℕ) (from : List ℕ) (i : ℕ) → i + 4 ≤ 
 four-more b at from i h =
     let one : at + i + 1 ≡ at + (i + 1) = omega arith in
     let two : at + i + 2 ≡ at + (i + 1 + 1) = omega arith in
-    let three : at + i + 3 ≡ at + (i + 1 + 1 + 1) = omega arith in
-    let next : i + 2 ≡ i + 1 + 1 = omega arith in
-    let last : i + 3 ≡ i + 1 + 1 + 1 = omega arith in
-    let end : i + 4 ≡ i + 1 + 1 + 1 + 1 = omega arith in
+    let three : at + i + 3 ≡ at + (i + 1 + 1 + 1) = omega arith in let next : i + 2 ≡ i + 1 + 1 = omega arith in
+    let last : i + 3 ≡ i + 1 + 1 + 1 = omega arith in let end : i + 4 ≡ i + 1 + 1 + 1 + 1 = omega arith in
     rw (one-more b at from i (omega arith), one, one-more b at from (i + 1) (omega arith), two, next, one-more b at from (i + 1 + 1) (omega arith), three, last, end)
     (one-more b at from (i + 1 + 1 + 1) (omega arith))
 

@@ -5,8 +5,7 @@ use Rattle.words.proofs.write.put_word.{Statement.statement, Tie.{close
 stores : (b : List ℕ) (i w : ℕ)
     → set (set (set (set b i (w % 256)) (i + 1) (w / 256 % 256)) (i + 2) (w / 65536 % 256)) (i + 3) (w / 16777216 % 256) ≡ sets b i (bytesOf (w ∷ []))
 stores b i w =
-    let one : i + 1 ≡ suc i = omega arith in
-    let two : i + 2 ≡ suc (suc i) = omega arith in
+    let one : i + 1 ≡ suc i = omega arith in let two : i + 2 ≡ suc (suc i) = omega arith in
     let three : i + 3 ≡ suc (suc (suc i)) = omega arith in
     rw (one, two, three)
 

@@ -4,6 +4,7 @@ use super::joint::Run;
 use super::stack;
 use compare::desk::{DESK, DESK_SETUP, STICKS};
 use compare::joint::bytes::{put, ANSWER, TICK};
+use compare::joint::guide::{Guide, MIXED};
 use fosavalo_desk::calls;
 use std::hint::black_box;
 use std::time::Instant;
@@ -74,28 +75,34 @@ fn flown(run: &Run, mut desk: [u8; DESK], moved: &[Sticks]) -> Option<Vec<Input>
     run.inputs.iter().zip(moved).map(each).collect()
 }
 
+/// The desk's ticks, on the segment and on a route.
+pub const CALLS: [&str; 2] = ["fosavalo_desk_tick", "fosavalo_desk_route_tick"];
+
+/// The stack that each of `CALLS` takes, the most over some ticks of a run, on a route of so many legs. None where it can't be measured or a tick is refused.
+pub fn stacks(run: &Run, legs: usize) -> Option<[usize; CALLS.len()]> {
+    let (mut desk, mut image, mut answer) = (set_up()?, run.start, [0; ANSWER]);
+    let route = Guide::new(8 * legs as u64 - 1, MIXED).steady();
+    run.inputs.iter().take(256).enumerate().try_fold([0; CALLS.len()], |most, (at, input)| {
+        let (mut input, sticks, mut numbers) = (*input, sticks(at), [0; CALLS.len()]);
+        let here = [
+            stack::depth(&mut || numbers[0] = calls::tick(&mut desk, &sticks, &mut image, &mut input, &mut answer))?,
+            stack::depth(&mut || numbers[1] = calls::route_tick(&mut desk, &sticks, &mut image, &mut input, &route, &mut answer))?,
+        ];
+        (numbers == [0; CALLS.len()]).then(|| std::array::from_fn(|k| most[k].max(here[k])))
+    })
+}
+
 #[cfg(test)]
 mod tests {
     use super::*;
     use compare::joint::bytes::MOST_LEGS;
-    use compare::joint::guide::{Guide, MIXED};
 
-    /// On the segment and on a route, of one leg and of the most.
     #[test]
     #[cfg(any(target_arch = "x86_64", target_arch = "aarch64"))]
     fn no_desk_tick_takes_more_stack_than_its_bar() {
-        let run = crate::joint::pass();
-        let (mut desk, mut image, mut answer) = (set_up().expect("it is set up"), run.start, [0; ANSWER]);
         for legs in [1, MOST_LEGS] {
-            let route = Guide::new(8 * legs as u64 - 1, MIXED).steady();
-            for (at, input) in run.inputs.iter().take(256).enumerate() {
-                let (mut input, sticks) = (*input, sticks(at));
-                let mut tick = || assert_eq!(calls::tick(&mut desk, &sticks, &mut image, &mut input, &mut answer), 0);
-                let plain = stack::depth(&mut tick).expect("measured here");
-                let mut tick = || assert_eq!(calls::route_tick(&mut desk, &sticks, &mut image, &mut input, &route, &mut answer), 0);
-                let routed = stack::depth(&mut tick).expect("measured here");
-                assert!(plain <= stack::BAR && routed <= stack::BAR, "{plain} and {routed} bytes, with {legs} legs");
-            }
+            let depths = stacks(&crate::joint::pass(), legs).expect("measured here");
+            assert!(depths.into_iter().all(|depth| depth <= stack::BAR), "{depths:?} bytes, with {legs} legs");
         }
     }
 

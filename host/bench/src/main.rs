@@ -177,19 +177,19 @@ fn stacks() -> bool {
         println!("the stack is not measured on this machine");
         return false;
     };
+    let Some(by_desk) = desk::stacks(&runs[0], compare::joint::bytes::MOST_LEGS) else {
+        println!("a desk tick is refused");
+        return false;
+    };
     let most = |k: usize| depths.iter().map(|depths| depths[k]).max().unwrap_or(0);
+    let (ours, rust) = joint::CALLS.split_at(joint::RUST);
     let mut good = true;
-    for (k, name) in joint::CALLS.iter().enumerate() {
-        let bytes = most(k);
-        let within = k == joint::RUST || bytes <= stack::BAR;
-        let verdict = if k == joint::RUST {
-            "no bar".into()
-        } else {
-            format!("{} the bar of {}", if within { "within" } else { "OVER" }, stack::BAR)
-        };
-        println!("{name:28} {bytes:6} B  ({verdict})");
+    for (name, bytes) in ours.iter().zip((0..).map(most)).chain(desk::CALLS.iter().zip(by_desk)) {
+        let within = bytes <= stack::BAR;
+        println!("{name:28} {bytes:6} B  ({} the bar of {})", if within { "within" } else { "OVER" }, stack::BAR);
         good &= within;
     }
+    rust.iter().for_each(|name| println!("{name:28} {:6} B  (no bar)", most(joint::RUST)));
     good
 }
 

@@ -1,6 +1,6 @@
 -- The flag carried along a list of records, as the shield does: each is right by it exactly if the verdict is "all right". Assumes nothing.
 use Rattle.laws.proofs.Prelude.{ℕ, zero, suc, _<_, _≡_, refl, sym, ap, _∙_, Bool, true, false, List, [], _∷_, le-of-suc-le-suc, suc-le-suc, zero-lt-suc, arith, Float, lt, length, getD, take}
-use Rattle.laws.proofs.Prelude.length-map
+use Rattle.laws.proofs.Prelude.{length-map}
 use Rattle.latch.{specs.Latch.{latch, after}, proofs.LatchFlies.{flag-from, flag-flies-at}}
 use Rattle.joint_tick.specs.declared.profile.Profile.{Profile}
 use Rattle.slow.{specs.Back.lookBack, proofs.Slow.looks-back}

@@ -1,6 +1,6 @@
 -- A leg's coefficients are so much smaller than the largest f32 that the factors of its velocity do not overflow. Assumes nothing.
 use Rattle.laws.proofs.Prelude.{_≡_, subst, Bool, true, false, ℕ, zero, suc, _*_, _^_, _≤_, _<_, zero-mul, mul-one, one-mul, mul-assoc, mul-pos, mul-le-mul, mul-le-mul-left, mul-le-mul-right}
-use Rattle.laws.proofs.Prelude.le-of-mul-le-mul-right
+use Rattle.laws.proofs.Prelude.{le-of-mul-le-mul-right}
 use Rattle.laws.proofs.Prelude.{le-trans, le-of-eq, le-of-suc-le-suc, mul-right-comm, eqb, leb→le, lit<, pow-mono, T, ℤ, pos, Float, nan, inf, fin, binary32, fits, up, down, unlike, round, le, neg}
 use Rattle.laws.proofs.Prelude.{mul, div, ofBits}
 use Prim.Native.Nat.{zero-le}

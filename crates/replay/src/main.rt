@@ -1,6 +1,7 @@
 // Runs the oracle's stored answers again, from standard input. docs/ORACLE.md has the form of the list and says how it was made.
 // For each section of the list a line: its name, how many answers were compared, how many differ. Before it, a line for each row that differs.
 mod adrc; // adrc.rt: 002
+mod desks; // desks.rt: the desk's calls
 mod geo; // geo.rt: 000
 mod lent; // lent.rt: the calls on lent bytes
 mod numbers; // numbers.rt: 003 and 004
@@ -94,8 +95,10 @@ struct Head {
 fn one(h: Head) -> Verdict {
     if h.number < 500 {
         routine(h.number, h.given, h.answered)
-    } else {
+    } else if h.number < 512 {
         lent::call(h.number)
+    } else {
+        desks::call(h.number)
     }
 }
 

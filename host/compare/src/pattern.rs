@@ -110,7 +110,7 @@ fn read(fault: Fault, mut bytes: &[u8], deep: usize, items: &mut Vec<Item>) -> O
 }
 
 /// How many legs are flown.
-fn count(fault: Fault, items: &[Item]) -> u64 {
+pub(crate) fn count(fault: Fault, items: &[Item]) -> u64 {
     let of = |item: &Item| match item {
         Item::Leg(_) => 1,
         Item::Repeat(times, inner) => u64::from(*times) * count(fault, inner),
@@ -387,7 +387,7 @@ pub fn sweep(call: Call, patterns: usize) -> Result<Seen, String> {
 }
 
 /// Trees of so many legs that a narrow count goes round: 257, 65,537 and the most that a repeat can have.
-fn large(rng: &mut Rng) -> Vec<Vec<Item>> {
+pub(crate) fn large(rng: &mut Rng) -> Vec<Vec<Item>> {
     let mut nested = |times: &[u8], legs: usize, more: usize| {
         let body = (0..legs).map(|_| leg(rng, 0, 0)).collect();
         let mut items = times.iter().fold(body, |inner, times| vec![Item::Repeat(*times, inner)]);

@@ -46,8 +46,8 @@ fn the_list_has_every_routine_every_number_and_both_controllers() {
     let sections = answers::sections();
     let all: usize = sections.iter().map(|section| section.rows.len()).sum();
     assert!(all >= 10_000, "{all} answers");
-    // 82 of the table, the root and the size, five figures, set-up, both ticks, the exchange, a log's three calls, and flags
-    assert_eq!(sections.len(), 82 + 2 + 5 + 8);
+    // 82 of the table, the root and the size, five figures, and every call of the core and of the desk that is lent something
+    assert_eq!(sections.len(), 82 + 2 + 5 + 16);
     let numbers = |name: &str, all: &[u32], least: usize| {
         let rows = &named(&sections, name).rows;
         let count = |number: &u32| rows.iter().filter(|row| row.answer[0] == *number).count();
@@ -63,6 +63,14 @@ fn the_list_has_every_routine_every_number_and_both_controllers() {
     numbers("log count", &[0, 2, 8], 6);
     numbers("log record", &[0, 8, 13, 14], 6);
     numbers("flags", &[0, 9], 30);
+    numbers("route sample", &[0, 3, 5, 6, 7], 9);
+    numbers("tick refusal", &[0, 1, 2, 3, 4], 9);
+    numbers("log check", &[0, 2, 8, 10], 9);
+    numbers("pattern", &[0, 2, 5, 7, 9, 12], 9);
+    numbers("desk tick", &[0, 1, 2, 3, 4, 15, 16], 2);
+    numbers("desk route tick", &[0, 1, 2, 3, 4, 5, 6, 7, 15, 16], 2);
+    numbers("desk set-up", &[0, 15, 16], 4);
+    numbers("desk centre", &[0, 15], 4);
     // of an accepted tick: the flag, a margin of minus infinity, an infinite time; the answer stands after the number and the image
     let ticks = &named(&sections, "tick").rows;
     let seen = |at: usize, word: u32| ticks.iter().filter(|row| row.answer[0] == 0 && row.answer[ANSWER + at] == word).count();

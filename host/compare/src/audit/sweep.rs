@@ -89,7 +89,7 @@ impl<'a> Sides<'a> {
     }
 }
 
-fn log_of(records: &[Record]) -> Vec<u8> {
+pub(crate) fn log_of(records: &[Record]) -> Vec<u8> {
     written(&records.iter().map(|record| &record[..]).collect::<Vec<_>>())
 }
 
@@ -311,7 +311,7 @@ pub fn others(sides: &mut Sides) -> Result<(), String> {
 }
 
 /// Words that are no profile, and the two that are.
-const PROFILES: [u32; 11] = [0, 1, 2, 3, 255, 256, 257, 1 << 16, 1 << 24 | 1, 1 << 31, u32::MAX];
+pub(crate) const PROFILES: [u32; 11] = [0, 1, 2, 3, 255, 256, 257, 1 << 16, 1 << 24 | 1, 1 << 31, u32::MAX];
 
 /// A log of 0 to 3 records cut at every length from 0 to 400, and with its trailer moved there; with every profile; and the verdict into every length.
 pub fn lengths(sides: &mut Sides) -> Result<(), String> {

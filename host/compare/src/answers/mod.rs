@@ -4,11 +4,17 @@
 //! model. Inputs come of the generator alone, which asks nothing of the machine's mathematical library, so the list is the same wherever
 //! it is made.
 
+mod desk;
+mod later;
+
 use crate::generate::{self, Kind, Part, Rng};
 use crate::joint;
-use crate::joint::bytes::{canonical, float, put, word, ANSWER, IMAGE, LEG, MOST_LEGS, PEAKS, PROFILE, SETUP, SETUP_PROFILE, TICK};
+use crate::joint::bytes::{
+    canonical, float, put, word, ANSWER, IMAGE, LEG, MOST_LEGS, PEAKS, PROFILE, SETUP, SETUP_FC, SETUP_PROFILE, TICK,
+};
 use crate::joint::lent::Lending;
 use crate::joint::model::{self, Flight};
+use crate::joint::pilot::CUT_OFFS;
 use crate::log::{self, RECORD};
 use crate::routine::Routine;
 use crate::slow;
@@ -27,6 +33,7 @@ const STRIDE: u64 = 479;
 const SETUPS: u64 = 320;
 const RUNS: u64 = 40;
 const TICKS: u64 = 30;
+const ROUTE_RUNS: u64 = 64;
 const ROUTE_TICKS: u64 = 8;
 const EXCHANGES: u64 = 240;
 const LOGS: u64 = 40;
@@ -103,7 +110,8 @@ pub fn sections() -> Vec<Section> {
     }));
     all.extend([setups(), ticks(), route_ticks()]);
     all.extend(logs());
-    all.extend([exchanges(), flags()]);
+    all.extend([exchanges(), flags(), later::samples(), later::tick_refusals(), later::checks(), later::patterns()]);
+    all.extend(desk::desks());
     all
 }
 
@@ -257,14 +265,22 @@ fn length(rng: &mut Rng, right: usize) -> usize {
     }
 }
 
+/// The fourth part of them with a cut-off at or about what decides whether it passes through.
 fn setups() -> Section {
     let rows = (0..SETUPS).map(|n| {
         let mut rng = Rng::new("stored set-ups", n);
-        let kind = KINDS[(n % 4) as usize];
-        let numbers = bits(filled::<SETUP_PROFILE>(kind, &set_up_parts(), &mut rng));
-        let (a, mut b) = (lent(&mut rng, IMAGE, &[]), lent(&mut rng, SETUP, &numbers));
+        let mut numbers = filled::<SETUP_PROFILE>(KINDS[(n % 4) as usize], &set_up_parts(), &mut rng);
+        if n / 4 % 4 == 0 {
+            numbers[SETUP_FC..].copy_from_slice(&CUT_OFFS[(n / 16) as usize % CUT_OFFS.len()]);
+        }
+        let (a, mut b) = (lent(&mut rng, IMAGE, &[]), lent(&mut rng, SETUP, &bits(numbers)));
         let any = rng.bits() as u32;
         put(&mut b.bytes, SETUP_PROFILE, rng.of(&[0, 0, 0, 0, 0, 1, 1, 1, 1, 1, 2, any]).unwrap_or(0));
+        // too long, and with a profile that is none
+        if rng.below(24) == 0 {
+            b.len = SETUP + 1 + rng.below(MORE);
+            put(&mut b.bytes, SETUP_PROFILE, 2);
+        }
         Call { a, b, c: Lent::NONE, d: Lent::NONE, at: 0 }.row(|image, input, _, _, _| set_up(image, input))
     });
     Section::calls("set-up", 500, rows.collect())
@@ -284,29 +300,51 @@ fn ticks() -> Section {
 }
 
 fn route_ticks() -> Section {
-    Section::calls("route tick", 502, (0..RUNS).flat_map(|number| run("stored route ticks", number, ROUTE_TICKS, true)).collect())
+    Section::calls("route tick", 502, (0..ROUTE_RUNS).flat_map(|number| run("stored route ticks", number, ROUTE_TICKS, true)).collect())
+}
+
+/// Now and then a leg without an end, one whose peak is infinite, or one at rest, whose peaks are zero.
+fn odd_leg(rng: &mut Rng, leg: &mut [f32]) {
+    match rng.below(9) {
+        0 => leg[18] = f32::INFINITY,
+        1 => {
+            leg.fill(0.0);
+            (leg[9 + rng.below(3)], leg[18]) = (4.6e35, 1.0);
+        }
+        2 => leg[..18].fill(0.0),
+        _ => {}
+    }
+}
+
+/// An image that has flown a little, with a word more behind it; the number says of which kind its set-up and its ticks are.
+fn flown_a_little(rng: &mut Rng, n: u64) -> Vec<u8> {
+    let kind = |n: u64| KINDS[(n % 4) as usize];
+    let mut image = buffer(rng, IMAGE + MORE, &[]);
+    let mut numbers = filled::<SETUP_PROFILE>(kind(n / 4), &set_up_parts(), rng);
+    odd_leg(rng, &mut numbers[17..36]);
+    let mut input = bits(numbers).to_vec();
+    input.push((n % 2) as u32);
+    fresh(&mut image[..IMAGE], &buffer(rng, SETUP, &input));
+    for _ in 0..rng.below(4) {
+        let words = bits(filled::<{ TICK / 4 }>(kind(n / 16), &INPUT, rng));
+        let input = buffer(rng, TICK, &words);
+        tick(&mut image[..IMAGE], &input, None, &mut [0; ANSWER]);
+    }
+    image
 }
 
 /// Of images that have flown a little, a few of them with a word replaced.
 fn exchanges() -> Section {
     let rows = (0..EXCHANGES).map(|n| {
         let mut rng = Rng::new("stored exchanges", n);
-        let kind = |n: u64| KINDS[(n % 4) as usize];
-        let mut image = buffer(&mut rng, IMAGE + MORE, &[]);
-        let mut input = bits(filled::<SETUP_PROFILE>(kind(n / 4), &set_up_parts(), &mut rng)).to_vec();
-        input.push((n % 2) as u32);
-        fresh(&mut image[..IMAGE], &buffer(&mut rng, SETUP, &input));
-        for _ in 0..rng.below(4) {
-            let words = bits(filled::<{ TICK / 4 }>(kind(n / 16), &INPUT, &mut rng));
-            let input = buffer(&mut rng, TICK, &words);
-            tick(&mut image[..IMAGE], &input, None, &mut [0; ANSWER]);
-        }
-        if rng.below(6) == 0 {
+        let mut image = flown_a_little(&mut rng, n);
+        if rng.below(3) == 0 {
             damage(&mut rng, &mut image);
         }
         let a = Lent { bytes: image, len: length(&mut rng, IMAGE) };
-        let leg = bits(filled::<{ LEG / 4 }>(kind(n), &LEG_PARTS, &mut rng));
-        let b = lent(&mut rng, LEG, &leg);
+        let mut leg = filled::<{ LEG / 4 }>(KINDS[(n % 4) as usize], &LEG_PARTS, &mut rng);
+        odd_leg(&mut rng, &mut leg);
+        let b = lent(&mut rng, LEG, &bits(leg));
         Call { a, b, c: Lent::NONE, d: Lent::NONE, at: 0 }
             .row(|image, input, _, _, _| model::call(joint::Call::Exchange, &mut Lending { image, input, route: &[], answer: &mut [] }))
     });
@@ -340,15 +378,33 @@ fn flags() -> Section {
     Section::calls("flags", 507, rows.collect())
 }
 
+/// Headings with their cosines and sines.
+const HEADINGS: [[f32; 3]; 3] = [[0.927_295_2, 0.6, 0.8], [1.080_839_1, 8.0 / 17.0, 15.0 / 17.0], [1.176_005_2, 5.0 / 13.0, 12.0 / 13.0]];
+
+/// At such a heading about the third axis by twice as much, and so long that entries of the product of attitudes overflow, and neither the attitude's nor its trace.
+fn long(rng: &mut Rng, words: &mut [f32]) {
+    let ([heading, cosine, sine], last) = (HEADINGS[rng.below(HEADINGS.len())], 1.304e19 * rng.range(0.965, 0.995));
+    words[3..7].copy_from_slice(&[last * cosine / sine, 0.0, 0.0, last]);
+    words[8..10].copy_from_slice(&[heading, 0.0]);
+}
+
 /// Ticks from a set-up, the image handed on. Every other run is level, at rest, with no filter and turning as commanded, and its rate beside that
-/// goes about those at which the margin is enter and exit; the others are of all kinds. At times the call is refused, or an image with
-/// one word replaced is lent; then the run goes on with the one before. Eight runs by the old rules and eight with a rotor lost take turns.
+/// goes about those at which the margin is enter and exit; of the others one in five falls so that there is an attitude and no feedforward, and is the
+/// fallback's; the rest are of all kinds. At times the call is refused, or an image with one word replaced is lent; then the run goes on with the one
+/// before. Eight runs by the old rules and eight with a rotor lost take turns.
 fn run(name: &str, number: u64, ticks: u64, on_routes: bool) -> Vec<Row> {
     let mut rng = Rng::new(name, number);
-    let (level, kind) = (number % 2 == 0, KINDS[(number / 2 % 4) as usize]);
-    let mut s = filled::<SETUP_PROFILE>(if level { Kind::Flight } else { kind }, &set_up_parts(), &mut rng);
+    let (level, falls, kind) = (number % 2 == 0, number % 10 == 9, KINDS[(number / 2 % 4) as usize]);
+    let mut s = filled::<SETUP_PROFILE>(if level || falls { Kind::Flight } else { kind }, &set_up_parts(), &mut rng);
     let edges = [1.5, 1.0];
-    if level {
+    if falls {
+        let (a, t) = (9.81 - 5e-4, 2.0);
+        s[12..14].copy_from_slice(&[5.0, 9.0]);
+        s[17..35].fill(0.0);
+        (s[25], s[34], s[31], s[28], s[35]) = (a, a, a * t, 0.5 * a * t * t, t);
+    } else if !level {
+        odd_leg(&mut rng, &mut s[17..36]);
+    } else {
         s[17..35].fill(0.0);
         s[48] = 0.0;
         s[9..14].copy_from_slice(&[1.0, 1.0, 1e3, 4.0 - edges[0] * edges[0], 4.0 - edges[1] * edges[1]]);
@@ -359,21 +415,31 @@ fn run(name: &str, number: u64, ticks: u64, on_routes: bool) -> Vec<Row> {
     fresh(&mut image[..IMAGE], &input);
     (0..ticks)
         .map(|t| {
-            let kind = if level { Kind::Flight } else { KINDS[(t % 4) as usize] };
+            // on to an infinite time
+            let hurries = !level && !falls && t % 8 >= 5;
+            let kind = if level || falls || hurries { Kind::Flight } else { KINDS[(t % 4) as usize] };
             let mut words = filled::<{ TICK / 4 }>(kind, &INPUT, &mut rng);
             if level {
                 let x = rng.of(&[edges[0], edges[1], 0.5, 1.2, 1.3, 1.75]).unwrap_or(1.2);
-                let turn = words[9];
-                words[..7].copy_from_slice(&[rng.near(x), 0.0, turn, 1.0, 0.0, 0.0, 0.0]);
+                let (x, turn) = (if rng.flag() { x } else { rng.near(x) }, words[9]);
+                words[..7].copy_from_slice(&[x, 0.0, turn, 1.0, 0.0, 0.0, 0.0]);
                 words[8] = rng.of(&[0.0, 0.0, 0.0, 0.0, 0.0, 0.0, 0.0, 0.0, f32::NAN, 129.0]).unwrap_or(0.0);
-            } else if t % 8 == 7 {
-                // on to an infinite time
+            } else if falls {
+                words[3..10].copy_from_slice(&[1.0, 0.0, 0.0, 0.0, 0.0, 0.0, 0.0]);
+            } else if hurries {
                 words[7] = 0.0;
                 words[10] = f32::MAX;
             }
+            if (level && rng.below(12) == 0) || (falls && rng.below(3) == 0) {
+                long(&mut rng, &mut words);
+            }
             let route = if on_routes {
                 let time = Flight::from_image(&image[..IMAGE]).time_ahead(words[7], words[10]);
-                let route = route(&mut rng, kind, time);
+                let mut route = route(&mut rng, kind, time);
+                // at rest, as the run is
+                if level && rng.flag() {
+                    route.chunks_exact_mut(LEG / 4).for_each(|leg| leg[..18].fill(0));
+                }
                 lent(&mut rng, 4 * route.len(), &route)
             } else {
                 Lent::NONE
@@ -397,14 +463,33 @@ fn run(name: &str, number: u64, ticks: u64, on_routes: bool) -> Vec<Row> {
 
 /// One word replaced, mostly one of those that row 4 looks at.
 fn damage(rng: &mut Rng, image: &mut [u8]) {
-    let any = rng.below(IMAGE / 4);
-    let peak = PEAKS + rng.below(3);
-    let at = rng.of(&[0, 13, 14, 15, 16, 26, 33, 40, PROFILE, peak, any, any]).unwrap_or(0);
+    let place = rng.below(PLACES);
+    damage_at(rng, image, place);
+}
+
+const PLACES: usize = 14;
+
+/// The same at one of so many places: by a word near what decides; a number that is kept, by a NaN with other bits than the core's; a peak that is infinite, by a
+/// NaN, and one that is zero, by the other zero.
+fn damage_at(rng: &mut Rng, image: &mut [u8], place: usize) {
+    let peaks = [0, 1, 2].map(|axis| word(image, PEAKS + axis));
+    if let (Some(axis), true) = (peaks.iter().position(|peak| *peak == f32::INFINITY.to_bits()), rng.flag()) {
+        return put(image, PEAKS + axis, 0x7fc0_0000);
+    }
+    let (any, axis) = (rng.below(IMAGE / 4), rng.below(3));
+    let kept = [1 + rng.below(12), 17 + rng.below(3), 41 + rng.below(54), 59 + rng.below(9)][rng.below(4)];
+    let at = [0, 13, 14, 15, 16, 26, 33, 40, PROFILE, PEAKS + axis, PEAKS + axis, kept, kept, any][place];
     let near = rng.near_one(&[0.0, 1e-3, 0.5, 3.0, f32::INFINITY]).to_bits();
-    let bits = rng.word().to_bits();
-    let flipped = word(image, at) ^ 1 << rng.below(32);
-    let new = rng.of(&[0, 1, 2, 95, 96, near, near, near, flipped, bits]).unwrap_or(0);
-    put(image, at, new);
+    let (own, bits) = (word(image, at), rng.word().to_bits());
+    let flipped = own ^ 1 << rng.below(32);
+    let new = match at {
+        0 => rng.of(&[0, 95, 96, 96, 98, flipped]),
+        15 | PROFILE => rng.of(&[0, 1, 2, 2, 3, 256, flipped, bits]),
+        PEAKS.. => rng.of(&[own ^ 1 << 31, own ^ 1 << 31, own ^ 1, 0x7fc0_0000, flipped, bits]),
+        _ if at == kept => rng.of(&[0x7f80_0001, 0x7fff_ffff, 0xffc0_0000, 0xff80_0001]),
+        _ => rng.of(&[0, 1, near, near, near, flipped, bits]),
+    };
+    put(image, at, new.unwrap_or(0));
 }
 
 fn tick(image: &mut [u8], input: &[u8], route: Option<&[u8]>, answer: &mut [u8]) -> u32 {
@@ -412,22 +497,23 @@ fn tick(image: &mut [u8], input: &[u8], route: Option<&[u8]>, answer: &mut [u8])
     model::call(call, &mut Lending { image, input, route: route.unwrap_or_default(), answer })
 }
 
-/// Legs that meet, of one kind, as far as it has numbers that do; one of them, or none, ends at this time or next to it, and those
-/// before it are short. At times no leg or one too many, or one word of a join or of the trailer replaced.
+/// Legs that meet, of one kind, as far as it has numbers that do; one of them, or none, ends at this time or next to it. At times no leg or one too many, one word of a join or of the trailer replaced, or more words than legs.
 fn route(rng: &mut Rng, kind: Kind, time: f32) -> Vec<u32> {
     const WORDS: usize = LEG / 4;
     let count = rng.of(&[1, 1, 2, 2, 2, 3, 3, 3, 4, 4, 5, 8, 9, MOST_LEGS, 0, MOST_LEGS + 1]).unwrap_or(1);
     let mut legs = vec![[0.0; WORDS]; count];
     let (aim, mut end, mut from) = (rng.below(count + 1), 0.0f32, None);
+    // short ones, or all of them so long that much is lost in their sum
+    let (each, exact) = if rng.flag() { (0.5 / count as f32, rng.flag()) } else { (0.95 / aim as f32, true) };
     for (at, leg) in legs.iter_mut().enumerate() {
         *leg = filled(kind, &LEG_PARTS, rng);
         if let Some(from) = from.replace(<[f32; 9]>::try_from(&leg[9..18]).expect("nine words")) {
             leg[..9].copy_from_slice(&from);
         }
         if at < aim {
-            leg[18] = time.min(f32::MAX) * rng.range(0.1, 0.9) / count as f32;
+            leg[18] = time.min(f32::MAX) * each * rng.range(0.8, 1.05);
         } else if at == aim {
-            leg[18] = rng.near(time - end);
+            leg[18] = if exact { time - end } else { rng.near(time - end) };
         }
         end += if leg[18].is_finite() && leg[18] > 1e-3 { leg[18] } else { 1e-3 };
     }
@@ -437,6 +523,11 @@ fn route(rng: &mut Rng, kind: Kind, time: f32) -> Vec<u32> {
         0 if count > 1 => words[WORDS * rng.below(count - 1) + 9 + rng.below(9)] = rng.word().to_bits(),
         1 => words[WORDS * count] = rng.of(&[0, MOST_LEGS as u32 + 1, count as u32 + 1, 1 << 30, any]).unwrap_or(0),
         2 => words[WORDS * count + 1] = rng.of(&[0, (LEG * count) as u32 + 76, any]).unwrap_or(0),
+        // words between the legs and the trailer
+        3 if count <= MOST_LEGS => {
+            let more = vec![0; 1 + rng.below(WORDS)];
+            words.splice(WORDS * count..WORDS * count, more);
+        }
         _ => {}
     }
     words
@@ -453,7 +544,11 @@ fn logs() -> [Section; 3] {
         for _ in 0..room + 1 {
             let other = rng.of(&[0, 11, len - 1, len + 1, log.len() + 1, u32::MAX as usize]).unwrap_or(0);
             let at = if rng.below(6) == 0 { other } else { len };
-            let end = if rng.below(6) == 0 { rng.of(&[0, len - 1, len, len + RECORD - 1]).unwrap_or(0) } else { log.len() };
+            let end = if rng.below(4) == 0 {
+                rng.of(&[0, len - 1, len, len + RECORD - 1, len + RECORD, len + RECORD]).unwrap_or(0)
+            } else {
+                log.len()
+            };
             let a = Lent { bytes: spoilt(&mut rng, &log, len), len: end.min(log.len()) };
             let (b, d) = (lent(&mut rng, TICK, &[]), lent(&mut rng, ANSWER, &[]));
             let mut call = Call { a, b, c: Lent::NONE, d, at: at as u32 };
@@ -475,13 +570,17 @@ fn logs() -> [Section; 3] {
     [Section::calls("log append", 503, appends), Section::calls("log count", 504, counts), Section::calls("log record", 505, records)]
 }
 
-/// A log of this length in its buffer, now and then with a word of its trailer replaced.
+/// A log of this length in its buffer, now and then with a word of its trailer replaced, or the trailer of a log with a record less.
 fn spoilt(rng: &mut Rng, log: &[u8], len: usize) -> Vec<u8> {
     let mut log = log.to_vec();
-    if rng.below(8) == 0 {
-        let any = rng.bits() as u32;
-        let word = rng.of(&[0, 1, 1 << 30, 107, 108, 109, 216, any]).unwrap_or(0);
-        put(&mut log, (len - log::TRAILER) / 4 + rng.below(3), word);
+    if len > RECORD && rng.below(16) == 0 {
+        let (count, trailer) = ((len / RECORD - 1) as u32, (len - log::TRAILER) / 4);
+        put(&mut log, trailer, count);
+        put(&mut log, trailer + 1, RECORD as u32 * count);
+    } else if rng.below(8) == 0 {
+        let (at, any) = ((len - log::TRAILER) / 4 + rng.below(3), rng.bits() as u32);
+        let own = word(&log, at);
+        put(&mut log, at, rng.of(&[0, 1, own | 1 << 30, own | 1 << 16, 107, 108, 109, 216, any]).unwrap_or(0));
     }
     log
 }

@@ -71,14 +71,15 @@ static inline uint32_t word_at(const uint8_t *bytes, uint32_t at) {
     return bytes[4 * at] | (uint32_t)bytes[4 * at + 1] << 8 | (uint32_t)bytes[4 * at + 2] << 16 | (uint32_t)bytes[4 * at + 3] << 24;
 }
 
-/* behind a row of a call: four lent buffers, a word, the number, and the words of the first and the third afterwards */
-static inline const uint8_t *behind(const uint8_t *row) {
-    uint32_t words[4];
-    for (uint32_t k = 0; k < 4; k++) {
+/* behind a row of a call: four lent buffers, a word, the number, and the words of the first and the third afterwards; from 512 on, the desk's, six buffers, the
+ * number, and the words of all but the second and the fifth */
+static inline const uint8_t *behind(uint32_t which, const uint8_t *row) {
+    uint32_t words[6], six = which >= 512;
+    for (uint32_t k = 0; k < (six ? 6 : 4); k++) {
         words[k] = word_at(row, 0);
         row += 8 + 4 * words[k];
     }
-    return row + 8 + 4 * (words[0] + words[2]);
+    return six ? row + 4 + 4 * (words[0] + words[2] + words[3] + words[5]) : row + 8 + 4 * (words[0] + words[2]);
 }
 
 /* the rows of a section of calls, and how many they are */
@@ -89,10 +90,49 @@ static inline const uint8_t *rows_of(const uint8_t *list, uint32_t wanted, uint3
         at += 64;
         *count = rows;
         if (number == wanted) return at;
-        for (uint32_t row = 0; row < rows; row++) at = number < 500 ? at + 4 * words : behind(at);
+        for (uint32_t row = 0; row < rows; row++) at = number < 500 ? at + 4 * words : behind(number, at);
     }
     *count = 0;
     return at;
+}
+
+/* a lent buffer of a row: its words as they were given, and then as the call left them */
+struct lent {
+    uint32_t words, bytes;
+    uint8_t held[4096];
+};
+
+/* the buffer that stands here; behind it */
+static inline const uint8_t *take(struct lent *lent, const uint8_t *at) {
+    lent->words = word_at(at, 0);
+    lent->bytes = word_at(at, 1);
+    for (uint32_t k = 0; k < 4 * lent->words && k < sizeof lent->held; k++) lent->held[k] = at[8 + k];
+    return at + 8 + 4 * lent->words;
+}
+
+/* whether its words are now those that stand here, and behind them */
+static inline uint32_t alike(const struct lent *lent, const uint8_t **wanted) {
+    uint32_t same = 1;
+    for (uint32_t k = 0; k < 4 * lent->words; k++) same &= lent->held[k] == (*wanted)[k];
+    *wanted += 4 * lent->words;
+    return same;
+}
+
+/* the stored answers of these sections, each row by a function that says whether it came out as it is stored */
+static inline void say_stored(const uint8_t *list, uint32_t first, uint32_t last, uint32_t (*as_stored)(uint32_t which, const uint8_t *row)) {
+    uint32_t run = 0, differ = 0;
+    for (uint32_t which = first; which <= last; which++) {
+        uint32_t rows;
+        for (const uint8_t *row = rows_of(list, which, &rows); rows > 0; rows--, row = behind(which, row)) {
+            run++;
+            differ += !as_stored(which, row);
+        }
+    }
+    say("stored answers: ");
+    say_number(run, 10, 1);
+    say(" run, ");
+    say_number(differ, 10, 1);
+    say(" differ\n");
 }
 
 static inline void mix_word(uint32_t word) {

@@ -1,13 +1,18 @@
 // The oracle's stored answers (crates/replay/stdin; docs/ORACLE.md has their form), and the calls among them run again. It needs nothing of
 // node's, so that a page can run it too.
 
-import { ANSWER_BYTES, IMAGE_BYTES, RECORD_BYTES, TICK_BYTES, Image, Log, Refusal, Route, TickInput } from './fosavalo.js';
+import { ANSWER_BYTES, DESK_BYTES, IMAGE_BYTES, LOG_RIGHT, RECORD_BYTES, SAMPLE_BYTES, TICK_BYTES } from './fosavalo.js';
+import { Desk, Image, Log, Profile, Refusal, Route, TickInput } from './fosavalo.js';
+
+/** The first section of the desk's calls, which have six buffers and no `at`; and which buffers a call may change, by how many it has. */
+const DESK = 512;
+const CHANGED = { 4: [0, 2], 6: [0, 2, 3, 5] };
 
 const same = (x, y) => x.length === y.length && x.every((byte, at) => byte === y[at]);
 
 /**
- * The sections: number, name and rows. A row of a routine is its words; one of a call its buffers, `at`, and the answer, whole and by
- * part, in bytes that are the list's own.
+ * The sections: number, name and rows. A row of a routine is its words; one of a call its buffers, `at`, the number that it gives, each buffer as
+ * it leaves it, and all that is answered, in bytes that are the list's own.
  */
 export const read = (list) => {
     const view = new DataView(list.buffer, list.byteOffset, list.byteLength);
@@ -21,16 +26,18 @@ export const read = (list) => {
         const [stored, lent] = words(2);
         return { stored: bytes(4 * stored), lent };
     };
-    const callRow = () => {
-        const [a, b, c, d, at] = [buffer(), buffer(), buffer(), buffer(), word()];
+    const callRow = (count) => () => {
+        const buffers = Array.from({ length: count }, buffer);
+        const at = count === 4 ? word() : null;
         const start = next;
-        const answer = { number: bytes(4), a: bytes(a.stored.length), c: bytes(c.stored.length) };
-        return { a, b, c, d, at, answer, all: list.subarray(start, next) };
+        const number = bytes(4);
+        const left = buffers.map(({ stored }, k) => (CHANGED[count].includes(k) ? bytes(stored.length) : stored));
+        return { buffers, at, number, left, all: list.subarray(start, next) };
     };
     const read = Array.from({ length: sections }, () => {
         const [number, given, answered, rows] = words(4);
         const name = String.fromCharCode(...bytes(48)).trimEnd();
-        const row = number < 500 ? () => ({ given: words(given), answered: words(answered) }) : callRow;
+        const row = number < 500 ? () => ({ given: words(given), answered: words(answered) }) : callRow(number < DESK ? 4 : 6);
         return { number, name, rows: Array.from({ length: rows }, row) };
     });
     const count = read.reduce((sum, { rows }) => sum + rows.length, 0);
@@ -38,27 +45,36 @@ export const read = (list) => {
     return read;
 };
 
-const float = ({ stored }, at) => new DataView(stored.buffer, stored.byteOffset).getFloat32(4 * at, true);
-const numberOf = ({ answer }) => new DataView(answer.number.buffer, answer.number.byteOffset).getUint32(0, true);
+const viewOf = (bytes) => new DataView(bytes.buffer, bytes.byteOffset, bytes.byteLength);
+const float = ({ stored }, at) => viewOf(stored).getFloat32(4 * at, true);
+const word = ({ stored }, at) => viewOf(stored).getUint32(4 * at, true);
+const numberOf = (row) => viewOf(row.number).getUint32(0, true);
 
-/** What each section calls, with pointer and length of each buffer. */
+/** What each section calls: with pointer and length of each buffer, and the row. */
 const EXPORTS = {
-    500: ['fosavalo_setup', (a, b) => [...a, ...b]],
-    501: ['fosavalo_tick', (a, b, c) => [...a, ...b, ...c]],
-    502: ['fosavalo_route_tick', (a, b, c, d) => [...a, ...b, ...d, ...c]],
-    503: ['fosavalo_log_append', (a, b, c, d, { at }) => [...a, BigInt(at), ...b, ...d]],
-    504: ['fosavalo_log_count', (a, b, c) => [...b, ...c]],
-    505: ['fosavalo_log_record', (a, b, c, d, { at }) => [...b, BigInt(at), ...c]],
-    506: ['fosavalo_exchange', (a, b) => [...a, ...b]],
-    507: ['fosavalo_flags', (a, b, c, d, row) => [...b, float(row.d, 0), float(row.d, 1), ...c]],
+    500: ['setup', ([a, b]) => [a, b]],
+    501: ['tick', ([a, b, c]) => [a, b, c]],
+    502: ['route_tick', ([a, b, c, d]) => [a, b, d, c]],
+    503: ['log_append', ([a, b, , d], { at }) => [a, BigInt(at), b, d]],
+    504: ['log_count', ([, b, c]) => [b, c]],
+    505: ['log_record', ([, b, c], { at }) => [b, BigInt(at), c]],
+    506: ['exchange', ([a, b]) => [a, b]],
+    507: ['flags', ([, b, c], { buffers: [, , , d] }) => [b, float(d, 0), float(d, 1), c]],
+    508: ['route_sample', ([, , c, d], { buffers: [, b] }) => [d, float(b, 0), c]],
+    509: ['tick_refusal', ([, b], { buffers: [, , , d] }) => [b, BigInt(word(d, 0)), BigInt(word(d, 1))]],
+    510: ['log_check', ([, , c, d], { buffers: [, b] }) => [d, word(b, 0), float(b, 1), float(b, 2), c]],
+    511: ['pattern_expand', ([a, , c, d]) => [d, a, c]],
+    512: ['desk_tick', ([desk, sticks, image, input, , answer]) => [desk, sticks, image, input, answer]],
+    513: ['desk_route_tick', (six) => six],
+    514: ['desk_setup', ([desk, sticks]) => [desk, sticks]],
+    515: ['desk_centre', ([desk]) => [desk]],
 };
 
 /** Whether the bare export gives the stored answer: its number, every stored byte, lent or not, and no byte changed around the buffers. */
 export const bare = (exports, section, row) => {
     const [base, gap] = [exports.__heap_base.value, 32];
-    const buffers = [row.a, row.b, row.c, row.d];
     let length = gap;
-    const places = buffers.map(({ stored }) => (length += stored.length + gap) - stored.length - gap);
+    const places = row.buffers.map(({ stored }) => (length += stored.length + gap) - stored.length - gap);
     const laid = (memory, contents) => {
         memory.fill(0xa5);
         contents.forEach((bytes, k) => memory.set(bytes, places[k]));
@@ -66,11 +82,11 @@ export const bare = (exports, section, row) => {
     };
     const short = base + length - exports.memory.buffer.byteLength;
     if (short > 0) exports.memory.grow(Math.ceil(short / 65536));
-    const memory = laid(new Uint8Array(exports.memory.buffer, base, length), buffers.map(({ stored }) => stored));
+    const memory = laid(new Uint8Array(exports.memory.buffer, base, length), row.buffers.map(({ stored }) => stored));
     const [name, args] = EXPORTS[section];
-    const number = exports[name](...args(...buffers.map(({ lent }, k) => [base + places[k], BigInt(lent)]), row));
-    const after = laid(new Uint8Array(length), [row.answer.a, row.b.stored, row.answer.c, row.d.stored]);
-    return number === numberOf(row) && same(memory, after);
+    const lent = row.buffers.map(({ lent }, k) => [base + places[k], BigInt(lent)]);
+    const number = exports[`fosavalo_${name}`](...args(lent, row).flat());
+    return number === numberOf(row) && same(memory, laid(new Uint8Array(length), row.left));
 };
 
 /** The number of a call's refusal, and what it gave where that is 0. */
@@ -84,13 +100,20 @@ const asked = (call) => {
 };
 
 /** The same through the typed calls: whether the answer is the stored one, or null where they cannot lend such buffers. */
-export const typed = (core, section, row) => {
-    const [a, b, c, d] = [row.a, row.b, row.c, row.d].map(({ stored, lent }) => stored.slice(0, lent));
-    const [number, newA, newC] = [numberOf(row), row.answer.a.slice(0, a.length), row.answer.c.slice(0, c.length)];
-    const gives = (call, expected) => {
-        const { number: said, gave } = asked(call);
-        return said === number && (number !== 0 || same(gave, expected));
-    };
+export const typed = (core, deskCore, section, row) => {
+    const lent = row.buffers.map(({ stored, lent }) => stored.slice(0, lent));
+    const left = row.left.map((bytes, k) => bytes.slice(0, lent[k].length));
+    const number = numberOf(row);
+    return section < DESK ? typedCore(core, section, row, number, lent, left) : typedDesk(core, deskCore, section, number, lent, left);
+};
+
+const givesOf = (number) => (call, expected) => {
+    const { number: said, gave } = asked(call);
+    return said === number && (number !== 0 || same(gave, expected));
+};
+
+const typedCore = (core, section, row, number, [a, b, c, d], [newA, , newC]) => {
+    const gives = givesOf(number);
     const onImage = (call) => {
         const { number: said, gave: image } = asked(() => Image.fromBytes(core, a));
         if (said !== 0) return said === number;
@@ -125,10 +148,45 @@ export const typed = (core, section, row) => {
         }
         case 506:
             return onImage((image) => image.exchange(b));
-        default: {
+        case 507: {
             if (c.length !== b.length >> 2) return null;
-            const pilots = () => core.lookedBack(b, float(row.d, 0), float(row.d, 1));
+            const [, , , thresholds] = row.buffers;
+            const pilots = () => core.lookedBack(b, float(thresholds, 0), float(thresholds, 1));
             return gives(() => pilots().map((pilot) => Number(pilot === 'fallback')), newC);
         }
+        case 508:
+            return c.length === SAMPLE_BYTES ? gives(() => core.sample(d, float(row.buffers[1], 0)).asBytes(), newC) : null;
+        case 509: {
+            const lengths = [0, 1].map((at) => word(row.buffers[3], at));
+            if (lengths[0] !== TICK_BYTES || lengths[1] !== ANSWER_BYTES) return core.calls.tickRefusal(b, ...lengths) === number;
+            return asked(() => Image.fromBytes(core, b).check()).number === number;
+        }
+        case 510: {
+            const [, given] = row.buffers;
+            const profile = Object.values(Profile)[word(given, 0)];
+            if (c.length !== 4 || profile === undefined) return null;
+            const checked = () => Log.fromBytes(core, d).check(profile, float(given, 1), float(given, 2));
+            return gives(() => new Uint8Array(Uint32Array.of(checked().wrongAt ?? LOG_RIGHT).buffer), newC);
+        }
+        default: {
+            // its room is for any route
+            if (c.length !== 4 || number === 9) return null;
+            return gives(() => Route.expand(core, d).asBytes(), newA.slice(0, viewOf(newC).getUint32(0, true)));
+        }
     }
+};
+
+const typedDesk = (core, deskCore, section, number, [desk, sticks, image, input, route, answer], left) => {
+    const gives = givesOf(number);
+    if (section === 514) return desk.length === DESK_BYTES ? gives(() => Desk.setUp(deskCore, sticks).asBytes(), left[0]) : null;
+    const { number: noDesk, gave: own } = asked(() => Desk.fromBytes(deskCore, desk));
+    if (noDesk !== 0) return noDesk === number;
+    if (section === 515) return gives(() => (own.centre(), own.asBytes()), left[0]);
+    // an image is refused when it is made, so before sticks
+    const { number: noImage, gave: held } = asked(() => Image.fromBytes(core, image));
+    if (answer.length !== ANSWER_BYTES || (noImage !== 0 && number === 16)) return null;
+    if (noImage !== 0) return noImage === number;
+    const flown = () => (section === 512 ? own.tick(sticks, held, input) : own.routeTick(sticks, held, input, route));
+    const after = () => [own.asBytes(), sticks, held.asBytes(), input].every((bytes, k) => same(bytes, left[k]));
+    return gives(() => flown().asBytes(), left[5]) && after();
 };

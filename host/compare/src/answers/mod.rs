@@ -1,6 +1,6 @@
 //! The list that the program `replay` runs again: rows of input with the oracle's answers. docs/ORACLE.md has its form.
 //!
-//! Every answer is the Rust's own, or for the joint tick that of the Rust's calls in the documents' order, or for a log that of its
+//! Every answer is the Rust's own, or for the joint tick that of the Rust's calls in the documents' order, or for another call that of its
 //! model. Inputs come of the generator alone, which asks nothing of the machine's mathematical library, so the list is the same wherever
 //! it is made.
 
@@ -513,7 +513,9 @@ fn route(rng: &mut Rng, kind: Kind, time: f32) -> Vec<u32> {
         if at < aim {
             leg[18] = time.min(f32::MAX) * each * rng.range(0.8, 1.05);
         } else if at == aim {
-            leg[18] = if exact { time - end } else { rng.near(time - end) };
+            // of an infinity less another the bits are the machine's
+            let left = f32::from_bits(canonical(time - end));
+            leg[18] = if exact { left } else { rng.near(left) };
         }
         end += if leg[18].is_finite() && leg[18] > 1e-3 { leg[18] } else { 1e-3 };
     }

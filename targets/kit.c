@@ -137,6 +137,7 @@ static void ask(const uint8_t *line) {
     else if (is(line, "exchange")) said = fosavalo_exchange(image, image_len, GIVEN(0));
     else if (is(line, "tick")) INTO(1, 40, fosavalo_tick(image, image_len, GIVEN(0), to, to_len));
     else if (is(line, "route")) INTO(2, 40, fosavalo_route_tick(image, image_len, GIVEN(0), GIVEN(1), to, to_len));
+    else if (is(line, "sample")) INTO(2, FOSAVALO_SAMPLE_BYTES, fosavalo_route_sample(GIVEN(0), number(word_at(word[1].at, 0)), to, to_len));
     else if (is(line, "refusal")) said = fosavalo_tick_refusal(image, image_len, plain[0], plain[1]);
     else if (is(line, "image") && words == 0) tell(0, image, image_len, 1);
     else if (is(line, "image")) copy(image, word[0], &image_len, sizeof image), said = 0;
@@ -165,6 +166,9 @@ static void ask(const uint8_t *line) {
     else if (is(line, "desk")) {
         INTO(2, 40, fosavalo_desk_tick(desk, desk_len, GIVEN(0), image, image_len, GIVEN(1), to, to_len));
         if (words > 2) told[tells++] = word[1];
+    } else if (is(line, "deskroute")) {
+        INTO(3, 40, fosavalo_desk_route_tick(desk, desk_len, GIVEN(0), image, image_len, GIVEN(1), GIVEN(2), to, to_len));
+        if (words > 3) told[tells++] = word[1];
     } else if (is(line, "deskimage") && words == 0) tell(0, desk, desk_len, 1);
     else if (is(line, "deskimage")) copy(desk, word[0], &desk_len, sizeof desk), said = 0;
 }

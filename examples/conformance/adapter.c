@@ -78,6 +78,7 @@ int main(void) {
         else if (IS("exchange", 1, 1)) say(fosavalo_exchange(ALL(image), IN(0)), none, 0);
         else if (IS("tick", 1, 2)) INTO(1, 40, fosavalo_tick(ALL(image), IN(0), ALL(to)));
         else if (IS("route", 2, 3)) INTO(2, 40, fosavalo_route_tick(ALL(image), IN(0), IN(1), ALL(to)));
+        else if (IS("sample", 2, 3)) INTO(2, FOSAVALO_SAMPLE_BYTES, fosavalo_route_sample(IN(0), number(b[1]), ALL(to)));
         else if (IS("refusal", 2, 2)) say(fosavalo_tick_refusal(ALL(image), strtoull(word[0], NULL, 10), strtoull(word[1], NULL, 10)), none, 0);
         else if (IS("image", 0, 0)) say(0, image, 1);
         else if (IS("image", 1, 1)) keep(&image, &b[0]), say(0, none, 0);
@@ -116,6 +117,9 @@ int main(void) {
         else if (IS("desk", 2, 3)) {
             INTO(2, 40, fosavalo_desk_tick(ALL(desk), IN(0), ALL(image), IN(1), ALL(to)));
             if (words > 2) hex(b[1]);
+        } else if (IS("deskroute", 3, 4)) {
+            INTO(3, 40, fosavalo_desk_route_tick(ALL(desk), IN(0), ALL(image), IN(1), IN(2), ALL(to)));
+            if (words > 3) hex(b[1]);
         } else if (IS("deskimage", 0, 0)) say(0, desk, 1);
         else if (IS("deskimage", 1, 1)) keep(&desk, &b[0]), say(0, none, 0);
         else fputs("unsupported", stdout);

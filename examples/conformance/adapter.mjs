@@ -35,6 +35,7 @@ const CALLS = {
     exchange: (leg) => [core.exchange(image, bytesOf(leg))],
     tick: (input, room) => into(room, 40, (to) => core.tick(image, bytesOf(input), to)),
     route: (input, route, room) => into(room, 40, (to) => core.routeTick(image, bytesOf(input), bytesOf(route), to)),
+    sample: (route, time, room) => into(room, 52, (to) => core.routeSample(bytesOf(route), float(bytesOf(time)), to)),
     refusal: (input, answer) => [core.tickRefusal(image, BigInt(input), BigInt(answer))],
     image: (given) => (given === undefined ? [0, hex(image)] : ((image = bytesOf(given)), [0])),
     log: (given = '00*8+6c000000', room = '00*43200') => {
@@ -63,6 +64,11 @@ const CALLS = {
     desk: (sticks, input, room) => {
         const given = bytesOf(input);
         const told = into(room, 40, (to) => desk.tick(deskImage, bytesOf(sticks), image, given, to));
+        return room === undefined ? told : [...told, hex(given)];
+    },
+    deskroute: (sticks, input, route, room) => {
+        const given = bytesOf(input);
+        const told = into(room, 40, (to) => desk.routeTick(deskImage, bytesOf(sticks), image, given, bytesOf(route), to));
         return room === undefined ? told : [...told, hex(given)];
     },
     deskimage: (given) => (given === undefined ? [0, hex(deskImage)] : ((deskImage = bytesOf(given)), [0])),

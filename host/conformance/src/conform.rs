@@ -485,6 +485,21 @@ const INPUT: [&str; 17] = [
     "delivered y",
     "delivered z",
 ];
+const SAMPLE: [&str; 13] = [
+    "leg",
+    "position x",
+    "position y",
+    "position z",
+    "velocity x",
+    "velocity y",
+    "velocity z",
+    "acceleration x",
+    "acceleration y",
+    "acceleration z",
+    "jerk x",
+    "jerk y",
+    "jerk z",
+];
 
 /// What stands at a word of an image.
 fn image_word(at: usize) -> String {
@@ -506,6 +521,7 @@ fn name_of(call: &str, buffer: usize, at: usize) -> String {
     let names: &[&str] = match (call, buffer) {
         ("tick" | "route" | "desk" | "deskroute", 0) => &ANSWER,
         ("desk" | "deskroute", 1) => &INPUT,
+        ("sample", 0) => &SAMPLE,
         ("record", 0) if at < 17 => &INPUT,
         ("record", 0) => return ANSWER.get(at - 17).map_or(format!("word {at}"), |name| name.to_string()),
         ("image", 0) => return image_word(at),

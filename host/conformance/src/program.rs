@@ -4,7 +4,7 @@ use crate::conform::{bytes_of, Answer};
 use compare::audit::{self, Given};
 use compare::joint::bytes::{float, word, ANSWER, IMAGE, LEG, MOST_LEGS, TRAILER};
 use compare::joint::lent::Lending;
-use compare::joint::{self, wrong::Version};
+use compare::joint::{self, sample, wrong::Version};
 use compare::{desk, log, pattern, slow};
 
 /// The room of a log that is begun by `log` alone, in records.
@@ -13,6 +13,7 @@ const ROOM: usize = 400;
 type Check = dyn Fn(&[u8], Given, &mut [u8]) -> u32;
 type Flags = dyn Fn(&[u8], f32, f32, &mut [u8]) -> u32;
 type Expand = dyn Fn(&[u8], &mut [u8], &mut [u8]) -> u32;
+type Sample = dyn Fn(&[u8], f32, &mut [u8]) -> u32;
 type Desk = dyn Fn(desk::Call, &mut desk::Lent) -> u32;
 
 /// Who answers each call.
@@ -22,6 +23,7 @@ pub struct Calls {
     pub check: Box<Check>,
     pub flags: Box<Flags>,
     pub expand: Box<Expand>,
+    pub sample: Box<Sample>,
     pub desk: Box<Desk>,
 }
 
@@ -34,6 +36,7 @@ impl Calls {
             check: Box::new(audit::model::check),
             flags: Box::new(stepped),
             expand: Box::new(|pattern, route, length| pattern::expand(pattern::Fault::None, pattern, route, length)),
+            sample: Box::new(|route, time, sample| sample::expected(sample::Fault::None, route, time, sample)),
             desk: Box::new(|call, lent| desk::expected(desk::Fault::None, call, lent)),
         }
     }
@@ -89,6 +92,7 @@ impl<'a> Program<'a> {
                 let room = bytes.get(2).cloned();
                 self.told(room, ANSWER, |own, room| own.joint(joint::Call::RouteTick, &bytes[0], &bytes[1], room))
             }
+            ("sample", 2 | 3) => self.told(bytes.get(2).cloned(), sample::SAMPLE, |own, room| (own.calls.sample)(&bytes[0], bits(1), room)),
             ("image", 0) => said(0, &self.image),
             ("image", 1) => {
                 self.image.clone_from(&bytes[0]);
@@ -161,16 +165,8 @@ impl<'a> Program<'a> {
                 self.desk = lent.desk;
                 number(refusal)
             }
-            ("desk", 2 | 3) => {
-                let room = bytes.get(2).cloned();
-                let mut lent = self.lend(&bytes[0], &bytes[1], room.clone().unwrap_or_else(|| vec![0; ANSWER]));
-                let refusal = (self.calls.desk)(desk::Call::Tick, &mut lent);
-                (self.desk, self.image) = (lent.desk, lent.image);
-                match room {
-                    Some(_) => Answer::Said(refusal, vec![lent.answer, lent.input]),
-                    None => said(refusal, &lent.answer),
-                }
-            }
+            ("desk", 2 | 3) => self.desk_tick(desk::Call::Tick, [&bytes[0], &bytes[1], &[]], bytes.get(2).cloned()),
+            ("deskroute", 3 | 4) => self.desk_tick(desk::Call::RouteTick, [&bytes[0], &bytes[1], &bytes[2]], bytes.get(3).cloned()),
             ("deskimage", 0) => said(0, &self.desk),
             ("deskimage", 1) => {
                 self.desk.clone_from(&bytes[0]);
@@ -199,6 +195,18 @@ impl<'a> Program<'a> {
         (self.calls.joint.call)(call, &mut Lending { image: &mut self.image, input, route, answer })
     }
 
+    /// With a buffer that is lent, the input as it is then too.
+    fn desk_tick(&mut self, call: desk::Call, [sticks, input, route]: [&[u8]; 3], room: Option<Vec<u8>>) -> Answer {
+        let mut lent = self.lend(sticks, input, room.clone().unwrap_or_else(|| vec![0; ANSWER]));
+        lent.route = route.to_vec();
+        let refusal = (self.calls.desk)(call, &mut lent);
+        (self.desk, self.image) = (lent.desk, lent.image);
+        match room {
+            Some(_) => Answer::Said(refusal, vec![lent.answer, lent.input]),
+            None => said(refusal, &lent.answer),
+        }
+    }
+
     fn begin(&mut self, log: Vec<u8>, room: usize) {
         self.log_len = log.len() as u64;
         self.buffer = log;
@@ -210,6 +218,7 @@ impl<'a> Program<'a> {
     }
 
     fn lend(&self, sticks: &[u8], input: &[u8], answer: Vec<u8>) -> desk::Lent {
-        desk::Lent { desk: self.desk.clone(), sticks: sticks.to_vec(), image: self.image.clone(), input: input.to_vec(), route: Vec::new(), answer }
+        let (desk, image, route) = (self.desk.clone(), self.image.clone(), Vec::new());
+        desk::Lent { desk, sticks: sticks.to_vec(), image, input: input.to_vec(), route, answer }
     }
 }

@@ -1,6 +1,7 @@
 //! Every wrong version of the host's comparison, as a program of the protocol.
 
 use crate::program::Calls;
+use compare::joint::sample;
 use compare::joint::wrong::{WRONG, WRONG_CUT_OFF, WRONG_ERROR, WRONG_EXCHANGE, WRONG_ON_ROUTES, WRONG_PROFILE};
 use compare::{audit, desk, log, pattern, slow};
 
@@ -12,11 +13,12 @@ pub enum Of {
     Log,
     Flags,
     Patterns,
+    Sample,
     Desk,
 }
 
 impl Of {
-    pub const ALL: [Of; 6] = [Of::Joint, Of::Check, Of::Log, Of::Flags, Of::Patterns, Of::Desk];
+    pub const ALL: [Of; 7] = [Of::Joint, Of::Check, Of::Log, Of::Flags, Of::Patterns, Of::Sample, Of::Desk];
 
     pub fn name(self) -> &'static str {
         match self {
@@ -25,6 +27,7 @@ impl Of {
             Of::Log => "the log",
             Of::Flags => "flags",
             Of::Patterns => "patterns",
+            Of::Sample => "the sample",
             Of::Desk => "the desk",
         }
     }
@@ -38,7 +41,8 @@ impl Of {
             Of::Log => ["append", "count", "record"].contains(&call),
             Of::Flags => call == "flags",
             Of::Patterns => call == "expand",
-            Of::Desk => ["desksetup", "centre", "desk"].contains(&call),
+            Of::Sample => call == "sample",
+            Of::Desk => ["desksetup", "centre", "desk", "deskroute"].contains(&call),
         }
     }
 }
@@ -49,8 +53,8 @@ pub struct Wrong {
     pub calls: Calls,
 }
 
-/// Faults of patterns and of the desk in words.
-const WORDS: [(&str, &str); 49] = [
+/// Faults of patterns, of the sample and of the desk in words.
+const WORDS: [(&str, &str); 70] = [
     ("FiveDeep", "repeats five deep taken"),
     ("CountFirst", "5 before 12"),
     ("JoinsBeforeRoom", "7 before 9"),
@@ -99,6 +103,27 @@ const WORDS: [(&str, &str); 49] = [
     ("CentreForgets", "a button that forgets the limits"),
     ("SticksBeforeDesk", "16 before 15"),
     ("CoreBeforeSticks", "the core's numbers before 16"),
+    ("SegmentFlown", "the image's segment flown"),
+    ("RouteNotJudged", "legs that do not meet flown"),
+    ("RouteBeforeImage", "the route before the image"),
+    ("SteppedThoughRoute", "the desk stepped though the route is refused"),
+    ("WrittenThoughRoute", "the input written though the route is refused"),
+    ("LegFromOne", "legs counted from 1"),
+    ("EndOfTheLegBefore", "at a leg's start the end of the one before"),
+    ("TimeOfTheRoute", "the time on the leg not reduced"),
+    ("PastAtTheStart", "past all ends the last leg at 0"),
+    ("NoNumberAtTheStart", "a time that is no number taken for 0"),
+    ("BelowZeroRefused", "a time below 0 refused"),
+    ("VelocityAfterAcceleration", "the acceleration before the velocity"),
+    ("AxisByAxis", "written axis by axis"),
+    ("LegAsANumber", "the leg's place as a float"),
+    ("Cleaned", "what is not finite made zero"),
+    ("JerkLeftOut", "a jerk of zeros"),
+    ("RouteFirst", "the route before 3"),
+    ("EightLegs", "the limit left at 8 legs"),
+    ("JoinsNotLookedAt", "joins not looked at"),
+    ("WrittenThoughRefused", "zeros written though it is refused"),
+    ("ShorterTaken", "48 bytes taken"),
     ("None", "no fault"),
 ];
 
@@ -136,6 +161,10 @@ pub fn all() -> Vec<Wrong> {
     for fault in pattern::WRONG {
         let expand = |pattern: &[u8], route: &mut [u8], length: &mut [u8]| pattern::expand(*fault, pattern, route, length);
         add(Of::Patterns, spelt(&format!("{fault:?}")), Calls { expand: Box::new(expand), ..right() });
+    }
+    for fault in sample::WRONG {
+        let sample = |route: &[u8], time, sample: &mut [u8]| sample::expected(*fault, route, time, sample);
+        add(Of::Sample, spelt(&format!("{fault:?}")), Calls { sample: Box::new(sample), ..right() });
     }
     for fault in desk::WRONG {
         add(Of::Desk, spelt(&format!("{fault:?}")), Calls { desk: Box::new(|call, lent| desk::expected(*fault, call, lent)), ..right() });

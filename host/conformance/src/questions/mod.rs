@@ -9,6 +9,7 @@ mod logs;
 mod patterns;
 mod refused;
 mod routes;
+mod samples;
 mod shield;
 
 use crate::conform::{word_of, Answer, Level};
@@ -32,7 +33,7 @@ pub struct Section<'a> {
 pub fn sections(right: &Calls) -> Vec<Section<'_>> {
     let all =
         [shield::SECTIONS, flights::SECTIONS, exchanges::SECTIONS, routes::SECTIONS, refused::SECTIONS, logs::SECTIONS, checks::SECTIONS];
-    let all = all.into_iter().chain([patterns::SECTIONS, desks::SECTIONS]).flatten();
+    let all = all.into_iter().chain([patterns::SECTIONS, desks::SECTIONS, samples::SECTIONS, desks::ON_ROUTES]).flatten();
     all.map(|made| {
         let (Made { file, name, words, place, level, lines }, program) = (*made, Program::new(right));
         let mut section = Section { file, name, words, place, lines: Vec::new(), program, level };
@@ -60,6 +61,7 @@ const JOINT: &str = "docs/REQUEST.md#the-joint-tick";
 const REFUSALS: &str = "docs/REQUEST.md#refusals";
 const ARITHMETIC: &str = "docs/REQUEST.md#arithmetic";
 const REQUESTS: &str = "docs/REQUEST.md#the-fourteen-requests";
+const BEYOND: &str = "docs/REQUEST.md#beyond-what-was-asked";
 
 impl Section<'_> {
     pub fn ask(&mut self, question: impl Into<String>) -> Answer {

@@ -58,18 +58,34 @@ fn cut_offs(s: &mut Section) {
 }
 
 /// What a call is lent.
-#[derive(Clone)]
-struct Lent {
-    image: Vec<u8>,
-    input: Vec<u8>,
-    route: Vec<u8>,
-    room: Vec<u8>,
+#[derive(Clone, Default)]
+pub struct Lent {
+    pub desk: Vec<u8>,
+    pub sticks: Vec<u8>,
+    pub image: Vec<u8>,
+    pub input: Vec<u8>,
+    pub route: Vec<u8>,
+    pub room: Vec<u8>,
 }
 
-type Ailment = fn(&mut Lent);
+impl Lent {
+    /// With these, of which a route's are the last.
+    pub fn ailing(&self, ailments: &[Ailment]) -> Lent {
+        let mut lent = self.clone();
+        for ail in ailments {
+            // after a cut nothing else can be wrong with it
+            if lent.route.len() >= self.route.len() {
+                ail(&mut lent);
+            }
+        }
+        lent
+    }
+}
+
+pub type Ailment = fn(&mut Lent);
 
 /// Each by itself and every two of them.
-fn pairs(ailments: &[Ailment]) -> Vec<Vec<Ailment>> {
+pub fn pairs(ailments: &[Ailment]) -> Vec<Vec<Ailment>> {
     let singles = ailments.iter().map(|one| vec![*one]);
     let two = ailments.iter().enumerate().flat_map(|(at, one)| ailments[at + 1..].iter().map(move |other| vec![*one, *other]));
     std::iter::once(Vec::new()).chain(singles).chain(two).collect()
@@ -90,17 +106,18 @@ fn lengths(right: usize) -> Vec<usize> {
     all
 }
 
-fn flying(s: &mut Section) -> Lent {
+pub fn flying(s: &mut Section) -> Lent {
     s.set_up(&SetUp::new(0).leg(&Leg::between([1.0; 9], [2.0, 1.0, 0.0, 0.5, 0.0, 0.0, 0.0, 0.25, 0.0], 4.0)));
     (0..3).for_each(|k| drop(s.tick(&Tick::still().with(0, &[0.1 * k as f32, 0.2, -0.3]))));
     let legs = [Leg::rest(1.0), Leg::rest(2.0)];
     let route = crate::conform::bytes_of(&route_of(&legs, 1)).unwrap_or_default();
-    Lent { image: s.image().to_vec(), input: Tick::still().with(0, &[0.3, 0.1, 0.2]).bytes().to_vec(), route, room: vec![0xa5; 40] }
+    let input = Tick::still().with(0, &[0.3, 0.1, 0.2]).bytes().to_vec();
+    Lent { image: s.image().to_vec(), input, route, room: vec![0xa5; 40], ..Lent::default() }
 }
 
 fn set_ups(s: &mut Section) {
     let image: Vec<u8> = (0..IMAGE).map(|at| at as u8).collect();
-    let fresh = Lent { image, input: SetUp::new(0).bytes().to_vec(), route: Vec::new(), room: Vec::new() };
+    let fresh = Lent { image, input: SetUp::new(0).bytes().to_vec(), ..Lent::default() };
     let ailments: &[Ailment] = &[
         |lent| lent.image.truncate(395),
         |lent| lent.image.push(7),
@@ -111,8 +128,7 @@ fn set_ups(s: &mut Section) {
         |lent| put(&mut lent.input, 48, 0),
     ];
     for pair in pairs(ailments) {
-        let mut lent = fresh.clone();
-        pair.iter().for_each(|ail| ail(&mut lent));
+        let lent = fresh.ailing(&pair);
         let input = word_of(&lent.input);
         ask(s, &lent, format!("setup {input}"));
     }
@@ -143,8 +159,7 @@ const OF_A_TICK: [Ailment; 9] = [
 fn ticks(s: &mut Section) {
     let fresh = flying(s);
     for pair in pairs(&OF_A_TICK) {
-        let mut lent = fresh.clone();
-        pair.iter().for_each(|ail| ail(&mut lent));
+        let lent = fresh.ailing(&pair);
         let [input, room] = [&lent.input, &lent.room].map(|bytes| word_of(bytes));
         ask(s, &lent, format!("tick {input} {room}"));
         s.give(&lent.image);
@@ -171,40 +186,42 @@ fn ticks(s: &mut Section) {
     drop(s.ask("image"));
 }
 
+/// Of a route of two legs: 6, 5, 5, 6, 6, 6, 7, 7.
+pub const OF_A_ROUTE: [Ailment; 8] = [
+    |lent| lent.route.truncate(7),
+    |lent| lent.route.splice(152.., [0, 0, 0, 0, 0, 0, 0, 0]).for_each(drop),
+    |lent| lent.route.splice(152.., [33, 0, 0, 0, 0xcc, 9, 0, 0]).for_each(drop),
+    |lent| lent.route.splice(152.., [2, 0, 0, 0, 160, 0, 0, 0]).for_each(drop),
+    // a leg more than is counted
+    |lent| lent.route.splice(152.., [1, 0, 0, 0, 76, 0, 0, 0]).for_each(drop),
+    |lent| lent.route.push(0),
+    |lent| put(&mut lent.route, 9, 1),
+    |lent| put(&mut lent.route, 19, 0x7fc0_0000),
+];
+
+/// Routes with the trailer where it would be looked for, and the legs cut or with more behind them.
+pub fn any_lengths() -> Vec<String> {
+    let mut all = Vec::new();
+    for count in [0, 1, 2, 32, 33] {
+        for length in [0, 1, 4, 7, 8, 9, 75, 76, 83, 84, 85, 159, 160, 161, 2439, 2440, 2441, 2516, 4096] {
+            let legs = if length > 8 { format!("00*{}+", length - 8) } else { String::new() };
+            all.push(if length >= 8 { format!("{legs}{}", trailer(count)) } else { word_of(&vec![0; length]) });
+        }
+    }
+    all
+}
+
 fn routes(s: &mut Section) {
     let fresh = flying(s);
-    let of_a_route: [Ailment; 8] = [
-        |lent| lent.route.truncate(7),
-        |lent| lent.route.splice(152.., [0, 0, 0, 0, 0, 0, 0, 0]).for_each(drop),
-        |lent| lent.route.splice(152.., [33, 0, 0, 0, 0xcc, 9, 0, 0]).for_each(drop),
-        |lent| lent.route.splice(152.., [2, 0, 0, 0, 160, 0, 0, 0]).for_each(drop),
-        // a leg more than is counted
-        |lent| lent.route.splice(152.., [1, 0, 0, 0, 76, 0, 0, 0]).for_each(drop),
-        |lent| lent.route.push(0),
-        |lent| put(&mut lent.route, 9, 1),
-        |lent| put(&mut lent.route, 19, 0x7fc0_0000),
-    ];
-    let ailments: Vec<Ailment> = OF_A_TICK.into_iter().step_by(2).chain(of_a_route).collect();
+    let ailments: Vec<Ailment> = OF_A_TICK.into_iter().step_by(2).chain(OF_A_ROUTE).collect();
     for pair in pairs(&ailments) {
-        let mut lent = fresh.clone();
-        // after a cut nothing else can be wrong with it
-        pair.iter().for_each(|ail| {
-            if lent.route.len() >= 160 {
-                ail(&mut lent);
-            }
-        });
+        let lent = fresh.ailing(&pair);
         let [input, route, room] = [&lent.input, &lent.route, &lent.room].map(|bytes| word_of(bytes));
         ask(s, &lent, format!("route {input} {route} {room}"));
     }
     s.give(&fresh.image);
-    for count in [0, 1, 2, 32, 33] {
-        for length in [0, 1, 4, 7, 8, 9, 75, 76, 83, 84, 85, 159, 160, 161, 2439, 2440, 2441, 2516, 4096] {
-            // the trailer where it would be looked for, and the legs cut or with more behind them
-            let legs = if length > 8 { format!("00*{}+", length - 8) } else { String::new() };
-            let end = trailer(count);
-            let route = if length >= 8 { format!("{legs}{end}") } else { word_of(&vec![0; length]) };
-            s.ask(format!("route {} {route} a5*40", word_of(&fresh.input)));
-        }
+    for route in any_lengths() {
+        s.ask(format!("route {} {route} a5*40", word_of(&fresh.input)));
     }
     drop(s.ask("image"));
 }
@@ -221,8 +238,7 @@ fn exchanges(s: &mut Section) {
         OF_A_TICK[8],
     ];
     for pair in pairs(&ailments) {
-        let mut lent = fresh.clone();
-        pair.iter().for_each(|ail| ail(&mut lent));
+        let lent = fresh.ailing(&pair);
         let input = word_of(&lent.input);
         ask(s, &lent, format!("exchange {input}"));
     }

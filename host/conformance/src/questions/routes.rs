@@ -15,16 +15,16 @@ pub const SECTIONS: &[Made] = &[
 const HERE: [f32; 9] = [0.0, 1.0, -2.0, 0.5, 0.0, 0.25, 0.5, -0.5, 0.0];
 const THERE: [f32; 9] = [3.0, 2.0, -1.0, 0.0, -0.5, 0.0, 0.25, 0.5, -1.0];
 
-fn there(t: f32) -> Leg {
+pub fn there(t: f32) -> Leg {
     Leg::between(HERE, THERE, t)
 }
 
-fn back(t: f32) -> Leg {
+pub fn back(t: f32) -> Leg {
     Leg::between(THERE, HERE, t)
 }
 
 /// There and back so often, and there once more where the count is odd.
-fn loops(legs: usize, t: f32, u: f32) -> String {
+pub fn loops(legs: usize, t: f32, u: f32) -> String {
     let (both, one) = ([there(t).bytes(), back(u).bytes()].concat(), there(t).bytes());
     let mut route = if legs > 1 { format!("{}*{}+", super::plain(&both), legs / 2) } else { String::new() };
     if legs % 2 == 1 {

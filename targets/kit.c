@@ -66,7 +66,7 @@ static const uint8_t *read_word(const uint8_t *at, struct bytes *to, uint64_t mo
 }
 
 /* whether a word has these bytes; the place behind it in at */
-static uint32_t alike(const uint8_t **at, struct bytes own) {
+static uint32_t as_told(const uint8_t **at, struct bytes own) {
     uint64_t place = 0;
     uint32_t same = 1;
     while (**at == '-' || **at == '+' || digit(**at) < 16) {
@@ -178,7 +178,7 @@ static uint32_t answered(const uint8_t *at) {
     uint64_t right = 0;
     for (; *at >= '0' && *at <= '9'; at++) right = 10 * right + (*at - '0');
     uint32_t same = right == said;
-    for (uint32_t k = 0; k < tells; k++) same = same && *at++ == ' ' && alike(&at, told[k]);
+    for (uint32_t k = 0; k < tells; k++) same = same && *at++ == ' ' && as_told(&at, told[k]);
     return same && *at == '\n';
 }
 

@@ -10,6 +10,8 @@
 #                  `make explain FILE=flights/pass-shield.flight`, or a log with ENTER=0.03 EXIT=0.07; with CSV=yes as CSV (docs/FLYING.md)
 # make check       flights of whatever box: whether each follows the shield's rule, or its first wrong record and what is wrong with it; files or folders:
 #                  `make check LOGS="flights/pass-shield.log night" ENTER=0.03 EXIT=0.07`; with PROFILE=lost-rotor as flown with a rotor lost (docs/FLYING.md)
+# make review      a flight as one page that any browser shows from a disk, with the proved core in it: `make review FILE=flights/pass-shield.flight`, or a log with
+#                  ENTER and EXIT; PAGE=my.html has it elsewhere than in flights/review.html; without FILE the page waits for what is dropped on it
 # make expand      a pattern of legs and repeats, as text: its legs as they are flown, and the bytes of both, in flights/:
 #                  `make expand FILE=host/fly/scenarios/loop.txt` (docs/FLYING.md); OUT as above. All of these are one program's, which has more:
 #                  `host/target/release/fosavalo --help`
@@ -42,7 +44,7 @@
 # make map         docs/MAP.md, docs/PROMISES.md and docs/STATEMENTS.md anew, from the sources
 # make clean       removes all that was built, and no flight
 # make help        these lines
-.PHONY: fly log explain check expand choices test quick edits table archives targets core exhaustive routines ticks answers bench stack dist kit docs map clean help
+.PHONY: fly log explain check review expand choices test quick edits table archives targets core exhaustive routines ticks answers bench stack dist kit docs map clean help
 
 HOST = cd host && cargo
 # one program for flights and logs; each of these targets is a short form of its subcommand
@@ -64,6 +66,10 @@ explain: core
 
 check: core
 	@$(FOSAVALO) check $(LOGS) $(THRESHOLDS) $(if $(PROFILE),--profile "$(PROFILE)")
+
+review: core
+	@tools/archives --for wasm32 fosavalo
+	@$(FOSAVALO) review $(if $(FILE),"$(FILE)") $(THRESHOLDS) $(if $(PROFILE),--profile "$(PROFILE)") -o "$(if $(PAGE),$(PAGE),flights/review.html)"
 
 expand: core
 	@$(FOSAVALO) expand $(if $(FILE),"$(FILE)") $(TO)

@@ -29,6 +29,7 @@ pub const EXIT: Opt = with("--exit", "NUMBER", "a number");
 pub const PROFILE: Opt = with("--profile", "NAME", "a name");
 pub const OUT: Opt = with("--out", "FOLDER", "a folder");
 pub const FILE: Opt = with("-o", "FILE", "a file");
+pub const STARTS: Opt = with("--starts", "TIME", "a time of day");
 pub const CSV: Opt = alone("--csv");
 pub const JSON: Opt = alone("--json");
 pub const APART: Opt = alone("--apart");
@@ -115,6 +116,19 @@ impl Arguments {
         }
         let SetUp { enter, exit, .. } = set_up.kept();
         Err(format!("no thresholds: set-up would have made them enter {enter} and exit {exit} ({})", mended.join("; ")))
+    }
+
+    /// A time of day, in seconds.
+    pub fn starts(&self) -> Result<Option<f64>, String> {
+        self.read_as(STARTS, |text| {
+            let none = || format!("`{text}` is no time of day, as 20:31:07.250");
+            let [hours, minutes, seconds] = text.split(':').collect::<Vec<_>>()[..] else { return Err(none()) };
+            let whole = |text: &str, most: u32| text.parse::<u32>().ok().filter(|n| *n <= most && text.len() <= 2).map(f64::from);
+            let digits = seconds.len() >= 2 && seconds.bytes().all(|byte| byte.is_ascii_digit() || byte == b'.');
+            let seconds = seconds.parse::<f64>().ok().filter(|seconds| digits && *seconds < 60.0);
+            let (Some(hours), Some(minutes), Some(seconds)) = (whole(hours, 23), whole(minutes, 59), seconds) else { return Err(none()) };
+            Ok(3600.0 * hours + 60.0 * minutes + seconds)
+        })
     }
 
     /// A profile by its name or its word.

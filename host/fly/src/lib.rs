@@ -20,6 +20,7 @@ pub mod picture;
 pub mod planner;
 pub mod random;
 pub mod replay;
+pub mod review;
 pub mod rotor;
 pub mod salvage;
 pub mod scenario;

@@ -7,6 +7,7 @@ mod fly;
 mod log;
 pub mod new;
 mod replay;
+mod review;
 mod salvage;
 
 use crate::arguments::{Arguments, Asked, Opt};
@@ -30,12 +31,13 @@ pub struct Subcommand {
     run: fn(&Arguments) -> Result<u8, String>,
 }
 
-pub const SUBCOMMANDS: [Subcommand; 8] = [
+pub const SUBCOMMANDS: [Subcommand; 9] = [
     fly::SUBCOMMAND,
     new::SUBCOMMAND,
     log::SUBCOMMAND,
     explain::SUBCOMMAND,
     check::SUBCOMMAND,
+    review::SUBCOMMAND,
     replay::SUBCOMMAND,
     salvage::SUBCOMMAND,
     expand::SUBCOMMAND,

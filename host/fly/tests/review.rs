@@ -307,6 +307,35 @@ fn a_flight_in_a_browser() {
     browser.mouse("mouseWheel", (500.0, 300.0), ",\"deltaX\":0,\"deltaY\":-100");
     browser.settle();
     assert_eq!(browser.eval("review.state.to-review.state.from<review.state.end"), "true");
+    // dragged, the moment under the mouse goes with it; with shift, what is dragged over is shown
+    let middle = "(review.state.from+review.state.to)/2";
+    let number = |text: String| -> f64 { text.parse().expect("a number") };
+    let (before, wide) = (number(browser.eval(middle)), number(browser.eval("review.state.to-review.state.from")));
+    let drag = |browser: &mut Browser, more: &str| {
+        let held = format!(",\"button\":\"left\",\"buttons\":1,\"clickCount\":1{more}");
+        browser.mouse("mousePressed", (800.0, 300.0), &held);
+        browser.mouse("mouseMoved", (700.0, 300.0), &held);
+        browser.mouse("mouseReleased", (700.0, 300.0), &held);
+        browser.settle();
+    };
+    drag(&mut browser, "");
+    let moved = number(browser.eval(middle)) - before;
+    assert!(moved > 0.0 && (number(browser.eval("review.state.to-review.state.from")) - wide).abs() < 1e-9, "{moved}");
+    drag(&mut browser, ",\"modifiers\":8");
+    assert!((number(browser.eval("review.state.to-review.state.from")) - moved).abs() < 1e-6);
+    // two fingers apart
+    browser.key("0");
+    for (kind, [a, b]) in [("touchStart", [500, 700]), ("touchMove", [450, 750]), ("touchMove", [400, 800])] {
+        let points = format!("[{{\"x\":{a},\"y\":300,\"id\":1}},{{\"x\":{b},\"y\":300,\"id\":2}}]");
+        browser.call("Input.dispatchTouchEvent", &format!("{{\"type\":\"{kind}\",\"touchPoints\":{points}}}"));
+    }
+    browser.call("Input.dispatchTouchEvent", "{\"type\":\"touchEnd\",\"touchPoints\":[]}");
+    browser.settle();
+    assert!(
+        (number(browser.eval("(review.state.to-review.state.from)/review.state.end")) - 0.5).abs() < 1e-3,
+        "{}",
+        browser.eval("review.state.to")
+    );
     // by its own file
     let page_of = page(&folder, &["pass-earlier.flight"]);
     browser.open(&page_of);

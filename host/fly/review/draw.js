@@ -81,9 +81,9 @@ function label({ name, top, labels, strip, shown, band, y, height }) {
 /** The axis, and the marks of the flight as a whole: where a log begins, a segment was exchanged, a leg joins the next. */
 function axis() {
     const rough = (state.to - state.from) / Math.max(2, (width - LEFT) / 110), unit = 10 ** Math.floor(Math.log10(rough));
-    const step = [1, 2, 5, 10].map((m) => m * unit).find((s) => s >= rough), digits = Math.max(0, -Math.floor(Math.log10(step)));
+    const step = [1, 2, 5, 10].map((m) => m * unit).find((s) => s >= rough), digits = Math.max(0, -Math.floor(Math.log10(step))), before = state.records ? 1 : page.starts ?? 0;
     Object.assign(under, { font: '11px system-ui', textAlign: 'center', textBaseline: 'bottom' });
-    for (let s = Math.ceil(state.from / step) * step; s <= state.to; s += step) {
+    for (let s = Math.ceil((state.from + before) / step) * step - before; s <= state.to; s += step) {
         Object.assign(under, { globalAlpha: 0.15, fillStyle: ink.dim.hex });
         under.fillRect(xOf(s), 0, 1, height - AXIS);
         write(state.records ? (s + 1).toFixed(digits) : clock(s, digits), xOf(s), height - 4, ink.dim, { globalAlpha: 1 });

@@ -38,7 +38,7 @@ function summary() {
     const odd = count((k) => { for (let w = 0; w < 17; w++) if (!finite(col[w][k])) return true; return false; });
     const fit = allowed(flight), range = ([lo, hi], low, high) => [finite(lo) && `${low} ${exactly(wordOf(lo))}`, finite(hi) && `${high} ${exactly(wordOf(hi))}`].filter(Boolean).join(' and ') || 'anything';
     const told = fit ? `enter ${range(fit.enter, 'above', 'at most')}, exit ${range(fit.exit, 'at least', 'below')}` : 'none: they are no shield\'s';
-    el('summary').innerHTML = `${n(N)} ticks, <b>${clock(secs[N])}</b> · control changed hands ${n(changes.length)} times, ${n(worst)} in the worst second · planner <b>${share} %</b> · ` +
+    el('summary').innerHTML = `${n(N)} ticks, <b>${clock(secs[N], 3, null)}</b> · control changed hands ${n(changes.length)} times, ${n(worst)} in the worst second · planner <b>${share} %</b> · ` +
         `margin not finite ${n(count((k) => !finite(col[MARGIN][k])))} · inputs not finite ${n(odd)} · dt that tells no time ${n(count((k) => !tells(k)))}, ` +
         `pauses ${n(count((k) => tells(k) && col[DT][k] > HOLDS))}<br>thresholds that the flags allow: <b id="allowed">${told}</b>`;
 }

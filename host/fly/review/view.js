@@ -54,9 +54,9 @@ function exactly(word) {
 }
 const word = (w, k) => (w === FLAG ? String(flight.bits[w][k]) : exactly(flight.bits[w][k]));
 /** Seconds since the start, or the time of day where it is known when that was. */
-function clock(s, digits = 3) {
-    if (page.starts === null || s >= 1e6) return s < 1e6 ? `${s.toFixed(digits)} s` : `${s.toExponential(3)} s`;
-    const day = Math.round((page.starts + s) * 10 ** digits) / 10 ** digits % 86400, two = (x) => String(Math.floor(x)).padStart(2, '0');
+function clock(s, digits = 3, starts = page.starts) {
+    if (starts === null || s >= 1e6) return s < 1e6 ? `${s.toFixed(digits)} s` : `${s.toExponential(3)} s`;
+    const day = Math.round((starts + s) * 10 ** digits) / 10 ** digits % 86400, two = (x) => String(Math.floor(x)).padStart(2, '0');
     return `${two(day / 3600)}:${two(day / 60 % 60)}:${(day % 60).toFixed(digits).padStart(digits ? 3 + digits : 2, '0')}`;
 }
 function show(from, to) {

@@ -1,6 +1,7 @@
 //! Checking takes hardly longer than reading. By itself: the time that other tests' programs take would count.
 
 use fosavalo::{Log, Record, MOST_RECORDS};
+use std::io::Write;
 use std::path::Path;
 use std::process::{Command, Stdio};
 
@@ -41,6 +42,7 @@ fn three_hundred_full_logs() {
         let check = time(Command::new(program).args(["check", "--enter=0.5", "--exit=1"]).arg(&folder));
         best = best.min(check as f64 / cat as f64);
     }
-    eprintln!("check of 300 full logs: {best:.2} of the time of cat, at most 3 are wanted");
+    // in the gate's own log, where the lines of a test that passes are not shown
+    let _ = writeln!(std::io::stderr(), "check of 300 full logs: {best:.2} of the time of cat, at most 3 are wanted");
     assert!(best <= 3.0, "{best}");
 }

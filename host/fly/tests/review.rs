@@ -6,6 +6,13 @@ use std::path::{Path, PathBuf};
 use std::process::{Child, ChildStdin, ChildStdout, Command, Stdio};
 use std::time::{Duration, Instant};
 
+/// A number that is wanted in the gate's own log, where the lines of a test that passes are not shown.
+macro_rules! tell {
+    ($($what:tt)*) => {
+        let _ = writeln!(std::io::stderr(), $($what)*);
+    };
+}
+
 fn fosavalo(arguments: &[&str], folder: &Path) -> (Option<i32>, String, String) {
     let output = Command::new(checkout::program("fosavalo")).args(arguments).current_dir(folder).output().expect("it runs");
     let text = |bytes: &[u8]| String::from_utf8_lossy(bytes).into_owned();
@@ -64,7 +71,7 @@ fn what_is_in_the_page() {
         least = least.min(start.elapsed());
     }
     let text = std::fs::read_to_string(folder.join("page.html")).expect("it is text");
-    eprintln!("the page of a full log: {} bytes, at most 10000000 are wanted; written in {least:?}, at most 200 ms are wanted", text.len());
+    tell!("the page of a full log: {} bytes, at most 10000000 are wanted; written in {least:?}, at most 200 ms are wanted", text.len());
     assert!(text.len() <= 10_000_000 && least <= Duration::from_millis(200));
     assert!(text.contains("default-src 'none'; script-src 'unsafe-inline' 'wasm-unsafe-eval'; style-src 'unsafe-inline'"));
     assert!(!["http:", "https:", "@import", "src=", "href=", "import("].iter().any(|other| text.contains(other)));
@@ -269,7 +276,8 @@ fn a_flight_in_a_browser() {
     browser.settle();
     let seen = "(()=>{const [from,to]=review.now().stretches[2],s=review.state;return [s.from<=review.now().t[from],s.to>=review.now().t[to],s.to-s.from<review.now().t[review.now().flight.N],s.cursor===from].join()})()";
     assert_eq!(browser.eval(seen), "true,true,true,true");
-    // across midnight, by the recording's clock
+    // across midnight, by the recording's clock; how long it took is still told in seconds
+    assert!(browser.text("summary").starts_with("20,000 ticks, 20.000 s · "), "{}", browser.text("summary"));
     assert!(browser.text("values").contains("\t23:59:5"), "{}", browser.text("values"));
     browser.key("End");
     assert!(browser.text("values").starts_with("record 20000 of 20000\t00:00:10.2"), "{}", browser.text("values"));
@@ -491,7 +499,7 @@ fn soon_drawn() {
             drawn = drawn.min(browser.spent());
         }
         assert_eq!(browser.eval("review.now().flight.N+' '+(review.state.frames>0)"), format!("{ticks} true"));
-        eprintln!("{ticks} records are drawn in {drawn:.2} s of the main thread, at most {bar} are wanted");
+        tell!("{ticks} records are drawn in {drawn:.2} s of the main thread, at most {bar} are wanted");
         assert!(drawn <= bar, "{drawn}");
         if ticks < 100_000 {
             let steps = "(()=>{const r=review,end=r.state.end;for(let i=0;i<120;i++){const span=end*Math.pow(0.0005,1-Math.abs(60-i)/60);r.show(end*0.4-span/2,end*0.4+span/2);r.draw()}return 1})()";
@@ -501,7 +509,7 @@ fn soon_drawn() {
                 browser.eval(steps);
                 step = step.min(1e3 * (browser.spent() - before) / 120.0);
             }
-            eprintln!("a step of the zoom: {step:.1} ms of the main thread, at most 17 are wanted");
+            tell!("a step of the zoom: {step:.1} ms of the main thread, at most 17 are wanted");
             assert!(step <= 17.0, "{step}");
         }
     }

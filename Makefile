@@ -54,6 +54,7 @@ THRESHOLDS = $(if $(ENTER),--enter "$(ENTER)") $(if $(EXIT),--exit "$(EXIT)")
 TO = $(if $(OUT),--out "$(OUT)")
 
 fly: core
+	@cargo build --manifest-path host/Cargo.toml --release --offline --package fly
 	@$(PICTURE)
 	@echo && $(FOSAVALO) fly $(if $(SCENARIO),"$(SCENARIO)") $(TO)
 

@@ -1,6 +1,6 @@
 //! A flight as a page that any browser shows from a disk: the page, the proved core as WebAssembly, and the flight's own files in it.
 
-use crate::json;
+use crate::check::Given;
 use crate::kept::{Kept, Trouble};
 
 const PAGE: &str = include_str!("../review/page.html");
@@ -21,8 +21,8 @@ const SCRIPTS: [&str; 6] = [
 /// What the page is told beside the files.
 #[derive(Clone, Copy, Default)]
 pub struct Told {
-    /// Profile, enter and exit, where they are given and not left to the flight's file.
-    pub given: Option<(u32, f32, f32)>,
+    /// Where this is given, and not left to the flight's file.
+    pub given: Option<Given>,
     /// When the flight began, in seconds of the day.
     pub starts: Option<f64>,
 }
@@ -34,9 +34,8 @@ pub fn can() -> bool {
 
 /// The page with these files in it; with none, it waits for what is dropped on it.
 pub fn page(files: &[(String, Vec<u8>)], told: Told) -> Vec<u8> {
-    let given =
-        told.given.map_or("null".to_string(), |(profile, enter, exit)| format!("{{profile:{profile},enter:{enter:?},exit:{exit:?}}}"));
-    let starts = told.starts.map_or("null".to_string(), |starts| starts.to_string());
+    let given = told.given.map(|Given { profile, enter, exit }| format!("{{profile:{},enter:{enter:?},exit:{exit:?}}}", profile.word()));
+    let [given, starts] = [given, told.starts.map(|starts| starts.to_string())].map(|told| told.unwrap_or("null".to_string()));
     // a page on a disk imports nothing, so what is exported is returned
     let calls = format!("const {TAKEN} = (() => {{\n{}return {TAKEN};\n}})();\n", CALLS.replace("\nexport ", "\n"));
     let script = calls + &SCRIPTS.concat();
@@ -75,7 +74,7 @@ pub fn files(kept: &Kept) -> Result<Vec<(String, Vec<u8>)>, Trouble> {
 
 /// A text as an attribute's value.
 fn attribute(text: &str) -> String {
-    json::text("").replace("\"\"", &format!("\"{}\"", text.replace('&', "&amp;").replace('"', "&quot;").replace('<', "&lt;")))
+    format!("\"{}\"", text.replace('&', "&amp;").replace('"', "&quot;").replace('<', "&lt;"))
 }
 
 fn base64(bytes: &[u8], to: &mut Vec<u8>) {

@@ -2,8 +2,10 @@
 
 use super::{Subcommand, LOGS, NUMBER};
 use crate::arguments::{Arguments, ENTER, EXIT, FILE, PROFILE, STARTS};
+use crate::check::Given;
 use crate::output::{note, of_file};
 use crate::review::{can, files, page, Told};
+use fosavalo::Profile;
 use std::path::Path;
 
 pub const SUBCOMMAND: Subcommand = Subcommand {
@@ -36,18 +38,17 @@ fn run(arguments: &Arguments) -> Result<u8, String> {
         return Err("this program was built without the core as WebAssembly, which `make review` and `make dist` have in it".to_string());
     }
     let (files, given) = match arguments.named.is_empty() {
-        true => (Vec::new(), arguments.thresholds()?.map(|(enter, exit)| (arguments.profile(), enter, exit))),
+        true => {
+            let profile = arguments.profile()?.unwrap_or(Profile::Whole);
+            (Vec::new(), arguments.thresholds()?.map(|(enter, exit)| Given { profile, enter, exit }))
+        }
         false => {
             let kept = arguments.flight(example)?;
             let given = arguments.given(&kept)?.ok_or_else(|| arguments.no_thresholds(&kept))?;
             let own = kept.file.is_some() && !arguments.has(ENTER) && !arguments.has(PROFILE);
-            let files = files(&kept).map_err(|trouble| format!("{}: {trouble}", kept.called))?;
-            (files, (!own).then_some((Ok(Some(given.profile)), given.enter, given.exit)))
+            (files(&kept).map_err(|trouble| format!("{}: {trouble}", kept.called))?, (!own).then_some(given))
         }
     };
-    let given = given
-        .map(|(profile, enter, exit)| profile.map(|profile| (profile.map_or(0, |profile| profile.word()), enter, exit)))
-        .transpose()?;
     let bytes = page(&files, Told { given, starts });
     let written = std::fs::create_dir_all(to.parent().unwrap_or(Path::new(""))).and_then(|()| std::fs::write(&to, &bytes));
     written.map_err(|error| of_file(&to, error))?;

@@ -3,7 +3,7 @@
 #                  from an operator's desk.
 #                  The files go to flights/, which nothing here removes
 #                  `make fly SCENARIO=my.txt` flies that file instead (docs/FLYING.md); OUT=folder has the files elsewhere;
-#                  INSTALL=no installs nothing for the picture
+#                  the picture wants gnuplot, which is looked for first; root has it installed, and is told before it is; INSTALL=no installs nothing
 # make log         a flight as CSV on standard output, and its picture: `make log FILE=flights/pass-shield.flight`, or a log (docs/FLYING.md);
 #                  with ENTER=0.03 EXIT=0.07 the picture of a log has these thresholds; OUT and INSTALL as above
 # make explain     a flight in words: who flew from which record to which and which margin made it so, and where the log's own flags differ:
@@ -43,7 +43,8 @@
 # make docs        the safe crates' pages, host/target/doc/fosavalo/index.html and fosavalo_desk beside it
 # make map         docs/MAP.md, docs/PROMISES.md and docs/STATEMENTS.md anew, from the sources
 # make clean       removes all that was built, and no flight
-# make help        these lines
+# make help        these lines, as `make` alone
+.DEFAULT_GOAL := help
 .PHONY: fly log explain check review expand choices test quick edits table archives targets core exhaustive routines ticks answers bench stack dist kit docs map clean help
 
 HOST = cd host && cargo
@@ -52,14 +53,18 @@ FOSAVALO = cargo build --manifest-path host/Cargo.toml --release --offline --qui
 PICTURE = INSTALL=$(INSTALL) tools/have gnuplot gnuplot-nox 'The picture' || true
 THRESHOLDS = $(if $(ENTER),--enter "$(ENTER)") $(if $(EXIT),--exit "$(EXIT)")
 TO = $(if $(OUT),--out "$(OUT)")
+# for what says first what it would install
+CORE = tools/archives fosavalo fosavalo_desk
 
-fly: core
-	@cargo build --manifest-path host/Cargo.toml --release --offline --package fly
+fly:
 	@$(PICTURE)
+	@$(CORE)
+	@cargo build --manifest-path host/Cargo.toml --release --offline --package fly
 	@echo && $(FOSAVALO) fly $(if $(SCENARIO),"$(SCENARIO)") $(TO)
 
-log: core
+log:
 	@$(PICTURE)
+	@$(CORE)
 	@$(FOSAVALO) log $(if $(FILE),"$(FILE)") $(THRESHOLDS) $(TO)
 
 explain: core
@@ -88,7 +93,7 @@ edits:
 	@tools/edits --plain $(CRATE)
 
 core:
-	@tools/archives fosavalo fosavalo_desk
+	@$(CORE)
 
 archives:
 	@tools/archives

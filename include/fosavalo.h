@@ -280,6 +280,78 @@ static inline const char *fosavalo_meaning(uint32_t number) {
 #define FOSAVALO_WHOLE 0      /* all rotors */
 #define FOSAVALO_LOST_ROTOR 1 /* one is lost, and with it the hold on yaw: the aircraft is brought down level, as a tick tells */
 
+/* Words in a buffer, by the places above: put and read, as whole numbers and as floats. These are plain C for whoever calls; the core is not asked. */
+static inline void fosavalo_put_word(uint8_t *bytes, uint32_t at, uint32_t word) {
+    for (uint32_t k = 0; k < 4; k++) bytes[4 * at + k] = word >> (8 * k) & 0xff;
+}
+
+static inline uint32_t fosavalo_word(const uint8_t *bytes, uint32_t at) {
+    uint32_t word = 0;
+    for (uint32_t k = 4; k-- > 0;) word = word << 8 | bytes[4 * at + k];
+    return word;
+}
+
+static inline void fosavalo_put(uint8_t *bytes, uint32_t at, float x) {
+    uint32_t word;
+    fosavalo_copy_word(&word, &x);
+    fosavalo_put_word(bytes, at, word);
+}
+
+static inline float fosavalo_number(const uint8_t *bytes, uint32_t at) {
+    uint32_t word = fosavalo_word(bytes, at);
+    float x;
+    fosavalo_copy_word(&x, &word);
+    return x;
+}
+
+/* A vector, or roll, pitch and yaw. */
+static inline void fosavalo_put_three(uint8_t *bytes, uint32_t at, float x, float y, float z) {
+    fosavalo_put(bytes, at, x);
+    fosavalo_put(bytes, at + 1, y);
+    fosavalo_put(bytes, at + 2, z);
+}
+
+/* A set-up's FOSAVALO_SETUP_BYTES: relay's own gains for its quadrotor, hovering at the origin for a second; a set of (1, 1, 1.75), enter 0.5, exit 1, the gyro
+ * filtered at 80 Hz of 1000 ticks a second, all rotors. What is to differ is put over it. The Rust crate's SetUp::falcon_quad(). */
+static inline void fosavalo_setup_default(uint8_t *input) {
+    for (uint32_t at = 0; at < FOSAVALO_SETUP_BYTES / 4; at++) fosavalo_put_word(input, at, 0);
+    fosavalo_put_three(input, FOSAVALO_SETUP_K_R, 0.6f, 0.6f, 0.15f);
+    fosavalo_put_three(input, FOSAVALO_SETUP_K_OMEGA, 0.12f, 0.12f, 0.35f);
+    fosavalo_put_three(input, FOSAVALO_SETUP_J, 0.0217f, 0.0217f, 0.04f);
+    fosavalo_put(input, FOSAVALO_SETUP_SET_K_R, 1.0f);
+    fosavalo_put(input, FOSAVALO_SETUP_LAMBDA_J, 1.0f);
+    fosavalo_put(input, FOSAVALO_SETUP_PSI_MAX, 1.75f);
+    fosavalo_put(input, FOSAVALO_SETUP_ENTER, 0.5f);
+    fosavalo_put(input, FOSAVALO_SETUP_EXIT, 1.0f);
+    fosavalo_put(input, FOSAVALO_SETUP_ERR_LO, 0.2f);
+    fosavalo_put(input, FOSAVALO_SETUP_ERR_HI, 1.0f);
+    fosavalo_put(input, FOSAVALO_SETUP_G_MIN, 0.25f);
+    fosavalo_put(input, FOSAVALO_SETUP_LEG + FOSAVALO_LEG_T, 1.0f);
+    for (uint32_t axis = 0; axis < 3; axis++) {
+        int yaw = axis == 2;
+        fosavalo_put(input, FOSAVALO_SETUP_OMEGA_O(axis), yaw ? 30.0f : 40.0f);
+        fosavalo_put(input, FOSAVALO_SETUP_OMEGA_C(axis), yaw ? 3.0f : 12.0f);
+        fosavalo_put(input, FOSAVALO_SETUP_B0(axis), yaw ? 18.0f : 60.0f);
+        fosavalo_put(input, FOSAVALO_SETUP_TAU(axis), yaw ? 0.025f : 0.0125f);
+    }
+    fosavalo_put(input, FOSAVALO_SETUP_FC, 80.0f);
+    fosavalo_put(input, FOSAVALO_SETUP_FS, 1000.0f);
+}
+
+/* A tick's FOSAVALO_TICK_BYTES: level and still at a millisecond's step, the planner wanting nothing, everything delivered. The Rust crate's TickInput::default(). */
+static inline void fosavalo_tick_default(uint8_t *input) {
+    for (uint32_t at = 0; at < FOSAVALO_TICK_BYTES / 4; at++) fosavalo_put_word(input, at, 0);
+    fosavalo_put(input, FOSAVALO_TICK_ATTITUDE, 1.0f);
+    fosavalo_put(input, FOSAVALO_TICK_DT, 0.001f);
+    fosavalo_put_three(input, FOSAVALO_TICK_DELIVERED, 1.0f, 1.0f, 1.0f);
+}
+
+/* The two words behind the legs of a route, whose count this is; the route is then FOSAVALO_LEG_BYTES * legs + FOSAVALO_ROUTE_TRAILER_BYTES long. */
+static inline void fosavalo_route_close(uint8_t *route, uint32_t legs) {
+    fosavalo_put_word(route, FOSAVALO_LEG_BYTES / 4 * legs, legs);
+    fosavalo_put_word(route, FOSAVALO_LEG_BYTES / 4 * legs + 1, FOSAVALO_LEG_BYTES * legs);
+}
+
 /* Writes a fresh image, the state that goes from tick to tick; what stood in it is not read.
  *
  * The input is the words FOSAVALO_SETUP_.. Every bit pattern of a number is taken and mended where it is no use, but for a filter that would be none:

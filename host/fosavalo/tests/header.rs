@@ -4,7 +4,7 @@ use fosavalo::{
     Refusal, ANSWER_BYTES, DEEPEST_REPEAT, EMPTY_LOG, IMAGE_BYTES, LEG_BYTES, LOG_RIGHT, LOG_TRAILER_BYTES, MOST_LEGS, MOST_MARGINS,
     MOST_RECORDS,
 };
-use fosavalo::{RECORD_BYTES, ROUTE_TRAILER_BYTES, SAMPLE_BYTES, SETUP_BYTES, TICK_BYTES};
+use fosavalo::{Route, Segment, SetUp, TickInput, RECORD_BYTES, ROUTE_TRAILER_BYTES, SAMPLE_BYTES, SETUP_BYTES, TICK_BYTES};
 use std::collections::BTreeSet;
 use std::env::consts::{ARCH, OS};
 use std::path::{Path, PathBuf};
@@ -315,6 +315,26 @@ fn words_stand_where_the_definitions_have_them() {
     let defined = defined.filter(|name| buffers.iter().any(|buffer| name.starts_with(buffer)) && !name.ends_with("_BYTES"));
     let defined: BTreeSet<String> = defined.map(|name| format!("FOSAVALO_{}", plain(name))).collect();
     assert_eq!(defined, expressions.iter().map(|name| plain(name)).collect());
+}
+
+/// The helpers put words where the crate puts them, and read them back: the default set-up is the crate's, and so are the default tick and a route's end.
+#[test]
+fn what_is_put_by_default() {
+    let (work, program) = (Work::new("default"), crate_folder().join("tests/c/default.c"));
+    let hex = |bytes: &[u8]| bytes.iter().map(|byte| format!("{byte:02x}")).collect::<String>();
+    let rest = SetUp::falcon_quad().segment;
+    let out = Segment { pf: [3.0, -0.5, 0.1], t: 8.0, ..rest };
+    let route = Route::new(&[rest, out]).expect("its legs meet");
+    let expected = [
+        hex(&SetUp::falcon_quad().to_bytes()),
+        hex(&TickInput::default().to_bytes()),
+        hex(route.as_bytes()),
+        "efbeadde deadbeef c0490fdb -3.14159274".to_string(),
+    ];
+    for (compiler, language) in compilers() {
+        let said = work.run(compiler, &include(), &program, &[language, &["-O2"]].concat(), &[]);
+        assert_eq!(said.lines().collect::<Vec<_>>(), expected, "{compiler}");
+    }
 }
 
 /// A header of another version is found out.

@@ -40,7 +40,8 @@
 //! are refused in any other ([`FloatFault`]). Set-up is refused too where the archive is of another version than the crate ([`VersionFault`]). What set-up mends of the numbers that it is given, [`SetUp::mended`] tells.
 //!
 //! Words are little-endian, floats as their bits; `include/fosavalo.h` is the same face for C. The crate has no dependency but
-//! `libfosavalo.a`, which `make core` builds, and needs no `std`, but `alloc` for a [`Log`] and a [`Pattern`].
+//! `libfosavalo.a`, and needs no `std`, but `alloc` for a [`Log`] and a [`Pattern`]. The archive is that of `make core` in a checkout, of `lib/` in an unpacked
+//! distribution, or pkg-config's; the variable `FOSAVALO_LIB_DIR` names the folder of another.
 
 #![no_std]
 #![warn(missing_docs)]

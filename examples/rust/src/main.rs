@@ -20,10 +20,15 @@ fn main() -> Result<(), Refusal> {
     let mut image = Image::set_up(&set_up)?;
     println!("{image:?}");
     let mut log = Log::new();
+    // a hand's breadth east of the start, by its own estimate
+    let aircraft = [0.0f32, 0.1, 0.0];
 
     for (tick, rate) in (1..).zip(RATES.iter().flat_map(|rate| [rate; EACH])) {
+        // how far it is from where the segment has it now
+        let wanted = set_up.segment.sample(image.time())?.position;
+        let tracking_error = wanted.iter().zip(aircraft).map(|(wanted, is)| (wanted - is).powi(2)).sum::<f32>().sqrt();
         let input =
-            TickInput { gyro: [*rate, 0.0, 0.0].into(), tracking_error: 0.1, planner: [0.5, -0.25, 0.125].into(), ..TickInput::default() };
+            TickInput { gyro: [*rate, 0.0, 0.0].into(), tracking_error, planner: [0.5, -0.25, 0.125].into(), ..TickInput::default() };
         let answer = image.tick(&input)?;
         log.append(&input, &answer)?;
         if tick % EACH != 0 {

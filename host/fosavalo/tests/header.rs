@@ -113,6 +113,20 @@ fn the_example_asks_first() {
     assert!(text.starts_with("the floating-point environment is wrong: it does not keep subnormal numbers"), "{text}");
 }
 
+/// Both examples show where the error that a tick is given comes from: the sample at the image's time.
+#[test]
+fn the_examples_work_the_tracking_error_out() {
+    for (path, shown) in [
+        (
+            "examples/c/main.c",
+            ["fosavalo_route_sample(route, route_len, time, ", "fosavalo_put(input, FOSAVALO_TICK_TRACKING_ERROR, apart)"],
+        ),
+        ("examples/rust/src/main.rs", [".sample(image.time())?.position", "tracking_error, planner"]),
+    ] {
+        shown.iter().for_each(|line| assert!(text(path).contains(line), "{path}: {line}"));
+    }
+}
+
 /// A buffer of length 0 may be NULL: the call refuses its length.
 #[test]
 fn nothing_at_all() {

@@ -37,8 +37,8 @@
 # make targets     the archives of all five targets, of the same proved modules, and each driven with the same calls: x86-64, aarch64, riscv64, Cortex-M
 #                  and WebAssembly. What runs another machine's code is installed as gnuplot is (INSTALL=no)
 # make dist        what links and runs without the toolchain, for every target, in dist/ and there as a tar: archives, this machine's shared libraries, headers,
-#                  files for pkg-config and CMake, the Rust crates, the modules of WebAssembly with their JavaScript, the program `fosavalo` for this machine,
-#                  licence, checksums
+#                  files for pkg-config and CMake, the Rust crates, the module for Python, those of WebAssembly with their JavaScript, the program
+#                  `fosavalo` for this machine, licence, checksums
 # make kit         the conformance kit, for those who translate or wrap the core, in dist/ and there as a tar: vectors as text, the runner `conform`, adapters
 #                  to copy (docs/CONFORMANCE.md)
 # make docs        the safe crates' pages, host/target/doc/fosavalo/index.html and fosavalo_desk beside it

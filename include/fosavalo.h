@@ -175,6 +175,13 @@ static inline const char *fosavalo_meaning(uint32_t number) {
     }
 }
 
+/* Axes, signs, units. The world's axes are north, east and down, in metres and seconds; positions, velocities, accelerations and jerks are along them. The body's are
+ * forward (x), right (y) and down (z). The attitude takes the body's axes to the world's: a unit quaternion of Hamilton's form, w x y z, so that
+ * (cos a/2, 0, 0, sin a/2) is level with the heading a; it is not normalised here. A heading is in rad, clockwise from north as seen from above: pi/2 is east. Rates
+ * are about the body's axes, rad/s, by the right hand: a roll above 0 lowers the right side, a pitch above 0 raises the nose, a yaw above 0 turns it to the right. A
+ * torque has the same signs and is no moment in N m: one unit is what turns its axis by b0 of the set-up, rad/s^2 (relay takes for b0 the most torque by the inertia, so
+ * that the motors give 1 at most). The thrust is not the core's. docs/axes.svg draws the axes. */
+
 /* Where each number stands, in words from the start of its buffer: the first of three where a vector stands (x, y, z), else the one.
  * Axes are 0 to 2. */
 
@@ -193,33 +200,33 @@ static inline const char *fosavalo_meaning(uint32_t number) {
 #define FOSAVALO_SETUP_LEG 17       /* the segment's 19 words, FOSAVALO_LEG_P0 to FOSAVALO_LEG_T from here */
 #define FOSAVALO_SETUP_OMEGA_O(axis) (36 + 4 * (axis)) /* rate control */
 #define FOSAVALO_SETUP_OMEGA_C(axis) (37 + 4 * (axis))
-#define FOSAVALO_SETUP_B0(axis) (38 + 4 * (axis))
+#define FOSAVALO_SETUP_B0(axis) (38 + 4 * (axis)) /* angular acceleration for one unit of torque, rad/s^2 */
 #define FOSAVALO_SETUP_TAU(axis) (39 + 4 * (axis))
 #define FOSAVALO_SETUP_FC 48        /* the gyro's filter, Hz: above 0 and below half of fs, else refused */
 #define FOSAVALO_SETUP_FS 49
 #define FOSAVALO_SETUP_PROFILE 50   /* a whole number: FOSAVALO_WHOLE or FOSAVALO_LOST_ROTOR */
 
 /* A leg of a route, and the segment of a set-up and of an exchange. */
-#define FOSAVALO_LEG_P0 0  /* 3 */
-#define FOSAVALO_LEG_V0 3  /* 3 */
-#define FOSAVALO_LEG_A0 6  /* 3 */
+#define FOSAVALO_LEG_P0 0  /* 3: north, east, down, m */
+#define FOSAVALO_LEG_V0 3  /* 3: m/s */
+#define FOSAVALO_LEG_A0 6  /* 3: m/s^2 */
 #define FOSAVALO_LEG_PF 9  /* 3 */
 #define FOSAVALO_LEG_VF 12 /* 3 */
 #define FOSAVALO_LEG_AF 15 /* 3 */
 #define FOSAVALO_LEG_T 18  /* the duration, s */
 
 /* What a tick is given. */
-#define FOSAVALO_TICK_GYRO 0           /* 3: rad/s */
-#define FOSAVALO_TICK_ATTITUDE 3       /* 4: a quaternion, w x y z */
+#define FOSAVALO_TICK_GYRO 0           /* 3: rad/s about the body's axes */
+#define FOSAVALO_TICK_ATTITUDE 3       /* 4: a quaternion, w x y z, body to north-east-down */
 #define FOSAVALO_TICK_TRACKING_ERROR 7 /* m */
-#define FOSAVALO_TICK_YAW 8            /* rad */
+#define FOSAVALO_TICK_YAW 8            /* rad: the wanted heading, clockwise from north */
 #define FOSAVALO_TICK_YAW_RATE 9       /* rad/s */
 #define FOSAVALO_TICK_DT 10            /* s */
 #define FOSAVALO_TICK_PLANNER 11       /* 3: the planner's rate command, rad/s */
 #define FOSAVALO_TICK_DELIVERED 14     /* 3: the fraction of the last torque that was delivered */
 
 /* What a tick answers. */
-#define FOSAVALO_ANSWER_TORQUE 0  /* 3 */
+#define FOSAVALO_ANSWER_TORQUE 0  /* 3: about the body's axes, in units of b0 rad/s^2 */
 #define FOSAVALO_ANSWER_COMMAND 3 /* 3: rad/s */
 #define FOSAVALO_ANSWER_FLAG 6    /* a whole number: 1 the fallback's command, 0 the planner's */
 #define FOSAVALO_ANSWER_TIME 7    /* the governor's, s */

@@ -61,7 +61,7 @@ interface Struct<Given, Read> {
     fromBytes(bytes: Uint8Array): Read & Bits;
 }
 
-/** A flight from one state to another along a quintic on each axis: north, east, down, in metres and seconds. */
+/** A flight from one state to another along a quintic on each axis: north, east, down, in metres and seconds (TickInput tells the axes). */
 export interface Leg {
     p0: Three;
     v0: Three;
@@ -99,14 +99,22 @@ export const SetUp: Struct<SetUp, Readonly<SetUp>> & {
     falconQuad(): SetUp;
 };
 
+/**
+ * What a tick is given.
+ *
+ * Axes, signs, units. The world's axes are north, east and down, in metres and seconds. The body's are forward (x), right (y) and down (z). The attitude takes the body's axes to the world's: a unit
+ * quaternion of Hamilton's form, w x y z; it is not normalised here. A heading is in rad, clockwise from north as seen from above. Rates are about the body's axes, rad/s, by the right hand: a
+ * roll above 0 lowers the right side, a pitch above 0 raises the nose, a yaw above 0 turns it to the right. A torque has the same signs and is no moment in N m: one unit is what turns
+ * its axis by b0 of the set-up, rad/s^2. The thrust is not the core's. docs/axes.svg of the repository draws the axes.
+ */
 export interface TickInput {
-    /** rad/s, as measured, not filtered. */
+    /** rad/s about the body's axes, as measured, not filtered. */
     gyro: Three;
-    /** The estimated attitude: a quaternion, w x y z. */
+    /** The estimated attitude: a quaternion, w x y z, body to north-east-down. */
     attitude: Four;
     /** How far the aircraft is from the trajectory, m. */
     trackingError: number;
-    /** The wanted heading, rad; one that is no number leaves the fallback to fly. */
+    /** The wanted heading, rad, clockwise from north; one that is no number leaves the fallback to fly. */
     yaw: number;
     yawRate: number;
     /** Since the last tick, s. */
@@ -121,7 +129,9 @@ export const TickInput: Struct<TickInput, Readonly<TickInput>> & {
     default(): TickInput;
 };
 
+/** What a tick answers; TickInput tells the axes, signs and units. */
 export interface Answer {
+    /** About the body's axes, in units of b0 rad/s^2. */
     readonly torque: Three;
     /** rad/s: the pilot's command, its non-finite numbers made zero. */
     readonly command: Three;

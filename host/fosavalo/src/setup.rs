@@ -39,6 +39,8 @@ pub struct Governor {
 }
 
 /// A flight from one state to another along a quintic on each axis: north, east, down, in metres and seconds.
+///
+#[doc = include_str!("axes.md")]
 #[derive(Clone, Copy, Debug, PartialEq)]
 pub struct Segment {
     /// Position at the start.

@@ -46,6 +46,8 @@ impl fmt::Display for Pilot {
 
 /// What a tick is given. Every bit pattern is taken.
 ///
+#[doc = include_str!("axes.md")]
+///
 /// ```
 /// use fosavalo::{BodyRate, TickInput};
 ///
@@ -126,6 +128,8 @@ impl TickInput {
 }
 
 /// What a tick answers. Torque and command are finite; the time and the margin are never NaN.
+///
+#[doc = include_str!("axes.md")]
 ///
 /// ```
 /// use fosavalo::{BodyRate, Image, Pilot, SetUp, TickInput};

@@ -75,6 +75,9 @@ def in_c(program):
 # ---- the stored answers, crates/replay/stdin; docs/ORACLE.md has their form
 
 
+DESK = 512
+
+
 def sections(data):
     at = 0
 
@@ -98,12 +101,15 @@ def sections(data):
             if number < 500:
                 kept.append(take(4 * (given + answered)))
                 continue
-            buffers = []
-            for _ in range(4):
+            # a desk's rows have six buffers, of which four may change; the others four, of which two may
+            desk, buffers = number >= DESK, []
+            for _ in range(6 if desk else 4):
                 stored, lent = word(), word()
                 buffers.append((take(4 * stored), lent))
-            place = word()
-            kept.append((buffers, place, word(), take(len(buffers[0][0])), take(len(buffers[2][0]))))
+            place = 0 if desk else word()
+            wanted, changes = word(), (0, 2, 3, 5) if desk else (0, 2)
+            left = [take(len(stored)) if k in changes else stored for k, (stored, _) in enumerate(buffers)]
+            kept.append((buffers, place, wanted, left))
         read.append((number, kept))
     assert at == len(data) and sum(len(rows) for _, rows in read) == answers, "the list is of this form"
     return read
@@ -115,10 +121,10 @@ def floats(data):
 
 def bare(number, row):
     """Whether the call on bytes gives the stored number and bytes."""
-    buffers, at, wanted, after_a, after_c = row
+    buffers, at, wanted, left = row
     lent = [bytearray(stored[:length]) for stored, length in buffers]
-    a, b, c, d = lent
-    core = fosavalo.calls()
+    a, b, c, d, *more = lent
+    core, desk = fosavalo.calls(), fosavalo.calls("fosavalo_desk")
     said = {
         500: lambda: core.setup(a, b),
         501: lambda: core.tick(a, b, c),
@@ -128,9 +134,16 @@ def bare(number, row):
         505: lambda: core.log_record(b, at, c),
         506: lambda: core.exchange(a, b),
         507: lambda: core.flags(b, *floats(d)[:2], c),
+        508: lambda: core.route_sample(d, floats(b)[0], c),
+        509: lambda: core.tick_refusal(b, fosavalo._word(d, 0), fosavalo._word(d, 1)),
+        510: lambda: core.log_check(d, fosavalo._word(b, 0), *floats(b)[1:3], c),
+        511: lambda: core.pattern_expand(d, a, c),
+        512: lambda: desk.tick(a, b, c, d, more[1]),
+        513: lambda: desk.route_tick(a, b, c, d, *more),
+        514: lambda: desk.setup(a, b),
+        515: lambda: desk.centre(a),
     }[number]()
-    same((said, bytes(a), bytes(c)), (wanted, after_a[: len(a)], after_c[: len(c)]), "bare")
-    same((bytes(b), bytes(d)), (buffers[1][0][: len(b)], buffers[3][0][: len(d)]), "what is only read")
+    same((said, [bytes(own) for own in lent]), (wanted, [after[: len(own)] for after, own in zip(left, lent)]), "bare")
 
 
 def number_of(call):
@@ -142,9 +155,12 @@ def number_of(call):
 
 def typed(number, row):
     """Whether the typed calls give the stored answer; False where they cannot lend such buffers."""
-    buffers, at, wanted, after_a, after_c = row
-    a, b, c, d = [bytes(stored[:length]) for stored, length in buffers]
-    after_a, after_c = after_a[: len(a)], after_c[: len(c)]
+    buffers, at, wanted, left = row
+    lent = [bytes(stored[:length]) for stored, length in buffers]
+    left = [after[: len(own)] for after, own in zip(left, lent)]
+    if number >= DESK:
+        return typed_desk(number, wanted, lent, left)
+    (a, b, c, d), (after_a, _, after_c, _) = lent, left
 
     def on_image(call):
         said, image = number_of(lambda: Image.from_bytes(a))
@@ -194,11 +210,61 @@ def typed(number, row):
             same(repr(log[at]), repr(Record.from_bytes(after_c)))
     elif number == 506:
         on_image(lambda image: image.exchange(b))
+    elif number == 508:
+        if len(c) != fosavalo.SAMPLE_BYTES:
+            return False
+        said, sample = number_of(lambda: Route.from_bytes(d).sample(floats(b)[0]))
+        same((said, sample and sample.to_bytes()), (wanted, None if wanted else after_c))
+    elif number == 509:
+        if [fosavalo._word(d, at) for at in (0, 1)] != [fosavalo.TICK_BYTES, fosavalo.ANSWER_BYTES]:
+            return False
+        same(number_of(lambda: Image.from_bytes(b).check())[0], wanted)
+    elif number == 510:
+        if len(c) != 4 or fosavalo._word(b, 0) > 1:
+            return False
+        right, (enter, exit) = int.from_bytes(after_c, "little"), floats(b)[1:3]
+        said, verdict = number_of(lambda: Log.from_bytes(d).check(fosavalo.Profile(fosavalo._word(b, 0)), enter, exit))
+        same((said, verdict), (wanted, None if wanted or right == fosavalo.LOG_RIGHT else right))
+    elif number == 511:
+        # the room is the module's own
+        if len(c) != 4 or wanted == 9:
+            return False
+        said, route = number_of(lambda: Pattern.from_bytes(d).expand())
+        same((said, route and route.as_bytes()), (wanted, None if wanted else after_a[: int.from_bytes(after_c, "little")]))
     else:
         if len(c) != len(b) // 4:
             return False
         said, flags = number_of(lambda: fosavalo.looked_back(b, *floats(d)[:2]))
         same((said, flags and bytes(flags)), (wanted, None if wanted else (after_c or [])))
+    return True
+
+
+def typed_desk(number, wanted, lent, left):
+    desk, sticks, image, data, route, answer = lent
+    if number in (512, 513):
+        if len(answer) != fosavalo.ANSWER_BYTES or len(data) != fosavalo.TICK_BYTES:
+            return False
+        data = bytearray(data)
+        held = [number_of(lambda: Desk.from_bytes(desk)), number_of(lambda: Image.from_bytes(image))]
+        said = next((said for said, _ in held if said), 0)
+        if said:
+            return wanted == said
+        held = [own for _, own in held]
+        fly = held[0].tick if number == 512 else lambda *given: held[0].route_tick(*given, route)
+        said, gave = number_of(lambda: fly(sticks, held[1], data))
+        same((said, gave and gave.to_bytes()), (wanted, None if wanted else left[5]))
+        same([held[0].as_bytes(), held[1].as_bytes(), bytes(data)], [left[0], left[2], left[3]], "what the desk leaves")
+    elif number == 514:
+        if len(desk) != fosavalo.DESK_BYTES:
+            return False
+        said, made = number_of(lambda: Desk.set_up(sticks))
+        same((said, made and made.as_bytes()), (wanted, None if wanted else left[0]))
+    else:
+        said, own = number_of(lambda: Desk.from_bytes(desk))
+        if said == 0:
+            said, _ = number_of(own.centre)
+            same(own.as_bytes(), left[0])
+        same(said, wanted)
     return True
 
 
@@ -210,7 +276,7 @@ if "--damage" in sys.argv:
     for k, (section_number, section_rows) in enumerate(READ):
         if section_number == 501:
             row = section_rows[0]
-            section_rows[0] = row[:3] + (bytes([row[3][0] ^ 1]) + row[3][1:],) + row[4:]
+            section_rows[0] = row[:3] + ([bytes([row[3][0][0] ^ 1]) + row[3][0][1:], *row[3][1:]],)
 
 for section_number, section_rows in READ:
     if section_number >= 500:

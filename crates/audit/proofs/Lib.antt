@@ -1,7 +1,6 @@
 pub mod OneTurn
 pub mod Said
 pub mod Carried
-pub mod Series
 pub mod VerdictCall
 pub mod Stepping
 pub mod VerdictFigures

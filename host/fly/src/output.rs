@@ -71,11 +71,16 @@ pub fn read_all(file: &Path) -> io::Result<Vec<u8>> {
 
 /// `-` is standard input.
 fn read_some(file: &Path, most: u64) -> io::Result<Vec<u8>> {
-    let mut bytes = Vec::new();
-    match file == Path::new("-") {
-        true => io::stdin().lock().take(most).read_to_end(&mut bytes)?,
-        false => std::fs::File::open(file)?.take(most).read_to_end(&mut bytes)?,
-    };
+    if file == Path::new("-") {
+        let mut bytes = Vec::new();
+        io::stdin().lock().take(most).read_to_end(&mut bytes)?;
+        return Ok(bytes);
+    }
+    let file = std::fs::File::open(file)?;
+    // as much room as a full log wants at once: a buffer that grows is copied
+    let len = file.metadata().map_or(0, |about| about.len()).min(most).min(8 << 20);
+    let mut bytes = Vec::with_capacity(len as usize + 1);
+    file.take(most).read_to_end(&mut bytes)?;
     Ok(bytes)
 }
 

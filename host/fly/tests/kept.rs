@@ -101,6 +101,71 @@ fn ulp(set_up: &SetUp) -> SetUp {
     other
 }
 
+/// So do the scenarios that stand beside the program, by both rules.
+#[test]
+fn every_scenario_is_flown_again() {
+    let folder = checkout::scratch("scenarios-again");
+    let mut names: Vec<PathBuf> = std::fs::read_dir("scenarios").expect("a folder").map(|file| file.expect("a file").path()).collect();
+    names.sort();
+    for file in &names {
+        let text = std::fs::read(file).expect("it is there");
+        let name = output::name(file);
+        std::fs::write(folder.join(format!("{name}.txt")), text).expect("it is written");
+        assert_eq!(fosavalo(&["fly", &format!("{name}.txt"), "--out", "."], &folder).0, Some(0));
+    }
+    for (command, all) in [("replay", "the same"), ("check", "right")] {
+        let (code, out, _) = fosavalo(&[command, "."], &folder);
+        assert_eq!((code, out.lines().filter(|line| line.contains(&format!(": {all}, "))).count()), (Some(0), 2 * names.len()), "{out}");
+    }
+}
+
+/// A flight that goes onto its route and off it again, with exchanges between and several before one tick: it is flown again as it was, and any other telling of it is
+/// not the same.
+#[test]
+fn on_the_route_and_off_it() {
+    let folder = checkout::scratch("on-and-off");
+    let set_up = SetUp::falcon_quad();
+    let leg = |x: f32| Leg { pf: [x, 0.5, -1.0], t: 0.5, ..set_up.segment };
+    let away = Leg { p0: leg(3.0).pf, pf: [0.0; 3], t: 0.5, ..set_up.segment };
+    let route = fosavalo::Route::new(&[leg(3.0), away]).expect("they meet");
+    let file = FlightFile {
+        set_up,
+        route: Some(route.clone()),
+        on_route: vec![(0, 9), (20, 59), (60, 60), (199, 199)],
+        exchanges: vec![(0, leg(1.0)), (15, leg(2.0)), (60, leg(5.0)), (60, leg(-4.0)), (150, leg(7.0))],
+        logs: vec![("odd.log".to_string(), 200)],
+    };
+    // by hand, call by call
+    let mut image = fosavalo::Image::set_up(&set_up).expect("it is set up");
+    let (mut log, input) = (Log::new(), TickInput { attitude: [0.96, 0.28, 0.0, 0.0], dt: 0.004, ..TickInput::default() });
+    for k in 0..200 {
+        for (_, leg) in file.exchanges.iter().filter(|(tick, _)| *tick == k) {
+            image.exchange(leg).expect("it is exchanged");
+        }
+        let on = file.on_route.iter().any(|(from, to)| (*from..=*to).contains(&k));
+        let answer = if on { image.route_tick(&input, &route) } else { image.tick(&input) };
+        log.append(&input, &answer.expect("no tick is refused")).expect("it fits");
+    }
+    std::fs::write(folder.join("odd.log"), log.as_bytes()).expect("it is written");
+    let replay = |file: &FlightFile| {
+        std::fs::write(folder.join("odd.flight"), file.text()).expect("it is written");
+        fosavalo(&["replay", "odd.flight"], &folder).0
+    };
+    assert_eq!(replay(&file), Some(0));
+    let without = |at: usize| file.exchanges.iter().enumerate().filter(|(k, _)| *k != at).map(|(_, each)| *each).collect();
+    for at in [0, 1, 3, 4] {
+        assert_eq!(replay(&FlightFile { exchanges: without(at), ..file.clone() }), Some(1), "{at}");
+    }
+    for on_route in [
+        vec![(0, 9), (20, 59), (199, 199)],
+        vec![(0, 10), (20, 60), (199, 199)],
+        vec![(1, 9), (20, 60), (199, 199)],
+        vec![(0, 9), (20, 60)],
+    ] {
+        assert_eq!(replay(&FlightFile { on_route, ..file.clone() }), Some(1));
+    }
+}
+
 /// The words that differ are named with both of their bits.
 #[test]
 fn what_differs_is_named() {

@@ -54,7 +54,8 @@ flag-of profile true r e = eqb-true (flagWord r) 1 (both (eqb (flagWord r) 1) (f
 flag-of profile false r e = eqb-true (flagWord r) 0 (both (eqb (flagWord r) 0) (planners profile r) e .0)
 
 module _ (profile : Profile) (enter exit : Float) where
-  seam : (before : Bool) (rs ss : List (List ℕ)) → Carried profile enter exit before (rs ++ ss) ↔ (Carried profile enter exit before rs × Carried profile enter exit (after enter exit before (marginsIn rs)) ss)
+  seam : (before : Bool) (rs ss : List (List ℕ))
+      → Carried profile enter exit before (rs ++ ss) ↔ (Carried profile enter exit before rs × Carried profile enter exit (after enter exit before (marginsIn rs)) ss)
   unfolding after
   seam before [] ss = (λ c. (_, c), λ c. c .1)
   seam before (r ∷ rs) ss = let more = seam (latch enter exit before (marginIn r)) rs ss in (λ c. let d = more .0 (c .1) in ((c .0, d .0), d .1), λ c. (c .0 .0, more .1 (c .0 .1, c .1)))
@@ -71,7 +72,8 @@ module _ (profile : Profile) (enter exit : Float) where
     piece true ss = (right-carried profile enter exit o ss, carried-right profile enter exit o ss)
     piece false ss =
         let e : latch enter exit true (marginIn release) ≡ false = rw (z .above) refl in
-        (λ v. subst (λ (b : Bool). Carried profile enter exit b ss) e (right-carried profile enter exit o (release ∷ ss) v .1), λ c. carried-right profile enter exit o (release ∷ ss) (rw e (z .planners), rw e c))
+        let back = carried-right profile enter exit o (release ∷ ss) in
+        (λ v. subst (λ (b : Bool). Carried profile enter exit b ss) e (right-carried profile enter exit o (release ∷ ss) v .1), λ c. back (rw e (z .planners), rw e c))
 
     pub seam-right : (rs ss : List (List ℕ))
         → (verdictOf profile enter exit (rs ++ ss) ≡ AllRight) ↔ ((verdictOf profile enter exit rs ≡ AllRight) × (verdictOf profile enter exit (behind release (lastFlag 1 rs) ss) ≡ AllRight))

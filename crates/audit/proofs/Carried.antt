@@ -9,7 +9,7 @@ use Rattle.joint_tick.specs.declared.profile.Profile.{Profile, the-variants.{Wh
 use Rattle.image.specs.Passed.{passedOn}
 use Rattle.slow.{specs.Back.lookBack, proofs.Slow.{flag-to, slow-is-latch}}
 use Rattle.audit.specs.{declared.Verdict.the-variants.AllRight, Right.{flagWord, passes, passesThird, planners, finites, marginIn, marginsIn, right, rightAt}, Verdict.verdictOf}
-use Rattle.audit.specs.Series.{lastFlag, behind, Releasing}
+use Rattle.audit.specs.Series.{lastFlag, behind, Releasing, joined, PiecesRight}
 use Rattle.audit.proofs.Said.{verdict-says}
 
 -- each record is right by the latch of its margin, from a flag on
@@ -81,6 +81,18 @@ module _ (profile : Profile) (enter exit : Float) where
       λ v. let c = seam true rs ss .0 (right-carried profile enter exit o (rs ++ ss) v) in (carried-right profile enter exit o rs (c .0), rw (last-flag true rs (c .0)) (next .1 (c .1))),
       λ v. let c = right-carried profile enter exit o rs (v .0) in carried-right profile enter exit o (rs ++ ss) (seam true rs ss .1 (c, next .0 (rw (← last-flag true rs c) (v .1)))),
     )
+
+    -- and so of any number of logs, one behind the other
+    each : (before : Bool) (ps : List (List (List ℕ))) → Carried profile enter exit before (joined ps) ↔ PiecesRight profile enter exit release (flag before) ps
+    unfolding joined
+    each before [] = (λ c. tt, λ s. tt)
+    each before (p ∷ ps) = let more = each (after enter exit before (marginsIn p)) ps in (
+      λ c. let d = seam before p (joined ps) .0 c in (piece before p .1 (d .0), rw (last-flag before p (d .0)) (more .0 (d .1))),
+      λ s. let d = piece before p .0 (s .0) in seam before p (joined ps) .1 (d, more .1 (rw (← last-flag before p d) (s .1))),
+    )
+
+    pub pieces-right : (ps : List (List (List ℕ))) → (verdictOf profile enter exit (joined ps) ≡ AllRight) ↔ PiecesRight profile enter exit release 1 ps
+    pieces-right ps = (λ v. each true ps .0 (right-carried profile enter exit o (joined ps) v), λ s. carried-right profile enter exit o (joined ps) (each true ps .1 s))
 
 -- zeros, and the greatest f32 as the margin: such a record for every exit below it
 pub releasing : (profile : Profile) (exit : Float) → lt exit (f32 0x7f7f_ffff) ≡ true → Releasing profile exit (bytesOf (replicate 26 0 ++ 0x7f7f_ffff ∷ []))

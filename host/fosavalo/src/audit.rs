@@ -1,4 +1,4 @@
-use crate::{calls, FloatFault, Log, LogView, Profile, Refusal, LOG_RIGHT};
+use crate::{calls, FloatFault, LogView, Profile, Refusal, LOG_RIGHT};
 use core::fmt;
 
 /// What [`LogView::check`] says of a log.
@@ -77,12 +77,5 @@ impl LogView<'_> {
         let mut verdict = [0; 4];
         Refusal::check(calls::log_check(self.as_bytes(), profile.word(), enter, exit, &mut verdict))?;
         Ok(Verdict::from_word(u32::from_le_bytes(verdict)))
-    }
-}
-
-impl Log {
-    /// Whether every record is right, or the first that is not: [`LogView::check`].
-    pub fn check(&self, profile: Profile, enter: f32, exit: f32) -> Result<Verdict, Refusal> {
-        self.view().check(profile, enter, exit)
     }
 }

@@ -40,7 +40,8 @@
 //! are refused in any other ([`FloatFault`]). Set-up is refused too where the archive is of another version than the crate ([`VersionFault`]). What set-up mends of the numbers that it is given, [`SetUp::mended`] tells.
 //!
 //! Words are little-endian, floats as their bits; `include/fosavalo.h` is the same face for C. The crate has no dependency but
-//! `libfosavalo.a`, and needs no `std`, but `alloc` for a [`Log`] and a [`Pattern`]. The archive is that of `make core` in a checkout, of `lib/` in an unpacked
+//! `libfosavalo.a`, and needs no `std`. The feature `alloc`, on by default, has what takes memory, [`Log`], [`LogSeries`], [`SeriesCheck`], [`Pattern`] and
+//! [`looked_back`]; without it no allocator is needed, and these are calls on lent bytes ([`calls::log_append`], [`calls::flags`]) or read from them ([`LogView`], [`Route::expand`]). The archive is that of `make core` in a checkout, of `lib/` in an unpacked
 //! distribution, or pkg-config's; the variable `FOSAVALO_LIB_DIR` names the folder of another.
 
 #![no_std]
@@ -48,20 +49,26 @@
 // no input makes a call panic
 #![deny(clippy::panic, clippy::unwrap_used, clippy::expect_used, clippy::indexing_slicing)]
 
+#[cfg(feature = "alloc")]
 extern crate alloc;
 
 mod audit;
 pub mod calls;
 mod floats;
 mod image;
+#[cfg(feature = "alloc")]
+mod kept;
 mod log;
 mod mended;
+#[cfg(feature = "alloc")]
 mod pattern;
 mod refusal;
 mod route;
 mod sample;
+#[cfg(feature = "alloc")]
 mod series;
 mod setup;
+#[cfg(feature = "alloc")]
 mod slow;
 mod tick;
 mod version;
@@ -71,14 +78,19 @@ pub use audit::Verdict;
 pub use calls::{cosf, sinf};
 pub use floats::FloatFault;
 pub use image::Image;
-pub use log::{Log, LogView, Record, Records};
+#[cfg(feature = "alloc")]
+pub use kept::Log;
+pub use log::{LogView, Record, Records};
 pub use mended::Mended;
+#[cfg(feature = "alloc")]
 pub use pattern::Pattern;
 pub use refusal::Refusal;
 pub use route::{Leg, Route};
 pub use sample::Sample;
+#[cfg(feature = "alloc")]
 pub use series::{LogSeries, SeriesCheck, MOST_IN_SERIES};
 pub use setup::{AdrcGains, FilterDoubt, Gains, Governor, GyroFilter, Profile, RecoverableSet, Segment, SetUp};
+#[cfg(feature = "alloc")]
 pub use slow::looked_back;
 pub use tick::{Answer, BodyRate, Pilot, TickInput, Torque};
 pub use version::VersionFault;
@@ -127,7 +139,9 @@ macro_rules! try_from_bytes {
     };
 }
 
-try_from_bytes!(Image, SetUp, TickInput, Answer, Route, Sample, Pattern, Log, Record);
+try_from_bytes!(Image, SetUp, TickInput, Answer, Route, Sample, Record);
+#[cfg(feature = "alloc")]
+try_from_bytes!(Pattern, Log);
 
 impl<'a> TryFrom<&'a [u8]> for LogView<'a> {
     type Error = Refusal;

@@ -41,7 +41,8 @@ static inline const char *fosavalo_desk_meaning(uint32_t number) {
     }
 }
 
-/* The sticks, by what their values are for. */
+/* The sticks, by what their values are for. Heading and turn are independent sticks: a heading that moves while turn is 0 is turning that nobody commanded, which the
+ * margin counts as error. Let turn stand at the rate at which the heading is to move. */
 #define FOSAVALO_STICK_HEADING 0 /* rad: the tick input's yaw */
 #define FOSAVALO_STICK_TURN 1    /* rad/s: its yaw rate */
 #define FOSAVALO_STICK_ZOOM 2    /* the zoom's rate, which the core does not see: read it from the desk */

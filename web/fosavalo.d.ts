@@ -281,7 +281,12 @@ export interface DeskSetUp {
 }
 export const DeskSetUp: Struct<DeskSetUp, Readonly<DeskSetUp>>;
 export interface Sticks {
+    /** rad */
     heading: number;
+    /**
+     * rad/s. Heading and turn are independent sticks: a heading that moves while turn is 0 is turning that nobody commanded, which the margin counts as
+     * error. Let turn stand at the rate at which the heading is to move.
+     */
     turn: number;
     zoom: number;
 }

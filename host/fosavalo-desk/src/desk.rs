@@ -39,7 +39,8 @@ impl DeskSetUp {
 pub struct Sticks {
     /// What the heading goes to, rad.
     pub heading: f32,
-    /// What its rate goes to, rad/s.
+    /// What its rate goes to, rad/s. Heading and turn are independent sticks: a heading that moves while turn is 0 is turning that nobody commanded, which the margin
+    /// counts as error. Let turn stand at the rate at which the heading is to move.
     pub turn: f32,
     /// What the rate of the zoom goes to.
     pub zoom: f32,

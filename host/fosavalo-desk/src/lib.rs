@@ -10,12 +10,12 @@
 //! let mut desk = Desk::set_up(&DeskSetUp { heading: stick, turn: Stick { max_mag: 0.5, ..stick }, zoom: stick })?;
 //! let mut image = Image::set_up(&SetUp::falcon_quad())?;
 //!
-//! // the heading's stick to its end: what is flown is the filter's value, not the stick's
-//! let sticks = Sticks { heading: 1.0, turn: 0.0, zoom: -1.0 };
+//! // the heading's stick to its end, and turn at the rate at which the heading will move: what is flown is the filters' values, not the sticks'
+//! let sticks = Sticks { heading: 1.0, turn: 0.5, zoom: -1.0 };
 //! let mut input = TickInput { dt: 0.0625, ..TickInput::default() };
 //! desk.tick(&sticks, &mut image, &mut input)?;
-//! assert_eq!((desk.heading(), desk.turn()), (0.015625, 0.0));
-//! assert_eq!((input.yaw, input.yaw_rate), (0.015625, 0.0)); // so a log of `input` keeps what was flown
+//! assert_eq!((desk.heading(), desk.turn()), (0.015625, 0.0078125));
+//! assert_eq!((input.yaw, input.yaw_rate), (0.015625, 0.0078125)); // so a log of `input` keeps what was flown
 //! assert_eq!(desk.zoom_rate(), -0.015625);
 //!
 //! // the button

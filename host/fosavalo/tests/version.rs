@@ -36,7 +36,13 @@ impl Folder {
     fn with_version(&self, from: &Path, name: &str, version: u32) {
         let (archive, object) = (self.0.join(format!("lib{name}.a")), self.0.join(format!("{name}_says.o")));
         let call = format!("{name}_version");
-        done(Command::new("objcopy").arg("--redefine-sym").arg(format!("{call}=own_{call}")).arg(from.join(format!("lib{name}.a"))).arg(&archive));
+        done(
+            Command::new("objcopy")
+                .arg("--redefine-sym")
+                .arg(format!("{call}=own_{call}"))
+                .arg(from.join(format!("lib{name}.a")))
+                .arg(&archive),
+        );
         let source = self.write(&format!("{name}.c"), &format!("unsigned {call}(void) {{ return {version}u; }}\n"));
         done(Command::new("gcc").arg("-c").arg(source).arg("-o").arg(&object));
         done(Command::new("ar").arg("r").arg(&archive).arg(&object));
@@ -84,9 +90,32 @@ fn an_archive_of_another_version() {
         said()
     };
     let told = |name: &str| {
-        format!("refused: lib{name}.a is of version {major}.{}.{patch}, its crate of {major}.{minor}.{patch}: link both of one release\n", minor - 1)
+        format!(
+            "refused: lib{name}.a is of version {major}.{}.{patch}, its crate of {major}.{minor}.{patch}: link both of one release\n",
+            minor - 1
+        )
     };
     assert_eq!(both(number(minor), number(minor)), "set up\nset up\n");
     assert_eq!(both(number(minor - 1), number(minor)), told("fosavalo") + "set up\n");
     assert_eq!(both(number(minor), number(minor - 1)), "set up\n".to_string() + &told("fosavalo_desk"));
+}
+
+/// Each version up to this one has its entry, newest first, and up to 0.14 it names its request's note.
+#[test]
+fn every_version_has_its_entry() {
+    let read = |path: &str| std::fs::read_to_string(checkout().join(path)).unwrap_or_else(|error| panic!("{path}: {error}"));
+    let page = read("CHANGELOG.md");
+    let entries: Vec<(&str, &str)> = page.split("\n## 0.").skip(1).filter_map(|entry| entry.split_once('\n')).collect();
+    let minor: usize = env!("CARGO_PKG_VERSION_MINOR").parse().expect("a number");
+    assert_eq!(
+        entries.iter().map(|(number, _)| number.to_string()).collect::<Vec<_>>(),
+        (1..=minor).rev().map(|n| n.to_string()).collect::<Vec<_>>()
+    );
+    for (number, entry) in &entries {
+        let request: usize = number.parse().expect("a number");
+        assert!(request > 14 || entry.contains(&format!("(docs/requests/{request:02}-")), "0.{number} names no request");
+    }
+    let tag = format!("`v{}`", env!("CARGO_PKG_VERSION"));
+    assert!(page.contains(&tag) && read("CONTRIBUTING.md").contains(&tag), "{tag} is named in both");
+    assert!(page.contains("\n## Known limits\n"));
 }

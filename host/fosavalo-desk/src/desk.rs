@@ -76,7 +76,7 @@ impl Desk {
         VersionFault::check("fosavalo_desk", calls::version())?;
         FloatFault::check()?;
         let mut bytes = [0; DESK_BYTES];
-        Refusal::check(calls::setup(&mut bytes, &set_up.to_bytes()))?;
+        Refusal::from_number(calls::setup(&mut bytes, &set_up.to_bytes()))?;
         Ok(Desk { bytes })
     }
 
@@ -92,7 +92,7 @@ impl Desk {
 
     /// The centre button: values and rates become 0, nothing is stepped and nothing is flown. The heading that the next tick flies is within a step of 0.
     pub fn centre(&mut self) -> Result<(), Refusal> {
-        Refusal::check(calls::centre(&mut self.bytes))
+        Refusal::from_number(calls::centre(&mut self.bytes))
     }
 
     /// One tick: each filter steps toward its stick by the input's dt, the heading and its rate are written into the input, and the core ticks on it.
@@ -140,7 +140,7 @@ impl Desk {
     ) -> Result<Answer, Refusal> {
         FloatFault::check()?;
         let (mut held, mut flown, mut answer) = (*image.as_bytes(), input.to_bytes(), [0; ANSWER_BYTES]);
-        Refusal::check(call(&mut self.bytes, &mut held, &mut flown, &mut answer))?;
+        Refusal::from_number(call(&mut self.bytes, &mut held, &mut flown, &mut answer))?;
         *image = Image::from_bytes(&held)?;
         // only these two words of the input are written
         (input.yaw, input.yaw_rate) = (float(&flown, 8), float(&flown, 9));

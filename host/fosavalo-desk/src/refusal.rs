@@ -7,13 +7,15 @@ use fosavalo::{FloatFault, VersionFault};
 /// ```
 /// use fosavalo_desk::Refusal;
 ///
-/// assert_eq!(Refusal::check(0), Ok(()));
-/// assert_eq!(Refusal::check(15), Err(Refusal::DeskLength));
-/// assert_eq!(Refusal::check(4), Err(Refusal::Core(fosavalo::Refusal::BrokenImage)));
+/// assert_eq!(Refusal::from_number(0), Ok(()));
+/// assert_eq!(Refusal::from_number(15), Err(Refusal::DeskLength));
+/// assert_eq!(Refusal::from_number(4), Err(Refusal::Core(fosavalo::Refusal::BrokenImage)));
 /// assert_eq!(Refusal::DeskLength.to_string(), "refused (15): the desk is not 60 bytes long");
-/// assert_eq!(Refusal::Core(fosavalo::Refusal::ImageLength).to_string(), "refused (1): the image is not 396 bytes long");
+/// let core = Refusal::Core(fosavalo::Refusal::ImageLength);
+/// assert_eq!(core.to_string(), "refused (1): the image is not 396 bytes long");
 /// ```
 #[derive(Clone, Copy, Debug, PartialEq, Eq, Hash)]
+#[non_exhaustive]
 pub enum Refusal {
     /// 15: the desk is not 60 bytes long.
     DeskLength,
@@ -25,12 +27,19 @@ pub enum Refusal {
 
 impl Refusal {
     /// What a call's number says: nothing for 0, else the refusal.
-    pub fn check(number: u32) -> Result<(), Refusal> {
+    pub fn from_number(number: u32) -> Result<(), Refusal> {
         match number {
             15 => Err(Refusal::DeskLength),
             16 => Err(Refusal::SticksLength),
-            core => fosavalo::Refusal::check(core).map_err(Refusal::Core),
+            core => fosavalo::Refusal::from_number(core).map_err(Refusal::Core),
         }
+    }
+
+    /// The name of [`Refusal::from_number`] up to 0.14.
+    #[deprecated(since = "0.15.0", note = "it is `from_number`")]
+    #[doc(hidden)]
+    pub fn check(number: u32) -> Result<(), Refusal> {
+        Refusal::from_number(number)
     }
 
     /// The number; None where no call was made.
@@ -41,31 +50,47 @@ impl Refusal {
             Refusal::Core(core) => core.number(),
         }
     }
+
+    /// The meaning in words.
+    ///
+    /// ```
+    /// use fosavalo_desk::Refusal;
+    ///
+    /// assert_eq!(Refusal::DeskLength.meaning().to_string(), "the desk is not 60 bytes long");
+    /// let core = Refusal::from(fosavalo::Refusal::LegCount);
+    /// assert_eq!(core.meaning().to_string(), "a route has 1 to 32 legs");
+    /// ```
+    pub fn meaning(self) -> impl fmt::Display {
+        Meaning(self)
+    }
+}
+
+struct Meaning(Refusal);
+
+impl fmt::Display for Meaning {
+    fn fmt(&self, f: &mut fmt::Formatter<'_>) -> fmt::Result {
+        match self.0 {
+            Refusal::DeskLength => write!(f, "the desk is not {DESK_BYTES} bytes long"),
+            Refusal::SticksLength => {
+                write!(f, "what is said of the sticks is not {DESK_SETUP_BYTES} bytes long at set-up, {STICKS_BYTES} at a tick")
+            }
+            Refusal::Core(core) => core.meaning().fmt(f),
+        }
+    }
 }
 
 impl fmt::Display for Refusal {
     fn fmt(&self, f: &mut fmt::Formatter<'_>) -> fmt::Result {
-        match self {
-            Refusal::DeskLength => write!(f, "refused (15): the desk is not {DESK_BYTES} bytes long"),
-            Refusal::SticksLength => {
-                write!(
-                    f,
-                    "refused (16): what is said of the sticks is not {DESK_SETUP_BYTES} bytes long at set-up, {STICKS_BYTES} at a tick"
-                )
-            }
-            Refusal::Core(core) => core.fmt(f),
+        f.write_str("refused")?;
+        if let Some(number) = self.number() {
+            write!(f, " ({number})")?;
         }
+        write!(f, ": {}", self.meaning())
     }
 }
 
-impl core::error::Error for Refusal {
-    fn source(&self) -> Option<&(dyn core::error::Error + 'static)> {
-        match self {
-            Refusal::Core(core) => Some(core),
-            _ => None,
-        }
-    }
-}
+/// What it says is all there is to say, so it has no source, as the core's.
+impl core::error::Error for Refusal {}
 
 impl From<fosavalo::Refusal> for Refusal {
     fn from(core: fosavalo::Refusal) -> Self {

@@ -26,9 +26,9 @@ fn beside_the_core_in_one_program() {
     let archives = ["libfosavalo.a", "libfosavalo_desk.a"].map(|name| library.join(name));
     let [core, desk] = &archives;
 
-    let words = |number: u32| match Refusal::check(number) {
+    let words = |number: u32| match Refusal::from_number(number) {
         Ok(()) => "done".to_string(),
-        Err(refusal) => refusal.to_string().split_once(": ").map(|(_, words)| words.to_string()).expect("a refusal has words"),
+        Err(refusal) => refusal.meaning().to_string(),
     };
     let mut expected =
         "15 16 15 15 16 1 2 3 15 16 1 2 3 6 unchanged\nthe core's own\nthe core's own\n3c000000 00000000\n3c000000 3e000000 bc000000\n00000000 3e000000\n".to_string();

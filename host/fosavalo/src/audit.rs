@@ -75,7 +75,7 @@ impl LogView<'_> {
     pub fn check(&self, profile: Profile, enter: f32, exit: f32) -> Result<Verdict, Refusal> {
         FloatFault::check()?;
         let mut verdict = [0; 4];
-        Refusal::check(calls::log_check(self.as_bytes(), profile.word(), enter, exit, &mut verdict))?;
+        Refusal::from_number(calls::log_check(self.as_bytes(), profile.word(), enter, exit, &mut verdict))?;
         Ok(Verdict::from_word(u32::from_le_bytes(verdict)))
     }
 }

@@ -10,7 +10,7 @@
 //! // an answer that is a byte short: number 3, and the image is as it was
 //! let before = image;
 //! let number = calls::tick(&mut image, &[0; TICK_BYTES], &mut [0; ANSWER_BYTES - 1]);
-//! assert_eq!(Refusal::check(number), Err(Refusal::AnswerLength));
+//! assert_eq!(Refusal::from_number(number), Err(Refusal::AnswerLength));
 //! assert_eq!(image, before);
 //! ```
 

@@ -29,7 +29,7 @@ impl Image {
         VersionFault::check("fosavalo", calls::version())?;
         FloatFault::check()?;
         let mut bytes = [0; IMAGE_BYTES];
-        Refusal::check(calls::setup(&mut bytes, &set_up.to_bytes()))?;
+        Refusal::from_number(calls::setup(&mut bytes, &set_up.to_bytes()))?;
         Ok(Image { bytes })
     }
 
@@ -63,7 +63,7 @@ impl Image {
     pub fn tick(&mut self, input: &TickInput) -> Result<Answer, Refusal> {
         FloatFault::check()?;
         let mut answer = [0; ANSWER_BYTES];
-        Refusal::check(calls::tick(&mut self.bytes, &input.to_bytes(), &mut answer))?;
+        Refusal::from_number(calls::tick(&mut self.bytes, &input.to_bytes(), &mut answer))?;
         Answer::from_bytes(&answer)
     }
 
@@ -72,7 +72,7 @@ impl Image {
     pub fn route_tick(&mut self, input: &TickInput, route: &Route) -> Result<Answer, Refusal> {
         FloatFault::check()?;
         let mut answer = [0; ANSWER_BYTES];
-        Refusal::check(calls::route_tick(&mut self.bytes, &input.to_bytes(), route.as_bytes(), &mut answer))?;
+        Refusal::from_number(calls::route_tick(&mut self.bytes, &input.to_bytes(), route.as_bytes(), &mut answer))?;
         Answer::from_bytes(&answer)
     }
 
@@ -95,7 +95,7 @@ impl Image {
         FloatFault::check()?;
         let mut bytes = [0; LEG_BYTES];
         leg.put(&mut Put::to(&mut bytes));
-        Refusal::check(calls::exchange(&mut self.bytes, &bytes))
+        Refusal::from_number(calls::exchange(&mut self.bytes, &bytes))
     }
 
     /// relay's bound on the size of the segment's jerk, axis by axis; +infinity where that is not finite. It is read off the image: no tick
@@ -107,7 +107,7 @@ impl Image {
     /// Whether a tick would take this image, and why not: what [`Image::tick`] would be refused for.
     pub fn check(&self) -> Result<(), Refusal> {
         FloatFault::check()?;
-        Refusal::check(calls::tick_refusal(&self.bytes, TICK_BYTES, ANSWER_BYTES))
+        Refusal::from_number(calls::tick_refusal(&self.bytes, TICK_BYTES, ANSWER_BYTES))
     }
 
     /// The lower threshold, as set-up left it.

@@ -84,7 +84,7 @@ impl Log {
         if self.buffer.len() - self.len < RECORD_BYTES {
             self.make_room(2 * self.len + RECORD_BYTES);
         }
-        Refusal::check(calls::log_append(&mut self.buffer, self.len as u64, input, answer))?;
+        Refusal::from_number(calls::log_append(&mut self.buffer, self.len as u64, input, answer))?;
         self.len += RECORD_BYTES;
         Ok(())
     }

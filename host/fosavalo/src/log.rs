@@ -40,7 +40,7 @@ impl<'a> LogView<'a> {
     /// The record at a place, counted from 0; None from the count on.
     pub fn get(&self, place: usize) -> Option<Record> {
         let mut bytes = [0; RECORD_BYTES];
-        Refusal::check(calls::log_record(self.bytes, place as u64, &mut bytes)).ok()?;
+        Refusal::from_number(calls::log_record(self.bytes, place as u64, &mut bytes)).ok()?;
         Some(Record { bytes })
     }
 
@@ -76,7 +76,7 @@ impl<'a> IntoIterator for &LogView<'a> {
 
 fn count(bytes: &[u8]) -> Result<usize, Refusal> {
     let mut count = [0; 4];
-    Refusal::check(calls::log_count(bytes, &mut count))?;
+    Refusal::from_number(calls::log_count(bytes, &mut count))?;
     // at most 65,535
     Ok(u32::from_le_bytes(count) as usize)
 }

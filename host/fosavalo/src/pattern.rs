@@ -123,7 +123,7 @@ impl Pattern {
 
 /// What the core says of the form of these bytes, which comes before all else that it says; there is no room for a route, so no leg is compared.
 fn check(bytes: &[u8]) -> Result<(), Refusal> {
-    match Refusal::check(calls::pattern_expand(bytes, &mut [], &mut [0; 4])) {
+    match Refusal::from_number(calls::pattern_expand(bytes, &mut [], &mut [0; 4])) {
         Err(Refusal::BrokenPattern) => Err(Refusal::BrokenPattern),
         _ => Ok(()),
     }

@@ -8,9 +8,9 @@ use core::fmt;
 /// ```
 /// use fosavalo::Refusal;
 ///
-/// let refusal = Refusal::BrokenImage;
-/// assert_eq!(refusal.number(), Some(4));
-/// assert_eq!(refusal.to_string(), "refused (4): the image is none that set-up, a tick or an exchange leaves");
+/// let refusal = Refusal::LegCount;
+/// assert_eq!(refusal.number(), Some(5));
+/// assert_eq!(refusal.to_string(), "refused (5): a route has 1 to 32 legs");
 ///
 /// // an error like any other
 /// fn fly() -> Result<(), Box<dyn std::error::Error>> {
@@ -25,11 +25,11 @@ use core::fmt;
 pub enum Refusal {
     /// 1: the image is not 396 bytes long.
     ImageLength,
-    /// 2: the input is not 204 bytes long at set-up, 68 at a tick and in a log; or what takes a log's count, the verdict on it or a route's length is not 4.
+    /// 2: the input is not 204 bytes long at set-up, 76 at an exchange, 68 at a tick and in a log; or what takes a log's count, the verdict on it or a route's length is not 4.
     InputLength,
     /// 3: the answer is not 40 bytes long, or the sample not 52.
     AnswerLength,
-    /// 4: no set-up and no tick leaves such an image.
+    /// 4: no set-up, no tick and no exchange leaves such an image.
     BrokenImage,
     /// 5: a route has 1 to 32 legs.
     LegCount,
@@ -67,11 +67,11 @@ impl Refusal {
     /// ```
     /// use fosavalo::Refusal;
     ///
-    /// assert_eq!(Refusal::check(0), Ok(()));
-    /// assert_eq!(Refusal::check(2), Err(Refusal::InputLength));
-    /// assert_eq!(Refusal::check(77), Err(Refusal::Other(77)));
+    /// assert_eq!(Refusal::from_number(0), Ok(()));
+    /// assert_eq!(Refusal::from_number(2), Err(Refusal::InputLength));
+    /// assert_eq!(Refusal::from_number(77), Err(Refusal::Other(77)));
     /// ```
-    pub fn check(number: u32) -> Result<(), Refusal> {
+    pub fn from_number(number: u32) -> Result<(), Refusal> {
         Err(match number {
             0 => return Ok(()),
             1 => Refusal::ImageLength,
@@ -90,6 +90,13 @@ impl Refusal {
             14 => Refusal::RecordLength,
             other => Refusal::Other(other),
         })
+    }
+
+    /// The name of [`Refusal::from_number`] up to 0.14.
+    #[deprecated(since = "0.15.0", note = "it is `from_number`")]
+    #[doc(hidden)]
+    pub fn check(number: u32) -> Result<(), Refusal> {
+        Refusal::from_number(number)
     }
 
     /// The documents' number; None where the core was not called.
@@ -180,15 +187,8 @@ impl fmt::Display for Refusal {
     }
 }
 
-impl core::error::Error for Refusal {
-    fn source(&self) -> Option<&(dyn core::error::Error + 'static)> {
-        match self {
-            Refusal::Floats(fault) => Some(fault),
-            Refusal::Version(fault) => Some(fault),
-            _ => None,
-        }
-    }
-}
+/// What it says is all there is to say, so it has no source: a report that goes down the sources says each thing once.
+impl core::error::Error for Refusal {}
 
 impl From<VersionFault> for Refusal {
     fn from(fault: VersionFault) -> Self {

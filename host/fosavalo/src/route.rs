@@ -86,7 +86,7 @@ impl Route {
     pub fn expand(pattern: &[u8]) -> Result<Self, Refusal> {
         FloatFault::check()?;
         let (mut bytes, mut written) = ([0; LONGEST], [0; 4]);
-        Refusal::check(calls::pattern_expand(pattern, &mut bytes, &mut written))?;
+        Refusal::from_number(calls::pattern_expand(pattern, &mut bytes, &mut written))?;
         Ok(Route { bytes, len: u32::from_le_bytes(written) as usize })
     }
 
@@ -134,7 +134,7 @@ fn check(route: &[u8]) -> Result<(), Refusal> {
 }
 
 fn ask(route: &[u8]) -> Result<(), Refusal> {
-    Refusal::check(calls::route_sample(route, 0.0, &mut [0; SAMPLE_BYTES]))
+    Refusal::from_number(calls::route_sample(route, 0.0, &mut [0; SAMPLE_BYTES]))
 }
 
 impl fmt::Debug for Route {

@@ -59,7 +59,7 @@ impl Sample {
     fn of(route: &[u8], time: f32) -> Result<Self, Refusal> {
         FloatFault::check()?;
         let mut bytes = [0; SAMPLE_BYTES];
-        Refusal::check(calls::route_sample(route, time, &mut bytes))?;
+        Refusal::from_number(calls::route_sample(route, time, &mut bytes))?;
         Sample::from_bytes(&bytes)
     }
 }

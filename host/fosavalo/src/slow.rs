@@ -16,6 +16,6 @@ pub fn looked_back(margins: &[f32], enter: f32, exit: f32) -> Result<Vec<Pilot>,
     FloatFault::check()?;
     let words: Vec<u8> = margins.iter().flat_map(|margin| margin.to_le_bytes()).collect();
     let mut flags = vec![1; margins.len()];
-    Refusal::check(calls::flags(&words, enter, exit, &mut flags))?;
+    Refusal::from_number(calls::flags(&words, enter, exit, &mut flags))?;
     Ok(flags.into_iter().map(|flag| if flag == 0 { Pilot::Planner } else { Pilot::Fallback }).collect())
 }

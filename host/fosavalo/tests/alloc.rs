@@ -27,7 +27,7 @@ fn flown() -> Result<bool, fosavalo_desk::Refusal> {
     let mut log = [0; 120];
     log[..12].copy_from_slice(&EMPTY_LOG);
     let record = Record::new(&input, &answer);
-    fosavalo::Refusal::check(calls::log_append(&mut log, 12, &record.as_bytes()[..68], &record.as_bytes()[68..]))?;
+    fosavalo::Refusal::from_number(calls::log_append(&mut log, 12, &record.as_bytes()[..68], &record.as_bytes()[68..]))?;
     Ok(LogView::from_bytes(&log)?.check(Profile::Whole, set_up.enter, set_up.exit)?.is_right())
 }
 "#;

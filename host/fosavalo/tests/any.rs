@@ -283,9 +283,9 @@ fn wrong_lengths() {
 /// Every number has words, and the number is kept.
 #[test]
 fn refusals() {
-    assert_eq!(Refusal::check(0), Ok(()));
+    assert_eq!(Refusal::from_number(0), Ok(()));
     for number in (1..20).chain([u32::MAX]) {
-        let refusal = Refusal::check(number).expect_err("a number above 0 is a refusal");
+        let refusal = Refusal::from_number(number).expect_err("a number above 0 is a refusal");
         assert_eq!(refusal.number(), Some(number));
         assert!(refusal.to_string().contains(&format!("({number}): ")));
     }

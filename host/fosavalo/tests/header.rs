@@ -193,7 +193,7 @@ fn lengths_numbers_and_words() {
 
     // the crate has the same words for each number, and both have words for the same ones
     let said = values("meanings", "%s", &(1..40u32).map(|number| format!("fosavalo_meaning({number}u)")).collect::<Vec<_>>());
-    let own: Vec<String> = (1..40).filter_map(|number| Some(Refusal::check(number).err()?.meaning().to_string())).collect();
+    let own: Vec<String> = (1..40).filter_map(|number| Some(Refusal::from_number(number).err()?.meaning().to_string())).collect();
     assert_eq!(said, own);
 
     let empty: Vec<String> = (0..EMPTY_LOG.len()).map(|at| format!("((const uint8_t[])FOSAVALO_EMPTY_LOG)[{at}]")).collect();

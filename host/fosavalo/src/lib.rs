@@ -26,7 +26,7 @@
 //! | an aircraft that has lost a rotor | [`Profile::LostRotor`] |
 //! | a path of several legs | [`Leg`], [`Route`], [`Image::route_tick`] |
 //! | where the aircraft should be | [`Segment::sample`], [`Route::sample`], [`Sample`] |
-//! | loops that are flown several times | [`Pattern`], [`Pattern::expand`] |
+//! | loops that are flown several times | [`Pattern`], [`PatternItem`], [`Pattern::expand`] |
 //! | another segment in flight, and the peaks of its jerk | [`Image::exchange`], [`Image::peak_abs_jerk`] |
 //! | ticks to keep, or a flight to look at | [`Log`], [`LogView`], [`Record`] |
 //! | a flight longer than a log | [`LogSeries`], [`SeriesCheck`] |
@@ -56,6 +56,7 @@ mod audit;
 pub mod calls;
 mod floats;
 mod image;
+mod items;
 #[cfg(feature = "alloc")]
 mod kept;
 mod log;
@@ -83,7 +84,7 @@ pub use kept::Log;
 pub use log::{LogView, Record, Records};
 pub use mended::Mended;
 #[cfg(feature = "alloc")]
-pub use pattern::Pattern;
+pub use pattern::{Pattern, PatternItem};
 pub use refusal::Refusal;
 pub use route::{Leg, Route};
 pub use sample::Sample;

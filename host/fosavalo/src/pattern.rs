@@ -1,11 +1,8 @@
-use crate::words::Put;
+use crate::items::{Item, Items, LEG, REPEAT};
+use crate::words::{Put, Take};
 use crate::{calls, Leg, Refusal, Route, LEG_BYTES};
 use alloc::vec::Vec;
 use core::fmt;
-
-/// The tag of a leg, and that of a repeat.
-const LEG: u8 = 0;
-const REPEAT: u8 = 1;
 
 /// Legs and repeats of them, before they are a [`Route`]: a list of items, perhaps empty, each a leg or a repeat, flown 1 to 9 times, that holds a
 /// pattern of its own. Repeats may stand inside repeats four deep. What a `Pattern` holds has that form; whether its legs are a route is
@@ -26,10 +23,10 @@ const REPEAT: u8 = 1;
 /// let route = pattern.expand()?;
 /// assert!(route.legs().eq([rest, out, back, out, back, out, back]));
 ///
-/// // the legs have to meet from round to round as well
+/// // the legs have to meet from round to round as well: the second that is flown, counted from 0
 /// let mut apart = Pattern::new();
 /// apart.leg(&out);
-/// assert_eq!(Pattern::new().repeat(2, &apart)?.expand(), Err(Refusal::LegsApart(None)));
+/// assert_eq!(Pattern::new().repeat(2, &apart)?.expand(), Err(Refusal::LegsApart(Some(1))));
 /// # Ok::<(), Refusal>(())
 /// ```
 #[derive(Clone, Default, PartialEq, Eq, Hash)]
@@ -100,6 +97,26 @@ impl Pattern {
         said.map(|()| self)
     }
 
+    /// The items, as they were put there.
+    ///
+    /// ```
+    /// use fosavalo::{Pattern, PatternItem, SetUp};
+    ///
+    /// let rest = SetUp::falcon_quad().segment;
+    /// let mut inner = Pattern::new();
+    /// inner.leg(&rest);
+    /// let mut pattern = Pattern::new();
+    /// pattern.leg(&rest).repeat(3, &inner)?;
+    /// assert!(pattern.items().eq([PatternItem::Leg(rest), PatternItem::Repeat { count: 3, inner }]));
+    /// # Ok::<(), fosavalo::Refusal>(())
+    /// ```
+    pub fn items(&self) -> impl Iterator<Item = PatternItem> + '_ {
+        Items(&self.bytes).map(|item| match item {
+            Item::Leg(leg) => PatternItem::Leg(Leg::take(&mut Take(leg))),
+            Item::Repeat(count, inner) => PatternItem::Repeat { count, inner: Pattern { bytes: inner.to_vec() } },
+        })
+    }
+
     /// The bytes: for a leg 0 and its 76 bytes; for a repeat 1, its count, the length of what it holds in two bytes, little-endian, and that.
     pub fn as_bytes(&self) -> &[u8] {
         &self.bytes
@@ -115,7 +132,8 @@ impl Pattern {
         self.bytes.is_empty()
     }
 
-    /// The legs in the order in which they are flown, as a route; refused where these are none or more than 32, and where two do not meet.
+    /// The legs in the order in which they are flown, as a route; refused where these are none or more than 32, and where two do not meet, which are
+    /// told in that order.
     pub fn expand(&self) -> Result<Route, Refusal> {
         Route::expand(&self.bytes)
     }
@@ -131,6 +149,21 @@ fn check(bytes: &[u8]) -> Result<(), Refusal> {
 
 impl fmt::Debug for Pattern {
     fn fmt(&self, f: &mut fmt::Formatter<'_>) -> fmt::Result {
-        write!(f, "Pattern of {} bytes", self.bytes.len())
+        f.write_str("Pattern ")?;
+        f.debug_list().entries(self.items()).finish()
     }
+}
+
+/// What stands in a [`Pattern`]: [`Pattern::items`].
+#[derive(Clone, Debug, PartialEq)]
+pub enum PatternItem {
+    /// Flown once.
+    Leg(Leg),
+    /// Flown several times.
+    Repeat {
+        /// 1 to 9.
+        count: u8,
+        /// What is repeated.
+        inner: Pattern,
+    },
 }

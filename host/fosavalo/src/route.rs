@@ -1,3 +1,4 @@
+use crate::items::flown;
 use crate::words::{Put, Take};
 use crate::{calls, FloatFault, Refusal, Segment, LEG_BYTES, MOST_LEGS, ROUTE_TRAILER_BYTES, SAMPLE_BYTES};
 use core::fmt;
@@ -73,7 +74,7 @@ impl Route {
     }
 
     /// From a pattern's bytes: its legs in the order in which they are flown. Refused where these bytes are no [`Pattern`](crate::Pattern), where it has no
-    /// leg or more than 32, and where two do not meet; which, is not told.
+    /// leg or more than 32, and where two do not meet; which, is told in flown order.
     ///
     /// ```
     /// use fosavalo::{Refusal, Route};
@@ -86,8 +87,23 @@ impl Route {
     pub fn expand(pattern: &[u8]) -> Result<Self, Refusal> {
         FloatFault::check()?;
         let (mut bytes, mut written) = ([0; LONGEST], [0; 4]);
-        Refusal::from_number(calls::pattern_expand(pattern, &mut bytes, &mut written))?;
-        Ok(Route { bytes, len: u32::from_le_bytes(written) as usize })
+        match Refusal::from_number(calls::pattern_expand(pattern, &mut bytes, &mut written)) {
+            Ok(()) => Ok(Route { bytes, len: u32::from_le_bytes(written) as usize }),
+            // of 1 to 32 legs: the core has judged that before
+            Err(Refusal::LegsApart(None)) => {
+                let (mut legs, mut to) = (0, bytes.chunks_exact_mut(LEG_BYTES));
+                flown(pattern, &mut |leg| {
+                    to.next().into_iter().for_each(|own| own.copy_from_slice(leg));
+                    legs += 1;
+                });
+                let back = legs * LEG_BYTES;
+                // both are small
+                let trailer = [legs, back].map(|word| (word as u32).to_le_bytes());
+                bytes.iter_mut().skip(back).zip(trailer.as_flattened()).for_each(|(own, byte)| *own = *byte);
+                Err(check(bytes.get(..back + ROUTE_TRAILER_BYTES).unwrap_or_default()).err().unwrap_or(Refusal::LegsApart(None)))
+            }
+            Err(refusal) => Err(refusal),
+        }
     }
 
     /// The bytes: 19 words a leg, then the count and how many bytes back the first leg starts.

@@ -136,7 +136,7 @@ map:
 	@$(HOST) run --release --offline --quiet --bin map
 
 clean:
-	rm -rf target host/target gate
+	rm -rf target host/target gate dist examples/c/joint examples/rust/target python/__pycache__
 
 help:
 	@sed -n 's/^# //p; /^\.PHONY/q' Makefile

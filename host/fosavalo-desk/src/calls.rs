@@ -9,7 +9,10 @@
 //! assert_eq!(calls::setup(&mut desk, &[0; DESK_SETUP_BYTES]), 0);
 //!
 //! // a blank image is broken: the core's number, and the input is as it was
-//! let mut tick = |image: &mut [u8], input: &mut [u8]| calls::tick(&mut desk, &[0; STICKS_BYTES], image, input, &mut [0; ANSWER_BYTES]);
+//! let (sticks, mut answer) = ([0; STICKS_BYTES], [0; ANSWER_BYTES]);
+//! let mut tick = |image: &mut [u8], input: &mut [u8]| {
+//!     calls::tick(&mut desk, &sticks, image, input, &mut answer)
+//! };
 //! assert_eq!(tick(&mut image, &mut input), 4);
 //! assert_eq!(input, [0xff; TICK_BYTES]);
 //!

@@ -7,15 +7,18 @@
 //!
 //! // half a turn at most, and no faster than 0.5 rad/s; the zoom alike
 //! let stick = Stick { omega_n: 2.0, max_mag: 3.1, max_rate: 0.5 };
-//! let mut desk = Desk::set_up(&DeskSetUp { heading: stick, turn: Stick { max_mag: 0.5, ..stick }, zoom: stick })?;
+//! let turn = Stick { max_mag: 0.5, ..stick };
+//! let mut desk = Desk::set_up(&DeskSetUp { heading: stick, turn, zoom: stick })?;
 //! let mut image = Image::set_up(&SetUp::falcon_quad())?;
 //!
-//! // the heading's stick to its end, and turn at the rate at which the heading will move: what is flown is the filters' values, not the sticks'
+//! // the heading's stick to its end, and turn at the rate at which the heading will move;
+//! // what is flown is the filters' values, not the sticks'
 //! let sticks = Sticks { heading: 1.0, turn: 0.5, zoom: -1.0 };
 //! let mut input = TickInput { dt: 0.0625, ..TickInput::default() };
 //! desk.tick(&sticks, &mut image, &mut input)?;
 //! assert_eq!((desk.heading(), desk.turn()), (0.015625, 0.0078125));
-//! assert_eq!((input.yaw, input.yaw_rate), (0.015625, 0.0078125)); // so a log of `input` keeps what was flown
+//! // so a log of `input` keeps what was flown
+//! assert_eq!((input.yaw, input.yaw_rate), (0.015625, 0.0078125));
 //! assert_eq!(desk.zoom_rate(), -0.015625);
 //!
 //! // the button

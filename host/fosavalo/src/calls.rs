@@ -77,7 +77,8 @@ mod raw {
 /// The archive's version: 65536 times its first number, 256 times its second, and its third. The crate's own is of the same form.
 ///
 /// ```
-/// let own = env!("CARGO_PKG_VERSION").split('.').fold(0, |all, part| 256 * all + part.parse::<u32>().unwrap());
+/// let parts = env!("CARGO_PKG_VERSION").split('.').map(|part| part.parse::<u32>().unwrap());
+/// let own = parts.fold(0, |all, part| 256 * all + part);
 /// assert_eq!(fosavalo::calls::version(), own);
 /// ```
 #[inline]
@@ -158,7 +159,8 @@ pub fn tick(image: &mut [u8], input: &[u8], answer: &mut [u8]) -> u32 {
 ///
 /// let mut image = [0; IMAGE_BYTES];
 /// calls::setup(&mut image, &SetUp::falcon_quad().to_bytes());
-/// let mut fly = |route: &[u8]| calls::route_tick(&mut image, &[0; TICK_BYTES], route, &mut [0; ANSWER_BYTES]);
+/// let (input, mut answer) = ([0; TICK_BYTES], [0; ANSWER_BYTES]);
+/// let mut fly = |route: &[u8]| calls::route_tick(&mut image, &input, route, &mut answer);
 /// assert_eq!(fly(&[0; 7]), 6); // too short for a trailer
 /// assert_eq!(fly(&[0; 8]), 5); // no leg
 /// ```
@@ -204,8 +206,9 @@ pub fn route_sample(route: &[u8], time: f32, sample: &mut [u8]) -> u32 {
 /// ```
 /// use fosavalo::{calls, ANSWER_BYTES, IMAGE_BYTES, TICK_BYTES};
 ///
-/// assert_eq!(calls::tick_refusal(&[0; IMAGE_BYTES], TICK_BYTES, ANSWER_BYTES), 4); // a blank image is broken
-/// assert_eq!(calls::tick_refusal(&[0; IMAGE_BYTES], TICK_BYTES, 0), 3); // the lowest number wins
+/// let blank = [0; IMAGE_BYTES];
+/// assert_eq!(calls::tick_refusal(&blank, TICK_BYTES, ANSWER_BYTES), 4); // it is broken
+/// assert_eq!(calls::tick_refusal(&blank, TICK_BYTES, 0), 3); // the lowest number wins
 /// ```
 #[inline]
 pub fn tick_refusal(image: &[u8], input_len: usize, answer_len: usize) -> u32 {
@@ -222,7 +225,8 @@ pub fn tick_refusal(image: &[u8], input_len: usize, answer_len: usize) -> u32 {
 /// // room for one record
 /// let mut buffer = [0; 120];
 /// buffer[..12].copy_from_slice(&EMPTY_LOG);
-/// let mut append = |log_len| calls::log_append(&mut buffer, log_len, &[1; TICK_BYTES], &[2; ANSWER_BYTES]);
+/// let (input, answer) = ([1; TICK_BYTES], [2; ANSWER_BYTES]);
+/// let mut append = |log_len| calls::log_append(&mut buffer, log_len, &input, &answer);
 /// assert_eq!(append(121), 8); // longer than the buffer
 /// assert_eq!(append(12), 0);
 /// assert_eq!(append(120), 9); // no room
@@ -297,7 +301,8 @@ pub fn log_check(log: &[u8], profile: u32, enter: f32, exit: f32, verdict: &mut 
 /// let mut flags = [7; 3];
 /// assert_eq!(fosavalo::calls::flags(&margins, 0.5, 1.0, &mut flags), 0);
 /// assert_eq!(flags, [0, 0, 1]);
-/// assert_eq!(fosavalo::calls::flags(&margins[1..], 0.5, 1.0, &mut flags), 9); // a word that is short of a byte
+/// // a word that is short of a byte
+/// assert_eq!(fosavalo::calls::flags(&margins[1..], 0.5, 1.0, &mut flags), 9);
 /// ```
 #[inline]
 pub fn flags(margins: &[u8], enter: f32, exit: f32, flags: &mut [u8]) -> u32 {

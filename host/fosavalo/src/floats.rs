@@ -27,7 +27,8 @@ use core::fmt;
 ///
 /// assert_eq!(FloatFault::check(), Ok(()));
 /// let refusal = Refusal::from(FloatFault::Subnormals);
-/// assert_eq!(refusal.to_string(), "refused: the floating-point environment of this thread does not keep subnormal numbers");
+/// let told = "refused: the floating-point environment of this thread does not keep subnormal numbers";
+/// assert_eq!(refusal.to_string(), told);
 /// assert_eq!(refusal.number(), None); // the core was not called
 /// ```
 #[derive(Clone, Copy, Debug, PartialEq, Eq, Hash)]

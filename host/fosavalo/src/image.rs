@@ -10,9 +10,13 @@ use core::fmt;
 ///
 /// let mut image = Image::set_up(&SetUp::falcon_quad())?; // enter 0.5, exit 1
 /// // tilted, by the sine of half the angle: psi is twice its square, and the margin 1.75 less psi
-/// let mut fly = |x: f32| image.tick(&TickInput { attitude: [(1.0 - x * x).sqrt(), x, 0.0, 0.0], ..TickInput::default() }).map(|a| (a.margin, a.pilot));
+/// let mut fly = |x: f32| {
+///     let attitude = [(1.0 - x * x).sqrt(), x, 0.0, 0.0];
+///     image.tick(&TickInput { attitude, ..TickInput::default() }).map(|a| (a.margin, a.pilot))
+/// };
 ///
-/// assert_eq!(fly(0.625)?, (0.96875, Pilot::Fallback)); // a fresh shield is engaged, and the band does not release it
+/// // a fresh shield is engaged, and the band does not release it
+/// assert_eq!(fly(0.625)?, (0.96875, Pilot::Fallback));
 /// assert_eq!(fly(0.5)?, (1.25, Pilot::Planner)); // above exit
 /// assert_eq!(fly(0.625)?, (0.96875, Pilot::Planner)); // in the band nothing changes hands
 /// assert_eq!(fly(0.8125)?, (0.4296875, Pilot::Fallback)); // below enter

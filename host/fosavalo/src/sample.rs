@@ -13,7 +13,8 @@ use crate::{calls, FloatFault, Refusal, Route, Segment, LEG_BYTES, ROUTE_TRAILER
 /// // where the aircraft is, by its own estimate
 /// let aircraft = [0.25f32, 0.0, 0.0];
 /// let wanted = segment.sample(image.time())?;
-/// let apart = wanted.position.iter().zip(aircraft).map(|(wanted, is)| (wanted - is).powi(2)).sum::<f32>().sqrt();
+/// let squares = wanted.position.iter().zip(aircraft).map(|(wanted, is)| (wanted - is).powi(2));
+/// let apart = squares.sum::<f32>().sqrt();
 /// image.tick(&TickInput { tracking_error: apart, ..TickInput::default() })?;
 /// # Ok::<(), fosavalo::Refusal>(())
 /// ```
@@ -74,8 +75,9 @@ impl Route {
     /// let rest = SetUp::falcon_quad().segment; // at the origin for 1 s
     /// let out = Leg { pf: [3.0, 0.0, 0.0], t: 4.0, ..rest };
     /// let route = Route::new(&[rest, out])?;
-    /// assert_eq!((route.sample(0.5)?.leg, route.sample(0.5)?.position), (0, [0.0; 3]));
-    /// assert_eq!((route.sample(3.0)?.leg, route.sample(3.0)?.position), (1, [1.5, 0.0, 0.0])); // half of the way
+    /// let at = |time| route.sample(time).map(|sample| (sample.leg, sample.position));
+    /// assert_eq!(at(0.5)?, (0, [0.0; 3]));
+    /// assert_eq!(at(3.0)?, (1, [1.5, 0.0, 0.0])); // half of the way
     /// assert_eq!(route.sample(f32::NAN)?, route.sample(5.0)?);
     /// # Ok::<(), fosavalo::Refusal>(())
     /// ```

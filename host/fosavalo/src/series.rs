@@ -136,7 +136,8 @@ impl Extend<Record> for LogSeries {
 /// let mut check = SeriesCheck::new(Profile::Whole, 0.5, 1.0);
 /// assert_eq!(check.log(first.view())?, Verdict::Right);
 /// assert_eq!(check.pilot(), Pilot::Planner);
-/// // places are counted over both: the margin of the third record engages the shield, and its flag does not say so
+/// // places are counted over both: the margin of the third record engages the shield, and its
+/// // flag does not say so
 /// assert_eq!(check.log(second.view())?, Verdict::WrongAt(2));
 /// # Ok::<(), fosavalo::Refusal>(())
 /// ```

@@ -158,9 +158,15 @@ impl GyroFilter {
 /// ```
 /// use fosavalo::{BodyRate, Image, Pilot, Profile, SetUp, TickInput};
 ///
-/// // spinning at 20 rad/s, with no heading: the planner flies, and nothing is asked about the third axis
+/// // spinning at 20 rad/s, with no heading: the planner flies, and nothing is asked about the
+/// // third axis
 /// let mut image = Image::set_up(&SetUp { profile: Profile::LostRotor, ..SetUp::falcon_quad() })?;
-/// let spinning = TickInput { gyro: BodyRate([0.0, 0.0, 20.0]), yaw: f32::NAN, planner: BodyRate([0.5, 0.0, 2.0]), ..TickInput::default() };
+/// let spinning = TickInput {
+///     gyro: BodyRate([0.0, 0.0, 20.0]),
+///     yaw: f32::NAN,
+///     planner: BodyRate([0.5, 0.0, 2.0]),
+///     ..TickInput::default()
+/// };
 /// let answer = image.tick(&spinning)?;
 /// assert_eq!((answer.pilot, answer.margin), (Pilot::Planner, 1.75));
 /// assert_eq!((answer.command.0, answer.torque.0[2]), ([0.5, 0.0, 0.0], 0.0));

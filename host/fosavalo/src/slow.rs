@@ -6,10 +6,10 @@ use alloc::{vec, vec::Vec};
 /// [`Refusal::NoRoom`] more than [`MOST_MARGINS`](crate::MOST_MARGINS).
 ///
 /// ```
-/// use fosavalo::{looked_back, Pilot};
+/// use fosavalo::{looked_back, Pilot::Fallback, Pilot::Planner};
 ///
 /// let flown = looked_back(&[1.0, 1.5, 0.75, 0.25, 0.75], 0.5, 1.0)?;
-/// assert_eq!(flown, [Pilot::Fallback, Pilot::Planner, Pilot::Planner, Pilot::Fallback, Pilot::Fallback]);
+/// assert_eq!(flown, [Fallback, Planner, Planner, Fallback, Fallback]);
 /// # Ok::<(), fosavalo::Refusal>(())
 /// ```
 pub fn looked_back(margins: &[f32], enter: f32, exit: f32) -> Result<Vec<Pilot>, Refusal> {

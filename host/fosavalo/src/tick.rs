@@ -25,7 +25,9 @@ impl From<[f32; 3]> for Torque {
 /// Whose rate command is flown.
 ///
 /// ```
-/// assert_eq!(format!("{:>8}, {}", fosavalo::Pilot::Planner, fosavalo::Pilot::Fallback), " planner, fallback");
+/// use fosavalo::Pilot::{Fallback, Planner};
+///
+/// assert_eq!(format!("{Planner:>8}, {Fallback}"), " planner, fallback");
 /// ```
 #[derive(Clone, Copy, Debug, PartialEq, Eq, Hash)]
 pub enum Pilot {

@@ -22,7 +22,8 @@ const fn digits(text: &str) -> u32 {
 /// assert_eq!(VersionFault::check("fosavalo", calls::version()), Ok(()));
 /// let told = VersionFault::check("fosavalo", 0x0e02).map_err(|fault| fault.to_string());
 /// let own = env!("CARGO_PKG_VERSION");
-/// assert_eq!(told, Err(format!("libfosavalo.a is of version 0.14.2, its crate of {own}: link both of one release")));
+/// let both = format!("libfosavalo.a is of version 0.14.2, its crate of {own}");
+/// assert_eq!(told, Err(format!("{both}: link both of one release")));
 /// ```
 #[derive(Clone, Copy, Debug, PartialEq, Eq, Hash)]
 pub struct VersionFault {

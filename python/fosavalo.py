@@ -116,6 +116,15 @@ def _whole(value, name, bits):
     return value.__index__()
 
 
+def _bytes(data, name="data"):
+    # not bytes(data), which takes a number for a length
+    try:
+        with memoryview(data) as view:
+            return view.tobytes()
+    except TypeError:
+        raise _wrong(name, "bytes", data) from None
+
+
 def _size(kind):
     if isinstance(kind, tuple):
         return _size(kind[0]) * kind[1]
@@ -177,7 +186,7 @@ class _Words:
     @classmethod
     def from_bytes(cls, data):
         """Refused where these are too few or too many."""
-        data = bytes(data)
+        data = _bytes(data)
         if len(data) != _size(cls):
             raise Refusal(cls._refusal)
         return _take(cls, data, 0)
@@ -188,7 +197,7 @@ _ZERO = (0.0, 0.0, 0.0)
 
 def _given(kind, value, name):
     """The words of a value; bytes are the words themselves."""
-    return bytes(value) if isinstance(value, (bytes, bytearray, memoryview)) else _put(kind, value, name)
+    return _bytes(value) if isinstance(value, (bytes, bytearray, memoryview)) else _put(kind, value, name)
 
 
 @dataclass
@@ -390,17 +399,11 @@ def _find(name):
     raise OSError(f"lib{name}.so is not there, nor where the system has libraries: {', '.join(tried[: 1 if given else 2])}; set FOSAVALO_LIB_DIR to its folder")
 
 
-def _lent(data, name):
+def _lent(data):
     """A buffer's address and length, with what keeps it there. What may be written is lent as it is."""
     if isinstance(data, bytes):
         return data, len(data)
-    try:
-        view = memoryview(data).cast("B")
-    except TypeError:
-        raise _wrong(name, "bytes", data) from None
-    if len(view) == 0:
-        return None, 0
-    return (bytes(view) if view.readonly else ctypes.byref(ctypes.c_char.from_buffer(view))), len(view)
+    return (ctypes.byref(ctypes.c_char.from_buffer(data)) if data else None), len(data)
 
 
 class _Calls:
@@ -430,16 +433,22 @@ class _Calls:
         def call(*given):
             if len(given) != len(names):
                 raise TypeError(f"{function.__name__} takes {', '.join(names)}")
-            flat = []
+            right = []
             for (name, kind), value in zip(parameters, given):
                 if kind == "f32":
-                    flat.append(_float(value, name))
-                elif kind:
-                    if kind == "mut" and not isinstance(value, bytearray):
-                        raise _wrong(name, "a bytearray", value)
-                    flat.extend(_lent(value, name) if kind == "mut" else [_whole(value, name, int(kind[1:]))])
+                    right.append(_float(value, name))
+                elif kind in ("u32", "u64"):
+                    right.append(_whole(value, name, int(kind[1:])))
+                elif isinstance(value, bytearray):
+                    right.append(value)
+                elif kind == "mut":
+                    raise _wrong(name, "a bytearray", value)
                 else:
-                    flat.extend(_lent(value, name))
+                    right.append(_bytes(value, name))
+            # nothing is lent before all is right: an error would keep the loan, and a bytearray that is lent cannot grow
+            flat = []
+            for (_, kind), value in zip(parameters, right):
+                flat.extend(_lent(value) if kind in ("mut", "") else [value])
             return function(*flat)
 
         return call
@@ -520,7 +529,7 @@ def cosf(x):
 def looked_back(margins, enter, exit):
     """Who flies at each of these margins, found by looking back from each; the thresholds are mended as at set-up."""
     check_floats()
-    words = bytes(margins) if isinstance(margins, (bytes, bytearray)) else b"".join(_put(float, margin, f"margins[{k}]") for k, margin in enumerate(margins))
+    words = _bytes(margins) if isinstance(margins, (bytes, bytearray)) else b"".join(_put(float, margin, f"margins[{k}]") for k, margin in enumerate(margins))
     return [Pilot(flag) for flag in _filled(len(words) // 4, lambda flags: calls().flags(words, enter, exit, flags))]
 
 
@@ -530,7 +539,7 @@ class _Held:
     _length, _refusal = 0, 0
 
     def __init__(self, data):
-        self._data = bytearray(data)
+        self._data = bytearray(_bytes(data))
         if len(self._data) != self._length:
             raise Refusal(self._refusal)
 
@@ -618,8 +627,8 @@ def _route(legs):
 def _route_bytes(route):
     if isinstance(route, Route):
         return bytes(route._data)
-    if isinstance(route, (bytes, bytearray)):
-        return bytes(route)
+    if isinstance(route, (bytes, bytearray, memoryview)):
+        return _bytes(route)
     raise _wrong("route", "a Route", route)
 
 
@@ -637,7 +646,7 @@ class Route:
     @classmethod
     def from_bytes(cls, data):
         route = cls.__new__(cls)
-        route._keep(bytes(data))
+        route._keep(_bytes(data))
         return route
 
     def _keep(self, data):
@@ -674,7 +683,7 @@ class Pattern:
 
     @classmethod
     def from_bytes(cls, data):
-        return cls()._add(bytes(data))
+        return cls()._add(_bytes(data))
 
     def leg(self, leg):
         return self._add(b"\0" + _put(Leg, leg, "leg"))
@@ -722,7 +731,7 @@ class Log:
     def from_bytes(cls, data):
         """Refused where these are no log."""
         log = cls()
-        log._data = bytearray(data)
+        log._data = bytearray(_bytes(data))
         _filled(4, lambda count: calls().log_count(log._data, count))
         return log
 

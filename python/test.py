@@ -424,6 +424,14 @@ def mistakes():
     raised(TypeError, lambda: image.route_tick(TickInput(), [Leg()]), "route has to be a Route")
     raised(TypeError, lambda: fosavalo.calls().tick(bytes(396), b"", bytearray()), "image has to be a bytearray")
     raised(TypeError, lambda: fosavalo.calls().log_record(b"", -1, bytearray()), "place has to be a whole number of 64 bits, not -1")
+    for kind in (Image, TickInput, Route, Pattern, Log, Desk):
+        raised(TypeError, lambda: kind.from_bytes(396), "data has to be bytes, not 396")
+    same(Image.from_bytes(memoryview(image.as_bytes())), image)
+    # an error that is kept keeps nothing lent
+    log = Log()
+    error = raised(TypeError, lambda: log.check(Profile.WHOLE, 0.5, "high"), "exit has to be a number, not 'high'")
+    log.append(TickInput(), image.tick(TickInput()))
+    same((len(log), error.__traceback__ is not None), (1, True))
     raised(KeyError, lambda: Log().column("height"), "a record has no height; it has gyro, attitude, ")
     raised(IndexError, lambda: Log().column("gyro", 3), "gyro has parts 0 to 2")
     raised(IndexError, lambda: Log()[0])

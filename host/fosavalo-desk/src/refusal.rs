@@ -14,6 +14,18 @@ use fosavalo::{FloatFault, VersionFault};
 /// let core = Refusal::Core(fosavalo::Refusal::ImageLength);
 /// assert_eq!(core.to_string(), "refused (1): the image is not 396 bytes long");
 /// ```
+///
+/// There may be more one day, so a match has to say what becomes of others:
+///
+/// ```compile_fail
+/// use fosavalo_desk::Refusal;
+///
+/// let whose = |refusal| match refusal {
+///     Refusal::DeskLength | Refusal::SticksLength => "the desk's",
+///     Refusal::Core(_) => "the core's",
+/// };
+/// assert_eq!(whose(Refusal::DeskLength), "the desk's");
+/// ```
 #[derive(Clone, Copy, Debug, PartialEq, Eq, Hash)]
 #[non_exhaustive]
 pub enum Refusal {

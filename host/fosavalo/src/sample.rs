@@ -48,13 +48,7 @@ impl Sample {
             return Err(Refusal::AnswerLength);
         }
         let mut from = Take(bytes);
-        Ok(Sample {
-            leg: from.word(),
-            position: from.floats(),
-            velocity: from.floats(),
-            acceleration: from.floats(),
-            jerk: from.floats(),
-        })
+        Ok(Sample { leg: from.word(), position: from.floats(), velocity: from.floats(), acceleration: from.floats(), jerk: from.floats() })
     }
 
     fn of(route: &[u8], time: f32) -> Result<Self, Refusal> {

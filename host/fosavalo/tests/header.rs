@@ -196,6 +196,9 @@ fn lengths_numbers_and_words() {
     let own: Vec<String> = (1..40).filter_map(|number| Some(Refusal::from_number(number).err()?.meaning().to_string())).collect();
     assert_eq!(said, own);
 
+    let input = format!("2: the input is not {SETUP_BYTES} bytes long at set-up, {LEG_BYTES} at an exchange, {TICK_BYTES} at a tick");
+    assert!(text("host/fosavalo/src/refusal.rs").contains(&input), "{input}");
+
     let empty: Vec<String> = (0..EMPTY_LOG.len()).map(|at| format!("((const uint8_t[])FOSAVALO_EMPTY_LOG)[{at}]")).collect();
     assert_eq!(numbers("empty", &empty), EMPTY_LOG.map(usize::from));
     assert_eq!(values("version", "%s", &["FOSAVALO_VERSION".to_string()]), [env!("CARGO_PKG_VERSION")]);

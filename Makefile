@@ -17,7 +17,7 @@
 #                  `host/target/release/fosavalo --help`
 # make choices     the pass with other choices of set, filter and noise: what hangs on them
 # make test        the gate: proofs, must-fail edits, programs, the host's comparisons; its last line is `N passed, 0 failed`.
-#                  What the prover says is kept in gate/. Where an emulator cannot be had it ends with `, M skipped` (README.md)
+#                  What the prover says is kept in gate/. Where an emulator cannot be had it ends with `, M skipped` (docs/PLATFORM.md)
 # make quick       between whole gates: the libraries that changed and those above them are proved, the host takes a tenth of its cases; its last line
 #                  says what it left out
 # make edits       every must-fail edit by the toolchain's own way, each with its whole crate proved anew (some forty minutes); `make edits CRATE=calls`

@@ -133,7 +133,7 @@ docs: core
 	@$(HOST) doc --release --offline --no-deps --package fosavalo --package fosavalo-desk
 
 map:
-	@$(HOST) run --release --offline --quiet --bin map
+	@$(HOST) run --release --offline --quiet --bin pages
 
 clean:
 	rm -rf target host/target gate dist examples/c/joint examples/rust/target python/__pycache__

@@ -7,7 +7,7 @@ import math
 import sys
 from dataclasses import replace
 
-from fosavalo import Image, Leg, Log, Pilot, Profile, SetUp, TickInput, looked_back
+from fosavalo import Image, Leg, Log, Pilot, Profile, SetUp, TickInput, slow_flags
 
 
 def fly(set_up, ticks):
@@ -37,7 +37,7 @@ def main(words):
         print(f"record {place}: the {Pilot(pilots[place])!s} takes over at a margin of {margins[place]:.4f}")
     wrong = log.check(Profile.WHOLE, enter, exit)
     print("checked: right" if wrong is None else f"checked: wrong at record {wrong}, counted from 0: {log[wrong].answer}")
-    same = looked_back(margins, enter, exit) == [Pilot(min(pilot, 1)) for pilot in pilots]
+    same = slow_flags(margins, enter, exit) == [Pilot(min(pilot, 1)) for pilot in pilots]
     print(f"by its margins alone, looked back through: {'the same' if same else 'another'}")
 
 

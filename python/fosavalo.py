@@ -526,7 +526,7 @@ def cosf(x):
     return calls().cosf(x)
 
 
-def looked_back(margins, enter, exit):
+def slow_flags(margins, enter, exit):
     """Who flies at each of these margins, found by looking back from each; the thresholds are mended as at set-up."""
     check_floats()
     words = _bytes(margins) if isinstance(margins, (bytes, bytearray)) else b"".join(_put(float, margin, f"margins[{k}]") for k, margin in enumerate(margins))

@@ -234,7 +234,7 @@ def typed(number, row):
     else:
         if len(c) != len(b) // 4:
             return False
-        said, flags = number_of(lambda: fosavalo.looked_back(b, *floats(d)[:2]))
+        said, flags = number_of(lambda: fosavalo.slow_flags(b, *floats(d)[:2]))
         same((said, flags and bytes(flags)), (wanted, None if wanted else (after_c or [])))
     return True
 
@@ -388,7 +388,7 @@ def routes():
     refused(12, lambda: Pattern().repeat(10, Pattern().leg(rest)))
     refused(12, lambda: Pattern().repeat(256, Pattern()))
     refused(5, lambda: Pattern().expand())
-    flown = fosavalo.looked_back([1.0, 1.5, 0.75, 0.25, 0.75], 0.5, 1.0)
+    flown = fosavalo.slow_flags([1.0, 1.5, 0.75, 0.25, 0.75], 0.5, 1.0)
     same([str(pilot) for pilot in flown], ["fallback", "planner", "planner", "fallback", "fallback"])
     image = Image.set_up(SetUp.falcon_quad())
     same(image.route_tick(TickInput(), route).pilot, Pilot.PLANNER)

@@ -151,7 +151,7 @@ const typedCore = (core, section, row, number, [a, b, c, d], [newA, , newC]) => 
         case 507: {
             if (c.length !== b.length >> 2) return null;
             const [, , , thresholds] = row.buffers;
-            const pilots = () => core.lookedBack(b, float(thresholds, 0), float(thresholds, 1));
+            const pilots = () => core.slowFlags(b, float(thresholds, 0), float(thresholds, 1));
             return gives(() => pilots().map((pilot) => Number(pilot === 'fallback')), newC);
         }
         case 508:

@@ -195,7 +195,7 @@ export class Core {
     /** Where a route, or a leg by itself, is at a time on the governor's clock: below 0 its start; past the end, and at NaN, its end. */
     sample(route: Route | Readonly<Leg> | Uint8Array, time: number): Sample & Bits;
     /** Who flies at each of these margins, by looking back; refused (9) above MOST_MARGINS. */
-    lookedBack(margins: Numbers | Uint8Array, enter: number, exit: number): Pilot[];
+    slowFlags(margins: Numbers | Uint8Array, enter: number, exit: number): Pilot[];
 }
 
 /** The state that goes from tick to tick. */

@@ -280,7 +280,7 @@ export class Core {
         return Sample.fromBytes(filled(SAMPLE_BYTES, (sample) => this.calls.routeSample(bytes, time, sample)));
     }
 
-    lookedBack(margins, enter, exit) {
+    slowFlags(margins, enter, exit) {
         need(margins instanceof Uint8Array || isList(margins), margins, 'margins', 'an array');
         const words = margins instanceof Uint8Array ? margins : written(Array(margins.length).fill(0), margins, 'margins');
         const flags = filled(words.length >> 2, (flags) => this.calls.flags(words, enter, exit, flags));

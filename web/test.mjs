@@ -296,9 +296,9 @@ await group("shieldtable's ten lines", () => {
     assert.equal(rows.length, 9);
     const pilots = rows.map(({ pilot }) => pilot);
     const margins = rows.map(({ margin }) => margin);
-    assert.deepEqual(core.lookedBack(margins, 0.5, 1), pilots);
-    assert.deepEqual(core.lookedBack(Float32Array.from(margins), 0.5, 1), pilots);
-    assert.deepEqual(core.lookedBack(new Uint8Array(Float32Array.from(margins).buffer), 0.5, 1), pilots);
+    assert.deepEqual(core.slowFlags(margins, 0.5, 1), pilots);
+    assert.deepEqual(core.slowFlags(Float32Array.from(margins), 0.5, 1), pilots);
+    assert.deepEqual(core.slowFlags(new Uint8Array(Float32Array.from(margins).buffer), 0.5, 1), pilots);
     // flown: attitudes of these margins, 1.75 less psi; what is no number comes as a heading that is none
     const vectors = { 1: [0.5, 0.25, 0.25], 1.5: [0.25, 0.25, 0], 0.75: [0.5, 0.5, 0], 0.5: [0.75, 0.25, 0], 0.25: [0.5, 0.5, 0.5] };
     const [image, log] = [Image.setUp(core, quad), new Log(core)];
@@ -423,8 +423,8 @@ await group('the same by the typed calls', () => {
     const taken = memory.buffer.byteLength;
     refused(8, () => Log.fromBytes(core, bytes(65536 * 108 + 12)));
     assert.equal(memory.buffer.byteLength, taken, 'what is longer than any log takes no memory');
-    refused(9, () => core.lookedBack(Array(65536).fill(0), 0.5, 1));
-    refused(9, () => core.lookedBack(bytes(7), 0.5, 1));
+    refused(9, () => core.slowFlags(Array(65536).fill(0), 0.5, 1));
+    refused(9, () => core.slowFlags(bytes(7), 0.5, 1));
     refused(10, () => SetUp.fromBytes(bytes(204, 2)));
     refused(10, () => Image.setUp(core, bytes(204, 2)));
     refused(11, () => Image.setUp(core, off));
@@ -534,10 +534,10 @@ await group('arguments that are none', () => {
         ['profile', () => log.check(0, 0.5, 1)],
         ['enter', () => log.check('whole')],
         ['exit', () => log.check('whole', 0.5, '1')],
-        ['margins', () => core.lookedBack(1, 0.5, 1)],
-        ['margins[1]', () => core.lookedBack([1, '1'], 0.5, 1)],
-        ['margins[0]', () => core.lookedBack(Array(1), 0.5, 1)],
-        ['enter', () => core.lookedBack([1], null, 1)],
+        ['margins', () => core.slowFlags(1, 0.5, 1)],
+        ['margins[1]', () => core.slowFlags([1, '1'], 0.5, 1)],
+        ['margins[0]', () => core.slowFlags(Array(1), 0.5, 1)],
+        ['enter', () => core.slowFlags([1], null, 1)],
         ['x', () => core.sinf('1')],
         ['x', () => core.cosf()],
         ['image', () => core.calls.tick([...before], bytes(68), bytes(40))],

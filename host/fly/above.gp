@@ -1,4 +1,4 @@
-# Draws a flight from above, a panel for each round, for gnuplot 5.2 or later. `thrice.rs` says before it what `stem` (of the files), `terminal` (svg or
+# Draws a flight from above, a panel for each round, for gnuplot 5.2 or later. `loop_thrice.rs` says before it what `stem` (of the files), `terminal` (svg or
 # png), `title`, `points`, and how many `panels` with their captions are.
 
 planner = 0x2a9d8f

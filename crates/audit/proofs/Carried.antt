@@ -7,7 +7,7 @@ use Rattle.words.specs.Words.{flag, word, float, bytesOf}
 use Rattle.latch.{specs.Latch.{latch, after}, proofs.LatchFlies.flag-from}
 use Rattle.joint_tick.specs.declared.profile.Profile.{Profile, the-variants.{Whole, LostRotor}}
 use Rattle.image.specs.Passed.{passedOn}
-use Rattle.slow.{specs.Back.lookBack, proofs.Slow.{flag-to, slow-is-latch}}
+use Rattle.slow_shield.{specs.Back.lookBack, proofs.Slow.{flag-to, slow-is-latch}}
 use Rattle.audit.specs.{declared.Verdict.the-variants.AllRight, Right.{flagWord, passes, passesThird, planners, finites, marginIn, marginsIn, right, rightAt}, Verdict.verdictOf}
 use Rattle.audit.specs.Series.{lastFlag, behind, Releasing, joined, PiecesRight}
 use Rattle.audit.proofs.Said.{verdict-says}

@@ -3,7 +3,7 @@ use Rattle.laws.proofs.Prelude.{ℕ, zero, suc, _+_, _-_, _*_, _/_, _<_, _≤_,
 use Rattle.laws.proofs.Prelude.{not-false, ltb, Float, nan, lt, length, getD, take, drop, length-drop, length-take-le}
 use Rattle.latch.{specs.Latch.{releases, engages, latch}, proofs.LatchFlies.released-is-calm}
 use Rattle.joint_tick.specs.declared.profile.Profile.{Profile}
-use Rattle.slow.specs.Back.{lookBack}
+use Rattle.slow_shield.specs.Back.{lookBack}
 use Rattle.log.{specs.{Form.{RECORD-BYTES, LOG-TRAILER-BYTES, MOST-RECORDS, recordCount, isLog}, Records.{bytesAt, records, hasRecord, recordAt}}, proofs.LogForm.is-a-log}
 use Rattle.log.proofs.Reading.{records-count, record-is}
 use Rattle.audit.specs.{declared.Verdict.the-variants.FirstWrong, Right.{marginIn, marginsIn, right, rightAt}, Verdict.verdictFrom}

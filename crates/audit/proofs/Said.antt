@@ -6,7 +6,7 @@ use Rattle.words.specs.Words.{floatOf, flag}
 use Rattle.latch.specs.Latch.{FliesAt}
 use Rattle.joint_tick.specs.declared.profile.Profile.{Profile, the-variants.{Whole, LostRotor}}
 use Rattle.image.specs.Passed.{plannerWord}
-use Rattle.slow.{specs.Back.lookBack, proofs.Slow.looks-back}
+use Rattle.slow_shield.{specs.Back.lookBack, proofs.Slow.looks-back}
 use Rattle.audit.specs.declared.Verdict.{Verdict, the-variants.{AllRight, FirstWrong}}
 use Rattle.audit.specs.{Right.{commandWord, flagWord, passes, passesThird, planners, finiteOn, finites, right, marginsIn, rightAt, RightAt}, Verdict.{verdictFrom, verdictOf, Says}}
 

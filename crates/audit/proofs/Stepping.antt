@@ -2,7 +2,7 @@
 use Rattle.laws.proofs.Prelude.{_≡_, sym, ap, _∙_, true, Bool, List, [], ℕ, _<_, T, Float, binary32, fits, length, getD, length-map}
 use Rattle.relay_geo.specs.{declared.set.RecoverableSet.RecoverableSet, Shield.{mendThresholds, newShield}}
 use Rattle.joint_tick.specs.declared.profile.Profile.{Profile}
-use Rattle.slow.{specs.{Back.slowFlags, Stepping.{StepGiven, marginsGiven, steppedFlags}}, proofs.Slow.{flag-to, slow-is-stepping}}
+use Rattle.slow_shield.{specs.{Back.slowFlags, Stepping.{StepGiven, marginsGiven, steppedFlags}}, proofs.Slow.{flag-to, slow-is-stepping}}
 use Rattle.audit.specs.Right.{marginIn, marginsIn, right, rightAt}
 
 -- of any set, by thresholds given as any f32, stepped by the log's margins with whatever commands: a record is right exactly as the flag of its own step asks

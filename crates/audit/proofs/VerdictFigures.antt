@@ -4,7 +4,7 @@ use Rattle.relay_math.specs.F32.{0·5, 1·0, isFinite}
 use Rattle.words.specs.Words.{word, float, bytesOf}
 use Rattle.joint_tick.specs.declared.profile.Profile.the-variants.{Whole}
 use Rattle.image.specs.Passed.{passedOn}
-use Rattle.slow.specs.Back.{lookBack}
+use Rattle.slow_shield.specs.Back.{lookBack}
 use Rattle.audit.specs.{declared.Verdict.{Verdict, the-variants.FirstWrong}, Right.{passes, passesThird, planners, finiteOn, finites, right, rightAt}, Verdict.{verdictFrom, verdictOf}}
 
 -- a record by its first agile word, its first command word, its flag and its margin; every other word is 0

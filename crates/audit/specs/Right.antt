@@ -14,7 +14,7 @@ use Rattle.joint_tick.specs.declared.profile.Profile.the-variants.{Whole, LostR
 use Rattle.image.specs.Layout.{INPUT-WORDS, AGILE, COMMAND, FLAG, MARGIN}
 use Rattle.image.specs.Passed.{passedOn, plannerWord}
 use Rattle.latch.specs.Latch.{FliesAt}
-use Rattle.slow.specs.Back.{lookBack}
+use Rattle.slow_shield.specs.Back.{lookBack}
 
 -- ---- the words of a record that are looked at; the answer stands behind the input
 

@@ -7,7 +7,7 @@ use Rattle.outcome.specs.{declared.Outcome.the-variants.Done, Outcomes.{left, C
 use Rattle.log.specs.{Form.isLog, Records.records, Runs.recordsOf}
 use Rattle.runs.specs.Runs.{Call, flying, leftBy, start, Ticks as CoreTicks}
 use Rattle.audit.specs.Entry.{checkCall}
-use Rattle.own.{specs.Own.{keepsOf, keepsAlong, ticksKept}, proofs.Own.{next-kept, any-log-accepted}}
+use Rattle.own_logs.{specs.Own.{keepsOf, keepsAlong, ticksKept}, proofs.Own.{next-kept, any-log-accepted}}
 use Rattle.desk.{specs.Entry.{deskDone, LentToDesk}, proofs.DeskCalls.refused-changes-nothing}
 use Rattle.desk_runs.specs.Runs.{DeskAndImage, deskAndImage, DeskGiven, byDesk, AnyCall, ByDesk, Button, OnCore, deskTick, heldBy, flownTick, coreCalls, coreAlong, recordsBy, recordsAlong}
 use Rattle.desk_runs.proofs.Seen.{flown-by-core}

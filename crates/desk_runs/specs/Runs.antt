@@ -6,7 +6,7 @@ use Rattle.outcome.specs.Outcomes.{Left}
 use Rattle.runs.specs.Runs.{Course, Segment, Route, Tick, Call, leftBy}
 use Rattle.runs.specs.Runs.{Ticks as CoreTicks}
 use Rattle.log.specs.Runs.{recordsOf}
-use Rattle.own.specs.Own.{keepsOf}
+use Rattle.own_logs.specs.Own.{keepsOf}
 use Rattle.desk.specs.declared.entry.DeskOutcome.{DeskOutcome}
 use Rattle.desk.specs.Entry.{deskDone, centreCall, LentToDesk, DeskCourse, OnSegment, OnRoute, deskTickCall}
 use Rattle.desk.specs.Runs.{DeskCall, Ticks, Centres}

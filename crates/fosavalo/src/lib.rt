@@ -7,7 +7,7 @@ ghost use Rattle.lent_tick.specs.Tick.{tickRefusal};
 ghost use Rattle.calls.specs.Entry.{setUpCall, exchangeCall, tickCall};
 ghost use Rattle.route.specs.Entry.{routeCall, sampleCall};
 ghost use Rattle.log.specs.Entry.{appendCall, countCall, recordCall};
-ghost use Rattle.slow.specs.Entry.{flagsCall};
+ghost use Rattle.slow_shield.specs.Entry.{flagsCall};
 ghost use Rattle.audit.specs.Entry.{checkCall};
 ghost use Rattle.pattern.specs.Entry.{buffers, expandCall};
 
@@ -119,12 +119,12 @@ pub extern "C" fn fosavalo_log_record(log: &[u8], place: u64, into: &mut [u8]) -
     outcome::number(log::record_into(log, place as usize, into))
 }
 
-// The flags of a list of margins, by looking back: the number of the outcome, and the flags' buffer as `slow::flags_into` leaves it.
+// The flags of a list of margins, by looking back: the number of the outcome, and the flags' buffer as `slow_shield::flags_into` leaves it.
 #[no_mangle]
 pub extern "C" fn fosavalo_flags(margins: &[u8], enter: f32, exit: f32, flags: &mut [u8]) -> u32
     ensures { λ r. ⌜ left r (now (flags .exit)) ≡ numbered (flagsCall (now (margins .entry)) enter exit (now (flags .entry))) ⌝ }
 {
-    outcome::number(slow::flags_into(margins, enter, exit, flags))
+    outcome::number(slow_shield::flags_into(margins, enter, exit, flags))
 }
 
 // The verdict on a log, as a word: the number of the outcome, and the verdict's buffer as `audit::check_into` leaves it.

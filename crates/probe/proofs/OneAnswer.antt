@@ -1,4 +1,4 @@
--- The test face: a call that promises what its routine promises, word for word, has that routine's theorem (host/map/tests). Here are the others: no second answer fits. Assumes nothing.
+-- The test face: a call that promises what its routine promises, word for word, has that routine's theorem (host/pages/tests). Here are the others: no second answer fits. Assumes nothing.
 use Rattle.laws.proofs.Prelude.{refl}
 use Rattle.laws.proofs.Determined.{OneAnswer, no-second, both}
 use Rattle.probe.proofs.geo

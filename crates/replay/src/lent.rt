@@ -35,7 +35,7 @@ fn flags(margins: &[u8], thresholds: &[u8], flags: &mut [u8]) -> Outcome {
     if thresholds.len() < 8 {
         return Outcome::InputLength;
     }
-    slow::flags_into(
+    slow_shield::flags_into(
         margins,
         float_at(thresholds, 0),
         float_at(thresholds, 1),

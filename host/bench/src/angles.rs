@@ -69,7 +69,7 @@ fn turns(ours: impl Fn(f32) -> f32, theirs: impl Fn(f32) -> f32, headings: &[f32
 /// The rows; false where one is over its bar.
 pub fn rows(rng: &mut Rng) -> bool {
     let ours = |x| {
-        let (s, c) = faces::sincos(x);
+        let (s, c) = archives::sincos(x);
         s + c
     };
     let theirs = |x| {
@@ -85,8 +85,8 @@ pub fn rows(rng: &mut Rng) -> bool {
     for (name, headings, barred) in [("±pi", turn, true), ("±128", near, true), ("±8192", limit, true), ("a heading that turns slowly", slow, false)] {
         let bar = |bar: f64| if barred { Bar::Both(bar) } else { Bar::None };
         let h = &headings;
-        good &= row(&format!("sine, {name}"), turns(faces::sinf, |x| theirs::sinf(x), h, Calls::Apart), bar(0.6));
-        good &= row(&format!("cosine, {name}"), turns(faces::cosf, |x| theirs::cosf(x), h, Calls::Apart), bar(0.6));
+        good &= row(&format!("sine, {name}"), turns(archives::sinf, |x| theirs::sinf(x), h, Calls::Apart), bar(0.6));
+        good &= row(&format!("cosine, {name}"), turns(archives::cosf, |x| theirs::cosf(x), h, Calls::Apart), bar(0.6));
         good &= row(&format!("pair, {name}"), turns(ours, theirs, h, Calls::Apart), bar(0.7));
         good &= row(&format!("pair in a chain, {name}"), turns(ours, theirs, h, Calls::Chained), bar(0.85));
     }

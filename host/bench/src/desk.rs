@@ -51,7 +51,7 @@ pub fn times(run: &Run) -> Option<Times> {
         least.0 = least.0.min(start.elapsed().as_nanos() as f64 / flown.len() as f64);
         let (mut image, start) = (run.start, Instant::now());
         for input in black_box(&flown) {
-            black_box(faces::tick(&mut image, input, &mut answer));
+            black_box(archives::tick(&mut image, input, &mut answer));
             black_box(&answer);
         }
         least.1 = least.1.min(start.elapsed().as_nanos() as f64 / flown.len() as f64);
@@ -69,7 +69,7 @@ fn flown(run: &Run, mut desk: [u8; DESK], moved: &[Sticks]) -> Option<Vec<Input>
     let each = |(input, sticks): (&Input, &Sticks)| {
         let (mut flown, mut answers) = (*input, [[0; ANSWER]; 2]);
         let number = calls::tick(&mut desk, sticks, &mut image, &mut flown, &mut answers[0]);
-        let same = number == 0 && faces::tick(&mut plain, &flown, &mut answers[1]) == 0 && image == plain && answers[0] == answers[1];
+        let same = number == 0 && archives::tick(&mut plain, &flown, &mut answers[1]) == 0 && image == plain && answers[0] == answers[1];
         same.then_some(flown)
     };
     run.inputs.iter().zip(moved).map(each).collect()

@@ -12,7 +12,7 @@ use compare::joint::route::Source;
 use compare::joint::sample::SAMPLE;
 use compare::log::{model, RECORD, TRAILER};
 use compare::numbers::LIMIT;
-use compare::share;
+use compare::portion;
 use std::hint::black_box;
 use std::time::Instant;
 
@@ -98,7 +98,7 @@ impl<F: Fn(&mut Image, &Input, &mut Answer)> Side for OnBytes<F> {
 
 /// The C call.
 pub fn ours(image: &mut Image, input: &Input, answer: &mut Answer) {
-    black_box(faces::tick(image, input, answer));
+    black_box(archives::tick(image, input, answer));
 }
 
 /// Rust objects made from the image's bytes at each tick, and written back.
@@ -280,24 +280,24 @@ fn stacks_on(run: &Run, route: &[u8]) -> Option<[usize; CALLS.len()]> {
         let (mut log, mut record) = ([0; TRAILER + RECORD], [0; RECORD]);
         // once: it takes as long as thousands of ticks, and no tick changes it
         let expanded = pattern::stack(pattern::MANY)?;
-        run.inputs.iter().take(share::of(256) as usize).try_fold([0; CALLS.len()], |most, input| {
+        run.inputs.iter().take(portion::of(256) as usize).try_fold([0; CALLS.len()], |most, input| {
             let yaw = f32::from_le_bytes(input[32..36].try_into().ok()?);
             log[..TRAILER].copy_from_slice(&model::written(&[]));
             let here = [
-                of(|| faces::setup(&mut fresh, &run.set_up))?,
-                of(|| faces::tick(&mut ours, input, &mut answer))?,
-                of(|| faces::route_tick(&mut routed, input, route, &mut answer))?,
-                of(|| faces::route_sample(route, yaw, &mut [0; SAMPLE]))?,
-                of(|| faces::exchange(&mut exchanged, leg))?,
-                of(|| faces::tick_refusal(&ours, TICK, ANSWER))?,
-                of(|| faces::sinf(yaw))?,
-                of(|| faces::cosf(yaw))?,
-                of(|| faces::log_append(&mut log, TRAILER as u64, input, &answer))?,
-                of(|| faces::log_count(&log, &mut [0; 4]))?,
-                of(|| faces::log_record(&log, 0, &mut record))?,
-                of(|| faces::log_check(&log, 0, 0.03, 0.07, &mut [0; 4]))?,
+                of(|| archives::setup(&mut fresh, &run.set_up))?,
+                of(|| archives::tick(&mut ours, input, &mut answer))?,
+                of(|| archives::route_tick(&mut routed, input, route, &mut answer))?,
+                of(|| archives::route_sample(route, yaw, &mut [0; SAMPLE]))?,
+                of(|| archives::exchange(&mut exchanged, leg))?,
+                of(|| archives::tick_refusal(&ours, TICK, ANSWER))?,
+                of(|| archives::sinf(yaw))?,
+                of(|| archives::cosf(yaw))?,
+                of(|| archives::log_append(&mut log, TRAILER as u64, input, &answer))?,
+                of(|| archives::log_count(&log, &mut [0; 4]))?,
+                of(|| archives::log_record(&log, 0, &mut record))?,
+                of(|| archives::log_check(&log, 0, 0.03, 0.07, &mut [0; 4]))?,
                 // any words are margins
-                of(|| faces::flags(input, 0.03, 0.07, &mut [0; TICK / 4]))?,
+                of(|| archives::flags(input, 0.03, 0.07, &mut [0; TICK / 4]))?,
                 expanded,
                 of(|| made(&mut theirs, input, &mut answer))?,
             ];
@@ -331,7 +331,7 @@ mod tests {
         for legs in [1, MOST_LEGS] {
             let route = route(legs);
             assert_eq!(route.len(), legs * 76 + 8);
-            assert_eq!(faces::route_tick(&mut run.start.clone(), &run.inputs[0], &route, &mut answer), 0);
+            assert_eq!(archives::route_tick(&mut run.start.clone(), &run.inputs[0], &route, &mut answer), 0);
         }
     }
 
@@ -352,6 +352,6 @@ mod tests {
     #[test]
     fn an_exchange_that_is_measured_is_one() {
         let run = pass();
-        assert_eq!(faces::exchange(&mut run.start.clone(), &run.set_up[4 * 17..4 * 36]), 0);
+        assert_eq!(archives::exchange(&mut run.start.clone(), &run.set_up[4 * 17..4 * 36]), 0);
     }
 }

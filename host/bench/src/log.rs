@@ -111,7 +111,7 @@ fn right(flag: fn(usize) -> u32) -> Vec<u8> {
 /// A record of the whole log's check.
 fn check(log: &[u8]) -> Option<f64> {
     let (mut verdict, start) = ([0; 4], Instant::now());
-    let number = faces::log_check(black_box(log), 0, 0.5, 1.0, black_box(&mut verdict));
+    let number = archives::log_check(black_box(log), 0, 0.5, 1.0, black_box(&mut verdict));
     let taken = start.elapsed().as_nanos() as f64 / MOST as f64;
     (number == 0 && u32::from_le_bytes(verdict) == RIGHT).then_some(taken)
 }

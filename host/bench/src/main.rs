@@ -126,7 +126,7 @@ fn routes() -> bool {
 }
 
 /// The slow shield's longest search, and the longest list with none.
-fn looked_back() -> bool {
+fn slow_shield() -> bool {
     let Some([far, near]) = slow::times() else {
         println!("slow shield: a call is refused, or a flag is wrong");
         return false;
@@ -222,7 +222,7 @@ fn all() -> bool {
     // Three visits, with the ticks between them: what disturbs the machine for a second or two meets one of them only.
     let mut least = (f64::INFINITY, f64::INFINITY);
     let mut visit = || {
-        let now = pair(faces::sqrtf, |x| theirs::sqrtf(x), &positive);
+        let now = pair(archives::sqrtf, |x| theirs::sqrtf(x), &positive);
         least = (least.0.min(now.0), least.1.min(now.1));
     };
     let mut good = flown::rows();
@@ -268,7 +268,7 @@ fn all() -> bool {
     good &= checks();
     desk.push(desk::times(&pass));
     good &= desks(&desk);
-    good &= looked_back();
+    good &= slow_shield();
     good &= patterns();
     good
 }

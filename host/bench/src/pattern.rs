@@ -42,7 +42,7 @@ pub fn times() -> Option<[f64; 3]> {
     for _ in 0..TRIES {
         for (least, (pattern, said)) in least.iter_mut().zip(&patterns) {
             let start = Instant::now();
-            let number = faces::pattern_expand(black_box(pattern), black_box(&mut route), &mut [0; 4]);
+            let number = archives::pattern_expand(black_box(pattern), black_box(&mut route), &mut [0; 4]);
             *least = least.min(start.elapsed().as_secs_f64() * 1e3);
             if number != *said {
                 return None;
@@ -58,7 +58,7 @@ pub fn stack(items: usize) -> Option<usize> {
     let deep = thrice(2, &[repeat(2, &[leg(), leg()].concat()), empty.repeat(items.min(EMPTY - 40))].concat());
     let pattern = [deep, empty.repeat(items)].concat();
     let (mut route, mut number) = ([0; MOST_LEGS * LEG + TRAILER], 0);
-    let depth = stack::depth(&mut || number = faces::pattern_expand(black_box(&pattern), black_box(&mut route), &mut [0; 4]))?;
+    let depth = stack::depth(&mut || number = archives::pattern_expand(black_box(&pattern), black_box(&mut route), &mut [0; 4]))?;
     // one that is refused would walk less
     (number == 0).then_some(depth)
 }

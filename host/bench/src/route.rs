@@ -37,7 +37,7 @@ fn route(legs: usize, flown: usize) -> Vec<u8> {
 }
 
 fn ours(image: &mut Image, input: &Input, route: &[u8], answer: &mut Answer) -> u32 {
-    faces::route_tick(image, input, route, answer)
+    archives::route_tick(image, input, route, answer)
 }
 
 /// The model on a route of which nothing is kept: at each tick the Rust makes segments of the legs up to the one flown.
@@ -110,7 +110,7 @@ pub fn times(run: &Run) -> Option<[[f64; 4]; CASES.len()]> {
                 timed(&mut |image, input, answer| ours(image, input, black_box(route), answer)),
                 timed(&mut |image, input, answer| theirs(true, image, input, black_box(route), answer)),
                 timed(&mut |image, input, answer| theirs(false, image, input, black_box(route), answer)),
-                timed(&mut |image, input, answer| faces::tick(image, input, answer)),
+                timed(&mut |image, input, answer| archives::tick(image, input, answer)),
             ];
             least.iter_mut().zip(now).for_each(|(least, now)| *least = least.min(now));
         }

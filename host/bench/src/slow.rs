@@ -19,7 +19,7 @@ fn least(margins: &[f32], flag: u8, tries: usize) -> Option<f64> {
     for _ in 0..tries {
         let mut flags = vec![7; margins.len()];
         let start = Instant::now();
-        let number = faces::flags(black_box(&bytes), 0.5, 1.0, black_box(&mut flags));
+        let number = archives::flags(black_box(&bytes), 0.5, 1.0, black_box(&mut flags));
         least = least.min(start.elapsed().as_secs_f64());
         if number != 0 || flags.iter().any(|own| *own != flag) {
             return None;

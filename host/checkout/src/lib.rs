@@ -49,10 +49,10 @@ mod tests {
         let top = scratch("tops");
         let inner = top.join("copies/inner");
         for top in [&top, &inner] {
-            std::fs::create_dir_all(top.join("host/map")).expect("a folder");
+            std::fs::create_dir_all(top.join("host/pages")).expect("a folder");
             TOP.iter().for_each(|file| std::fs::write(top.join(file), "").expect("a file"));
         }
-        assert_eq!(root_of(&top.join("host/map")), Some(top.as_path()));
+        assert_eq!(root_of(&top.join("host/pages")), Some(top.as_path()));
         assert_eq!(root_of(&top.join("copies")), Some(top.as_path()));
         assert_eq!(root_of(&inner.join("host")), Some(inner.as_path()));
         assert_eq!(root_of(Path::new("/")), None);

@@ -18,7 +18,7 @@ pub mod progress;
 pub mod routine;
 pub mod runs;
 pub mod printing;
-pub mod share;
+pub mod portion;
 pub mod slow;
 pub mod steps;
 pub mod table;

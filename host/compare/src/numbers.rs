@@ -106,14 +106,14 @@ pub fn sweep<F: Sweeps>(what: &'static str, first: u32, last: u32, stride: u32, 
 /// The root, the absolute value and finiteness against the hardware's.
 pub fn hardware(stride: u32) -> Found {
     sweep("root, size and finiteness", 0, u32::MAX, stride, |x, found: &mut Found| {
-        let r = faces::sqrtf(x);
+        let r = archives::sqrtf(x);
         if !same(r, x.sqrt()) {
             found.fault(|| format!("root of {:08x} is {:08x}, the hardware's {:08x}", x.to_bits(), r.to_bits(), x.sqrt().to_bits()));
         }
-        if !same(faces::fabsf(x), x.abs()) || faces::is_finite(x) != x.is_finite() {
+        if !same(archives::fabsf(x), x.abs()) || archives::is_finite(x) != x.is_finite() {
             found.fault(|| format!("size or finiteness of {:08x}", x.to_bits()));
         }
-        if !same(faces::finite_or(x, 1.5), if x.is_finite() { x } else { 1.5 }) {
+        if !same(archives::finite_or(x, 1.5), if x.is_finite() { x } else { 1.5 }) {
             found.fault(|| format!("finite_or of {:08x}", x.to_bits()));
         }
     })
@@ -121,9 +121,9 @@ pub fn hardware(stride: u32) -> Found {
 
 /// Sine and cosine at x and at -x: the pair and the two single calls agree, and sine is odd and cosine even bit for bit.
 fn angle(x: f32, found: &mut Found) {
-    let (s, c) = faces::sincos(x);
-    let (sm, cm) = faces::sincos(-x);
-    if s.to_bits() != faces::sinf(x).to_bits() || c.to_bits() != faces::cosf(x).to_bits() {
+    let (s, c) = archives::sincos(x);
+    let (sm, cm) = archives::sincos(-x);
+    if s.to_bits() != archives::sinf(x).to_bits() || c.to_bits() != archives::cosf(x).to_bits() {
         found.fault(|| format!("pair and single calls differ at {:08x}", x.to_bits()));
     }
     if sm.to_bits() != (-s).to_bits() || cm.to_bits() != c.to_bits() {
@@ -171,7 +171,7 @@ pub const EARLIER_SUM: u64 = 0x518e_4d2a_e683_a703;
 pub fn checksum() -> Checksum {
     sweep("a checksum up to the earlier limit", 0, EARLIER_LIMIT.to_bits(), 1, |x, found: &mut Checksum| {
         for x in [x, -x] {
-            for (function, answer) in [faces::sinf(x), faces::cosf(x)].into_iter().enumerate() {
+            for (function, answer) in [archives::sinf(x), archives::cosf(x)].into_iter().enumerate() {
                 let answer = u64::from(answer.to_bits()) << 32 | u64::from(x.to_bits());
                 found.sum = found.sum.wrapping_add(mixed(mixed(answer) + function as u64));
             }
@@ -183,8 +183,8 @@ pub fn checksum() -> Checksum {
 pub fn far(stride: u32) -> Found {
     sweep("sine and cosine beyond the limit", LIMIT.to_bits() + 1, 0x7fff_ffff, stride, |x, found: &mut Found| {
         for x in [x, f32::from_bits(x.to_bits() | 0x8000_0000)] {
-            let (s, c) = faces::sincos(x);
-            if s.to_bits() != 0 || c.to_bits() != 0 || faces::sinf(x).to_bits() != 0 || faces::cosf(x).to_bits() != 0 {
+            let (s, c) = archives::sincos(x);
+            if s.to_bits() != 0 || c.to_bits() != 0 || archives::sinf(x).to_bits() != 0 || archives::cosf(x).to_bits() != 0 {
                 found.fault(|| format!("beyond the limit at {:08x}", x.to_bits()));
             }
         }
@@ -194,7 +194,7 @@ pub fn far(stride: u32) -> Found {
 /// Our answers up to the limit against document 01's exact values, worked out from its own words, and against the steps as they are written a second time.
 pub fn document(stride: u32) -> Found {
     sweep("sine and cosine against document 01", 0, LIMIT.to_bits(), stride, |x, found: &mut Found| {
-        let ((s, c), (es, ec)) = (faces::sincos(x), exact::sincos(x));
+        let ((s, c), (es, ec)) = (archives::sincos(x), exact::sincos(x));
         found.look(x, s, es);
         found.look(x, c, ec);
         if !(s.abs() <= 1.0 && c.abs() <= 1.0) {

@@ -2,7 +2,7 @@
 
 use crate::generate::{self, Edge, Kind, Part};
 use crate::words::{In, Out, Words, MOST};
-use crate::{same, share, threads};
+use crate::{same, portion, threads};
 use std::fmt;
 use std::sync::{Mutex, PoisonError};
 
@@ -11,7 +11,7 @@ pub const GATE: u64 = 1_000_000;
 
 /// The rows of this run: the gate's, or their share, or more where the environment has FOSAVALO_CASES.
 pub fn cases() -> u64 {
-    std::env::var("FOSAVALO_CASES").ok().and_then(|text| text.parse().ok()).unwrap_or(0).max(share::of(GATE))
+    std::env::var("FOSAVALO_CASES").ok().and_then(|text| text.parse().ok()).unwrap_or(0).max(portion::of(GATE))
 }
 
 type Side = Box<dyn Fn(&mut In, &mut Out) + Send + Sync>;

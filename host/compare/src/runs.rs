@@ -3,7 +3,7 @@
 use crate::generate::{self, Kind, Part, Rng};
 use crate::routine::{alike, Hex};
 use crate::words::{In, Out, Words, MOST};
-use faces::{adrc, geo, traj};
+use archives::{adrc, geo, traj};
 use oracle::adrc as their_adrc;
 use oracle::geo as their_geo;
 use oracle::traj as their_traj;

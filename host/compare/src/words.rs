@@ -187,7 +187,7 @@ macro_rules! opened {
 
 mod ours {
     use super::{In, Out, Words};
-    use faces::{adrc::*, geo::*, pos::*, traj::*, BodyRate, Torque, Vec3};
+    use archives::{adrc::*, geo::*, pos::*, traj::*, BodyRate, Torque, Vec3};
 
     fields! {
         Vec3 { 0: f32, 1: f32, 2: f32 }

@@ -3,22 +3,22 @@
 use compare::desk::{archive, compare, every_length, expected, Call, Fault, Lent, ANSWER, DESK, IMAGE, WRONG};
 use compare::joint::bytes::SETUP;
 use compare::joint::model::Flight;
-use compare::share;
+use compare::portion;
 
 const TICKS: u64 = 3_000_000;
 
 #[test]
 fn every_byte_is_the_rust_s() {
-    let seen = compare(&archive, share::of(TICKS), |_| {}).unwrap_or_else(|text| panic!("{text}"));
+    let seen = compare(&archive, portion::of(TICKS), |_| {}).unwrap_or_else(|text| panic!("{text}"));
     println!("{seen}");
     // a run that never goes where the errors are shows nothing
     let often = [seen.on_routes, seen.buttons, seen.set_ups, seen.at_limit[0], seen.at_limit[1], seen.wild[0], seen.wild[1]];
-    assert!(often.into_iter().chain(seen.refused).all(|count| count > share::least(1_000)), "{seen}");
+    assert!(often.into_iter().chain(seen.refused).all(|count| count > portion::least(1_000)), "{seen}");
 }
 
 #[test]
 fn what_looks_right_but_is_wrong_is_caught() {
-    let caught = |fault: &Fault| match compare(&|call, lent| expected(*fault, call, lent), share::of(TICKS), |_| {}) {
+    let caught = |fault: &Fault| match compare(&|call, lent| expected(*fault, call, lent), portion::of(TICKS), |_| {}) {
         Err(text) => {
             println!("{fault:?}: {text:.200}");
             true

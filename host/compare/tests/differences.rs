@@ -2,8 +2,8 @@
 
 use compare::joint::bytes::{float, put, word, ANSWER, IMAGE, SETUP, SETUP_PROFILE, TICK};
 use compare::joint::model::Flight;
-use faces::geo::{Mat3, Quat, RecoverableSet};
-use faces::{adrc, geo, pos, traj, BodyRate, Vec3};
+use archives::geo::{Mat3, Quat, RecoverableSet};
+use archives::{adrc, geo, pos, traj, BodyRate, Vec3};
 use oracle::{adrc as rust_adrc, geo as rust_geo, pos as rust_pos, traj as rust_traj};
 use relay_math_published as published;
 
@@ -29,23 +29,23 @@ fn both(ours: f32, theirs: f32, bits: u32) {
 
 #[test]
 fn sine_and_cosine_are_not_the_published_ones() {
-    assert_eq!([faces::sinf(-0.0).to_bits(), published::sinf(-0.0).to_bits()], [0x8000_0000, 0]);
+    assert_eq!([archives::sinf(-0.0).to_bits(), published::sinf(-0.0).to_bits()], [0x8000_0000, 0]);
     let beyond = f(0x4600_0001);
-    assert_eq!([faces::sinf(beyond).to_bits(), faces::cosf(beyond).to_bits()], [0, 0]);
+    assert_eq!([archives::sinf(beyond).to_bits(), archives::cosf(beyond).to_bits()], [0, 0]);
     assert_eq!(published::sinf(beyond).to_bits(), 0xbf74_b4fe);
-    assert_eq!([faces::sinf(1.0).to_bits(), published::sinf(1.0).to_bits()], [0x3f57_6aa4, 0x3f57_6aa5]);
+    assert_eq!([archives::sinf(1.0).to_bits(), published::sinf(1.0).to_bits()], [0x3f57_6aa4, 0x3f57_6aa5]);
     let (three_pi, half_of_it) = (f(0x4116_cbe4), f(0x4096_cbe4));
-    assert_eq!([faces::sinf(three_pi).to_bits(), published::sinf(three_pi).to_bits()], [0xb2cc_de34, 0xb2cc_de20]);
+    assert_eq!([archives::sinf(three_pi).to_bits(), published::sinf(three_pi).to_bits()], [0xb2cc_de34, 0xb2cc_de20]);
     assert_eq!((f64::from(three_pi).sin() as f32).to_bits(), 0xb2cc_de2e);
-    assert_eq!(faces::cosf(half_of_it).to_bits().abs_diff(published::cosf(half_of_it).to_bits()), 20);
+    assert_eq!(archives::cosf(half_of_it).to_bits().abs_diff(published::cosf(half_of_it).to_bits()), 20);
     let (a, b) = (f(0x4155_afd3), f(0x4016_cc3a));
-    assert_eq!([faces::sinf(a) - published::sinf(a), faces::cosf(b) - published::cosf(b)].map(f32::abs), [2f32.powi(-23); 2]);
+    assert_eq!([archives::sinf(a) - published::sinf(a), archives::cosf(b) - published::cosf(b)].map(f32::abs), [2f32.powi(-23); 2]);
 }
 
 /// A stride, and prime, of what `make exhaustive` runs in full.
 #[test]
 fn sine_and_cosine_are_near_the_published_ones() {
-    for found in [compare::numbers::apart(251, faces::sinf, published::sinf), compare::numbers::apart(251, faces::cosf, published::cosf)] {
+    for found in [compare::numbers::apart(251, archives::sinf, published::sinf), compare::numbers::apart(251, archives::cosf, published::cosf)] {
         assert!(found.cases > 8_000_000 && found.differ > 0, "{} of {}", found.differ, found.cases);
         assert!(found.units <= 20 && found.distance <= 2f64.powi(-23), "{} units, {:e}", found.units, found.distance);
     }
@@ -82,7 +82,7 @@ fn headings_beyond_8192_have_no_attitude() {
     let (at, past) = (f(0x4680_0000), f(0x4680_0001));
     for (angle, none) in [(at, false), (past, true)] {
         for [roll, pitch, yaw] in [[angle, 0.25, 0.5], [0.25, angle, 0.5], [0.25, 0.5, angle]] {
-            let ours = faces::pos::euler_to_quaternion(roll, pitch, yaw);
+            let ours = archives::pos::euler_to_quaternion(roll, pitch, yaw);
             let theirs = oracle::pos::euler_to_quaternion(roll, pitch, yaw);
             assert_eq!([[ours.0, ours.1, ours.2, ours.3] == [0.0; 4], theirs == [0.0; 4]], [none; 2]);
         }
@@ -92,7 +92,7 @@ fn headings_beyond_8192_have_no_attitude() {
 
 #[test]
 fn the_attitude_error_is_the_full_vee() {
-    let (sine, cosine) = faces::sincos(0.5);
+    let (sine, cosine) = archives::sincos(0.5);
     let tilted = Mat3(LEVEL.0, Vec3(0.0, cosine, -sine), Vec3(0.0, sine, cosine));
     let (ours, theirs) = (geo::geoatt_attitude_error(tilted, LEVEL), rust_geo::GeoAtt::attitude_error(&rows(tilted), &rows(LEVEL)));
     both(ours.0, theirs[0], (2.0 * sine).to_bits());
@@ -116,7 +116,7 @@ fn a_tick_counts_no_commanded_turning_as_error() {
     let mut input = [0; TICK];
     [(2, 2.0f32), (3, 1.0), (9, 2.0), (10, 0.001)].iter().for_each(|(at, x)| put(&mut input, *at, x.to_bits()));
     Flight::set_up(&set_up).write(&mut image);
-    assert_eq!(faces::tick(&mut image, &input, &mut answer), 0);
+    assert_eq!(archives::tick(&mut image, &input, &mut answer), 0);
     let set = rust_geo::RecoverableSet::new(1.0, 1.0, 1.75);
     assert_eq!([float(&answer, 9), set.margin(float(&answer, 8), 4.0)], [1.75, 0.0]);
 }
@@ -128,7 +128,7 @@ fn at_rest(profile: u32, words: &[(usize, f32)]) -> [u8; ANSWER] {
     own.iter().for_each(|(at, x)| put(&mut set_up, *at, x.to_bits()));
     put(&mut set_up, SETUP_PROFILE, profile);
     words.iter().for_each(|(at, x)| put(&mut input, *at, x.to_bits()));
-    assert_eq!([faces::setup(&mut image, &set_up), faces::tick(&mut image, &input, &mut answer)], [0, 0]);
+    assert_eq!([archives::setup(&mut image, &set_up), archives::tick(&mut image, &input, &mut answer)], [0, 0]);
     answer
 }
 
@@ -156,9 +156,9 @@ fn with_a_rotor_lost_the_fallback_is_a_rate() {
 fn images_of_before_are_refused() {
     let (mut image, mut set_up) = ([0; IMAGE], [0; SETUP]);
     [(48, 80.0f32), (49, 1000.0)].iter().for_each(|(at, x)| put(&mut set_up, *at, x.to_bits()));
-    assert_eq!(faces::setup(&mut image, &set_up), 0);
-    assert_eq!((faces::setup(&mut image, &set_up[..200]), faces::setup(&mut [0; 380], &set_up)), (2, 1));
-    let tick = |image: &mut [u8]| faces::tick(image, &[0; TICK], &mut [0; ANSWER]);
+    assert_eq!(archives::setup(&mut image, &set_up), 0);
+    assert_eq!((archives::setup(&mut image, &set_up[..200]), archives::setup(&mut [0; 380], &set_up)), (2, 1));
+    let tick = |image: &mut [u8]| archives::tick(image, &[0; TICK], &mut [0; ANSWER]);
     assert_eq!(tick(&mut image.clone()), 0);
     put(&mut image, 0, 95);
     assert_eq!((tick(&mut image[..380].to_vec()), tick(&mut image)), (1, 4));
@@ -169,7 +169,7 @@ fn fresh() -> ([u8; IMAGE], [u8; TICK]) {
     let (mut image, mut set_up, mut input) = ([0; IMAGE], [0; SETUP], [0; TICK]);
     [(35, 2.0f32), (48, 80.0), (49, 1000.0)].iter().for_each(|(at, x)| put(&mut set_up, *at, x.to_bits()));
     [(3, 1.0f32), (10, 0.001)].iter().for_each(|(at, x)| put(&mut input, *at, x.to_bits()));
-    assert_eq!(faces::setup(&mut image, &set_up), 0);
+    assert_eq!(archives::setup(&mut image, &set_up), 0);
     (image, input)
 }
 
@@ -185,7 +185,7 @@ fn a_peak_is_never_a_nan() {
     let with_peak = |bits: u32| {
         let mut image = image;
         put(&mut image, 96, bits);
-        faces::tick(&mut image, &input, &mut [0; ANSWER])
+        archives::tick(&mut image, &input, &mut [0; ANSWER])
     };
     assert_eq!((with_peak(0x7fc0_0000), with_peak(0x7f80_0000)), (4, 0));
 }
@@ -196,7 +196,7 @@ fn a_set_up_that_would_pass_through_is_refused() {
     let set_up = |fc: u32, fs: u32| {
         let mut set_up = [0; SETUP];
         [(48, fc), (49, fs)].iter().for_each(|(at, bits)| put(&mut set_up, *at, *bits));
-        faces::setup(&mut [0; IMAGE], &set_up)
+        archives::setup(&mut [0; IMAGE], &set_up)
     };
     assert_eq!((set_up(0, 0x447a_0000), set_up(0x7e96_7699, 0x7f61_b1e6)), (11, 0));
     let words = |fc: u32, fs: u32| rust_adrc::Biquad::lowpass(f(fc), f(fs)).words()[..5].to_vec();
@@ -213,7 +213,7 @@ fn nine_legs_are_flown() {
         let end = route.len() / 4;
         put(&mut route, end - 2, legs);
         put(&mut route, end - 1, 76 * legs);
-        faces::route_tick(&mut image.clone(), &input, &route, &mut [0; ANSWER])
+        archives::route_tick(&mut image.clone(), &input, &route, &mut [0; ANSWER])
     };
     assert_eq!((flown(8), flown(9), flown(32), flown(33)), (0, 0, 0, 5));
 }

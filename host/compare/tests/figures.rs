@@ -1,8 +1,8 @@
 //! The worked figures of document 01, starred and not, through the archive's own calls. Their values are written from the document.
 
 use compare::words::{Out, Words};
-use faces::geo::{GeoAtt, GeoGains, Quat, RecoverableSet};
-use faces::{adrc, geo, traj, BodyRate, Torque, Vec3};
+use archives::geo::{GeoAtt, GeoGains, Quat, RecoverableSet};
+use archives::{adrc, geo, traj, BodyRate, Torque, Vec3};
 
 /// The bits of an answer's words.
 fn bits(of: impl Words) -> Vec<u32> {
@@ -18,8 +18,8 @@ fn is(answer: impl Words, expected: &[f32]) {
 
 #[test]
 fn roots() {
-    is(faces::sqrtf(4.0), &[2.0]);
-    assert_eq!(faces::sqrtf(f32::from_bits(0x0000_0001)).to_bits(), 0x1A35_04F3);
+    is(archives::sqrtf(4.0), &[2.0]);
+    assert_eq!(archives::sqrtf(f32::from_bits(0x0000_0001)).to_bits(), 0x1A35_04F3);
 }
 
 #[test]

@@ -1,7 +1,7 @@
 //! Request Five: what takes a heading serves it up to 8192 in size, as the Rust does with our sine and cosine, and refuses it beyond, as it did beyond 128.
 
-use faces::geo::{self, Quat};
-use faces::Vec3;
+use archives::geo::{self, Quat};
+use archives::Vec3;
 use fosavalo::{Image, Pilot, Route, SetUp, TickInput};
 use oracle::geo as rust;
 
@@ -38,7 +38,7 @@ fn the_routines_that_take_a_yaw() {
     }
     for (angle, served) in signed(HALVED) {
         for [roll, pitch, yaw] in [[angle, 0.25, 0.5], [0.25, angle, 0.5], [0.25, 0.5, angle]] {
-            let q = faces::pos::euler_to_quaternion(roll, pitch, yaw);
+            let q = archives::pos::euler_to_quaternion(roll, pitch, yaw);
             let q = [q.0, q.1, q.2, q.3];
             assert_eq!(q.map(f32::to_bits), oracle::pos::euler_to_quaternion(roll, pitch, yaw).map(f32::to_bits), "{angle}");
             assert_eq!(q != [0.0; 4], served, "{angle}");

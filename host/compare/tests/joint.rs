@@ -11,7 +11,7 @@ use compare::joint::refusal::Refusals;
 use compare::joint::runs::{self, caught, Seen, Watch};
 use compare::joint::wrong::{self, WRONG, WRONG_CUT_OFF, WRONG_ERROR, WRONG_PROFILE};
 use compare::joint::{archive, lengths, Call};
-use compare::share;
+use compare::portion;
 use std::time::Instant;
 
 #[test]
@@ -28,7 +28,7 @@ fn every_tick_is_the_rust_s_and_the_look_back_s() {
 
 /// A run that never goes where the errors are shows nothing.
 fn covered(seen: &Seen) {
-    let ([many, some], part) = ([1000, 100].map(share::least), share::one_in(10));
+    let ([many, some], part) = ([1000, 100].map(portion::least), portion::one_in(10));
     for ((profile, passes), [planner, fallback]) in [Profile::Whole, Profile::LostRotor].iter().zip(seen.passes()).zip(seen.band) {
         assert!(passes >= seen.accepted() / 8, "{profile:?}: {passes} ticks of passes");
         assert!(planner * part >= passes, "{profile:?}: the planner flew in the band for {planner} of {passes} ticks of passes");
@@ -53,7 +53,7 @@ fn covered(seen: &Seen) {
 #[test]
 fn what_looks_right_but_is_wrong_is_caught() {
     let all = [WRONG, WRONG_ERROR, WRONG_PROFILE, WRONG_CUT_OFF].concat();
-    let ticks = share::of(runs::GATE);
+    let ticks = portion::of(runs::GATE);
     let missed: Vec<_> = all.into_iter().filter(|version| !caught(*version, ticks, Watch::All, PLAIN)).collect();
     assert!(missed.is_empty(), "not caught within {ticks} ticks: {missed:?}");
 }
@@ -71,14 +71,14 @@ fn looking_back_alone_catches_what_is_about_the_flag_and_the_command() {
         wrong::Untouched::VERSION,
         wrong::Echo::VERSION,
     ] {
-        assert!(caught(version, share::of(runs::GATE), Watch::LookBack, PLAIN), "{version:?}");
+        assert!(caught(version, portion::of(runs::GATE), Watch::LookBack, PLAIN), "{version:?}");
     }
 }
 
 /// What the wrong ones are made from is right.
 #[test]
 fn with_no_fault_nothing_differs() {
-    assert!(!caught(Right::VERSION, share::of(runs::GATE / 10), Watch::All, PLAIN));
+    assert!(!caught(Right::VERSION, portion::of(runs::GATE / 10), Watch::All, PLAIN));
 }
 
 #[test]
@@ -88,7 +88,7 @@ fn every_length_of_every_buffer() {
     let exchanges = lengths::exchanges(&archive).unwrap_or_else(|text| panic!("{text}"));
     let ticks = lengths::ticks(&archive).unwrap_or_else(|text| panic!("{text}"));
     assert_eq!((setups, exchanges), (4 * 401 * 401, 2 * 401 * 401));
-    assert!(ticks >= share::of(2 * 401 * 401 * 401), "{ticks} ticks");
+    assert!(ticks >= portion::of(2 * 401 * 401 * 401), "{ticks} ticks");
     println!("{setups} set-ups, {exchanges} exchanges and {ticks} ticks, {:.1} s", start.elapsed().as_secs_f32());
 }
 
@@ -135,7 +135,7 @@ fn a_tick_tells_beforehand_what_it_would_be_refused_for() {
         };
         let (i, n, a) = (near(IMAGE), near(TICK), near(ANSWER));
         let expected = Right.of_tick(&image[..i], n, a);
-        assert_eq!(faces::tick_refusal(&image[..i], n, a), expected, "lengths {i}, {n}, {a}, image {image:02x?}");
+        assert_eq!(archives::tick_refusal(&image[..i], n, a), expected, "lengths {i}, {n}, {a}, image {image:02x?}");
         seen[expected as usize] += 1;
     }
     assert!(seen.iter().all(|&count| count > 1000), "{seen:?}");
@@ -181,7 +181,7 @@ fn still() -> [u8; TICK] {
 
 fn fresh(input: &[u8; SETUP]) -> [u8; IMAGE] {
     let mut image = [0xee; IMAGE];
-    assert_eq!(faces::setup(&mut image, input), 0);
+    assert_eq!(archives::setup(&mut image, input), 0);
     image
 }
 
@@ -194,7 +194,7 @@ fn image_of(input: &[u8; SETUP]) -> [u8; IMAGE] {
 
 fn tick(image: &mut [u8; IMAGE], input: &[u8; TICK]) -> [u8; ANSWER] {
     let mut answer = [0xee; ANSWER];
-    assert_eq!(faces::tick(image, input, &mut answer), 0);
+    assert_eq!(archives::tick(image, input, &mut answer), 0);
     answer
 }
 
@@ -389,7 +389,7 @@ fn the_third_axis_is_left_as_it_was() {
 fn profiles_by_hand() {
     let number = |image: usize, input: &[u8]| {
         let mut lent = vec![0xee; image];
-        let number = faces::setup(&mut lent, input);
+        let number = archives::setup(&mut lent, input);
         assert!(number == 0 || lent.iter().all(|byte| *byte == 0xee));
         number
     };
@@ -400,8 +400,8 @@ fn profiles_by_hand() {
     }
     assert_eq!((number(396, &set_up()), number(396, &lost_rotor()), number(396, &set_up()[..200])), (0, 0, 2));
     let old = with(image_of(&set_up()), &[(0, 96)]);
-    assert_eq!(faces::tick(&mut old.clone(), &still(), &mut [0; ANSWER]), 4);
-    assert_eq!(faces::tick(&mut old[..384].to_vec(), &still(), &mut [0; ANSWER]), 1);
+    assert_eq!(archives::tick(&mut old.clone(), &still(), &mut [0; ANSWER]), 4);
+    assert_eq!(archives::tick(&mut old[..384].to_vec(), &still(), &mut [0; ANSWER]), 1);
 }
 
 /// "11, after 10, at set-up alone": by hand at and about what decides. Nothing of the image is changed.
@@ -410,7 +410,7 @@ fn cut_offs_by_hand() {
     let number = |fc: f32, fs: f32, profile: u32, len: usize| {
         let mut lent = [0xee; IMAGE];
         let input = with(set_up(), &[(48, fc.to_bits()), (49, fs.to_bits()), (SETUP_PROFILE, profile)]);
-        let number = faces::setup(&mut lent, &input[..len]);
+        let number = archives::setup(&mut lent, &input[..len]);
         assert!((number == 0) == (lent != [0xee; IMAGE]));
         number
     };
@@ -444,7 +444,7 @@ fn cut_offs_by_hand() {
         }
         assert_eq!((number(fc, fs, 2, SETUP), number(fc, fs, 0, SETUP - 1), number(fc, fs, 2, SETUP - 1)), (10, 2, 2), "{fc} {fs}");
     }
-    assert_eq!(faces::setup(&mut [0; IMAGE - 1], &with(set_up(), &[(48, 0)])), 1);
+    assert_eq!(archives::setup(&mut [0; IMAGE - 1], &with(set_up(), &[(48, 0)])), 1);
 }
 
 /// Of the values of word 95 a tick takes two: looked at are the first million, all of at most three bits, and one in 4099.
@@ -455,7 +455,7 @@ fn every_profile_word() {
     let mut image = image_of(&set_up());
     for profile in (0..1 << 20).chain(few).chain((0..=u32::MAX).step_by(4099)) {
         put(&mut image, PROFILE, profile);
-        assert_eq!(faces::tick_refusal(&image, TICK, ANSWER), if profile < 2 { 0 } else { 4 }, "{profile:08x}");
+        assert_eq!(archives::tick_refusal(&image, TICK, ANSWER), if profile < 2 { 0 } else { 4 }, "{profile:08x}");
     }
 }
 
@@ -464,7 +464,7 @@ fn row_4_by_hand() {
     let good = image_of(&set_up());
     let number = |at: usize, word: u32| {
         let (mut image, mut answer) = (with(good, &[(at, word)]), [0xee; ANSWER]);
-        let (before, number) = (image, faces::tick(&mut image, &still(), &mut answer));
+        let (before, number) = (image, archives::tick(&mut image, &still(), &mut answer));
         assert!(number == 0 || (image == before && answer == [0xee; ANSWER]));
         number
     };
@@ -503,7 +503,7 @@ fn row_4_by_hand() {
         taken.iter().for_each(|word| assert_eq!(number(at, *word), 0, "word {at} = {word:08x}"));
     }
     // the blank image of `shieldtable`
-    assert_eq!(faces::tick(&mut [0; IMAGE], &still(), &mut [0; ANSWER]), 4);
+    assert_eq!(archives::tick(&mut [0; IMAGE], &still(), &mut [0; ANSWER]), 4);
 }
 
 /// A kept word that is a NaN of another pattern comes back as 7fc00000; at a refused call it stays.
@@ -512,7 +512,7 @@ fn kept_words_have_one_nan() {
     let mut image = with(image_of(&set_up()), &[(4, 0xffc0_0001), (17, 0x7f80_0001)]);
     let refused = with(image, &[(0, 96)]);
     let mut same = refused;
-    assert_eq!(faces::tick(&mut same, &still(), &mut [0; ANSWER]), 4);
+    assert_eq!(archives::tick(&mut same, &still(), &mut [0; ANSWER]), 4);
     assert_eq!(same, refused);
     tick(&mut image, &still());
     assert_eq!((word(&image, 4), word(&image, 17)), (NAN, NAN));
@@ -535,7 +535,7 @@ fn an_exchange_by_hand() {
     // rest to rest from 0 to 1 in 2 s: the starred figures, peak 97.5; on the other axes nothing
     let before = with(image, &[(5, 0xffc0_0001)]);
     let mut image = before;
-    assert_eq!(faces::exchange(&mut image, &leg([1.0, 0.0, -0.0], 2.0)), 0);
+    assert_eq!(archives::exchange(&mut image, &leg([1.0, 0.0, -0.0], 2.0)), 0);
     assert_eq!([16, 20, 21, 22, 26].map(|at| float(&image, at)), [0.0, 0.1875, -0.9375, 1.25, 2.0]);
     assert_eq!([16, 96, 97, 98].map(|at| word(&image, at)), [0, 97.5f32.to_bits(), 0, 0]);
     let written = |at: &usize| *at == 16 || (20..41).contains(at) || *at >= PEAKS;
@@ -547,17 +547,17 @@ fn an_exchange_by_hand() {
     assert_eq!((float(&image, 16), word(&image, 96)), (0.0625, 97.5f32.to_bits()));
     // the planner flies on in the band, in which a fresh shield does not release
     let in_the_band = with(still(), &[(0, 3.0f32.sqrt().to_bits())]);
-    assert_eq!(faces::exchange(&mut image, &leg([0.0; 3], 2.0)), 0);
+    assert_eq!(archives::exchange(&mut image, &leg([0.0; 3], 2.0)), 0);
     assert_eq!((word(&tick(&mut image, &in_the_band), 6), word(&tick(&mut image_of(&set_up()), &in_the_band), 6)), (0, 1));
     // mended as at set-up: a duration that is no number is 1e-3, a bad end position is the start
-    assert_eq!(faces::exchange(&mut image, &leg([f32::NAN, 1.0, 1.0], f32::NAN)), 0);
+    assert_eq!(archives::exchange(&mut image, &leg([f32::NAN, 1.0, 1.0], f32::NAN)), 0);
     assert_eq!([26, 33, 40].map(|at| float(&image, at)), [1e-3; 3]);
     assert_eq!(word(&image, 96), 0);
     // an infinite peak
-    assert_eq!(faces::exchange(&mut image, &leg([0.0, 4.6e35, 0.0], 1.0)), 0);
+    assert_eq!(archives::exchange(&mut image, &leg([0.0, 4.6e35, 0.0], 1.0)), 0);
     assert_eq!([96, 97, 98].map(|at| word(&image, at)), [0, INFINITY, 0]);
     tick(&mut image, &still());
-    assert_eq!(faces::tick(&mut with(image, &[(97, NAN)]), &still(), &mut [0; ANSWER]), 4);
+    assert_eq!(archives::tick(&mut with(image, &[(97, NAN)]), &still(), &mut [0; ANSWER]), 4);
 }
 
 /// "the exchange gives 1, 2 (length not 76) and 4", in this order; a broken image is not repaired.
@@ -566,7 +566,7 @@ fn exchanges_refused_by_hand() {
     let (good, new) = (image_of(&set_up()), leg([1.0, 0.0, 0.0], 2.0));
     let number = |image: &[u8], segment: &[u8]| {
         let mut lent = image.to_vec();
-        let number = faces::exchange(&mut lent, segment);
+        let number = archives::exchange(&mut lent, segment);
         assert!(number == 0 || lent == image);
         number
     };

@@ -1,7 +1,7 @@
 //! The flight log: the archive's three calls against a list of records, byte for byte.
 
 use compare::log::{parts, sweep, Face, ARCHIVE, RECORD, TRAILER};
-use compare::share;
+use compare::portion;
 use std::time::Instant;
 
 #[test]
@@ -10,7 +10,7 @@ fn every_call_is_the_list_s() {
     let seen = sweep::all(&ARCHIVE).unwrap_or_else(|text| panic!("{text}"));
     println!("{seen}\n{:.1} s", start.elapsed().as_secs_f32());
     // a sweep that never goes where the errors are shows nothing
-    let often = |calls: &[u64], numbers: &[usize]| numbers.iter().all(|number| calls[*number] > share::least(100));
+    let often = |calls: &[u64], numbers: &[usize]| numbers.iter().all(|number| calls[*number] > portion::least(100));
     assert!(often(&seen.append, &[0, 2, 3, 8, 9]) && often(&seen.count, &[0, 2, 8]) && often(&seen.record, &[0, 8, 13, 14]), "{seen}");
 }
 

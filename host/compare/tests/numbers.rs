@@ -42,14 +42,14 @@ fn roots_are_nearest_by_document_01_s_words() {
     let mut b = 1u32;
     while b < 0x7f80_0000 {
         let x = f32::from_bits(b);
-        assert!(exact::is_nearest_root(x, faces::sqrtf(x)), "root of {b:08x}");
+        assert!(exact::is_nearest_root(x, archives::sqrtf(x)), "root of {b:08x}");
         cases += 1;
         b += 4099;
     }
     assert!(cases > 500_000);
     // the test itself can fail: one unit off is not nearest
     for x in [2.0f32, 4.0, 0.3, 1e-40, 3e38] {
-        let r = faces::sqrtf(x).to_bits();
+        let r = archives::sqrtf(x).to_bits();
         assert!(!exact::is_nearest_root(x, f32::from_bits(r + 1)));
         assert!(!exact::is_nearest_root(x, f32::from_bits(r - 1)));
     }
@@ -57,8 +57,8 @@ fn roots_are_nearest_by_document_01_s_words() {
 
 #[test]
 fn figures_of_document_01() {
-    assert_eq!(faces::sqrtf(4.0), 2.0);
-    assert_eq!(faces::sqrtf(f32::from_bits(1)).to_bits(), 0x1a35_04f3);
+    assert_eq!(archives::sqrtf(4.0), 2.0);
+    assert_eq!(archives::sqrtf(f32::from_bits(1)).to_bits(), 0x1a35_04f3);
     // near a midpoint, the largest subnormal, each zero, below zero, both infinities
     for (x, r) in [
         (0x3f7f_ffff, 0x3f7f_ffff),
@@ -68,19 +68,19 @@ fn figures_of_document_01() {
         (0x8000_0000, 0x8000_0000),
         (0x7f80_0000u32, 0x7f80_0000u32),
     ] {
-        assert_eq!(faces::sqrtf(f32::from_bits(x)).to_bits(), r, "root of {x:08x}");
+        assert_eq!(archives::sqrtf(f32::from_bits(x)).to_bits(), r, "root of {x:08x}");
     }
-    assert!(faces::sqrtf(-f32::from_bits(1)).is_nan() && faces::sqrtf(f32::NEG_INFINITY).is_nan() && faces::sqrtf(f32::NAN).is_nan());
+    assert!(archives::sqrtf(-f32::from_bits(1)).is_nan() && archives::sqrtf(f32::NEG_INFINITY).is_nan() && archives::sqrtf(f32::NAN).is_nan());
     for zero in [0.0f32, -0.0] {
-        assert_eq!(faces::sinf(zero).to_bits(), zero.to_bits());
-        assert_eq!(faces::cosf(zero), 1.0);
+        assert_eq!(archives::sinf(zero).to_bits(), zero.to_bits());
+        assert_eq!(archives::cosf(zero), 1.0);
     }
     // the limit is served, one unit beyond it is not, for both signs
     for sign in [0, 0x8000_0000u32] {
         let at = |b: u32| f32::from_bits(b | sign);
         for served in [0x4300_0000, 0x4300_0001, 0x4600_0000] {
-            assert!(faces::cosf(at(served)) != 0.0 && faces::sinf(at(served)) != 0.0, "{served:08x}");
+            assert!(archives::cosf(at(served)) != 0.0 && archives::sinf(at(served)) != 0.0, "{served:08x}");
         }
-        assert_eq!([faces::sinf(at(0x4600_0001)).to_bits(), faces::cosf(at(0x4600_0001)).to_bits()], [0, 0]);
+        assert_eq!([archives::sinf(at(0x4600_0001)).to_bits(), archives::cosf(at(0x4600_0001)).to_bits()], [0, 0]);
     }
 }

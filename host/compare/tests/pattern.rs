@@ -11,10 +11,10 @@ fn every_pattern_as_the_tree_has_it() {
     let mut fresh = [0; IMAGE];
     Flight::set_up(&[0; SETUP]).write(&mut fresh);
     let flies = |pattern: &[u8], route: &mut [u8], length: &mut [u8]| {
-        let number = faces::pattern_expand(pattern, route, length);
+        let number = archives::pattern_expand(pattern, route, length);
         if number == 0 {
             let length = u32::from_le_bytes(length.try_into().expect("a word")) as usize;
-            assert_eq!(faces::route_tick(&mut fresh.clone(), &[0; TICK], &route[..length], &mut [0; ANSWER]), 0);
+            assert_eq!(archives::route_tick(&mut fresh.clone(), &[0; TICK], &route[..length], &mut [0; ANSWER]), 0);
         }
         number
     };
@@ -28,7 +28,7 @@ fn every_pattern_as_the_tree_has_it() {
 #[test]
 fn every_nest_of_repeats() {
     for count in 0..=6u32 {
-        let [whole, wrong] = heads(&faces::pattern_expand, count).unwrap_or_else(|text| panic!("{text}"));
+        let [whole, wrong] = heads(&archives::pattern_expand, count).unwrap_or_else(|text| panic!("{text}"));
         println!("{count} repeats: {whole}; damaged: {wrong}");
         let forests = count.checked_sub(1).map_or(1, |less| 3u64.pow(less).div_ceil(2));
         assert_eq!((whole.0[5], whole.0[5] + whole.0[12]), (forests, u64::from(count + 1).pow(count)));
@@ -68,7 +68,7 @@ fn number(pattern: &[u8]) -> u32 {
 
 fn number_with(pattern: &[u8], room: usize, word: usize) -> u32 {
     let (mut route, mut length) = (vec![0xee; room], vec![0xee; word]);
-    let number = faces::pattern_expand(pattern, &mut route, &mut length);
+    let number = archives::pattern_expand(pattern, &mut route, &mut length);
     assert!(number == 0 || route.iter().chain(&length).all(|byte| *byte == 0xee));
     number
 }
@@ -80,7 +80,7 @@ fn a_loop_by_hand() {
     let [out, there, back, home] = [from_to(0.0, 1.0, 1.0), from_to(1.0, 2.0, 2.0), from_to(2.0, 1.0, 3.0), from_to(1.0, 0.0, 4.0)];
     let pattern = [&out[..], &[1, 2, 154, 0], &there, &back, &home].concat();
     let (mut route, mut length) = ([0xcc; 500], [0xcc; 4]);
-    assert_eq!(faces::pattern_expand(&pattern, &mut route, &mut length), 0);
+    assert_eq!(archives::pattern_expand(&pattern, &mut route, &mut length), 0);
     let legs = [&out[1..], &there[1..], &back[1..], &there[1..], &back[1..], &home[1..]].concat();
     let right = [&legs[..], &6u32.to_le_bytes(), &456u32.to_le_bytes(), &[0xcc; 36]].concat();
     assert_eq!((&route[..], length), (&right[..], 464u32.to_le_bytes()));

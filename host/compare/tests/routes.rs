@@ -7,12 +7,12 @@ use compare::joint::model::Right;
 use compare::joint::runs::{self, caught, Watch, GATE_ON_ROUTES};
 use compare::joint::wrong::{self, WRONG_ERROR, WRONG_EXCHANGE, WRONG_ON_ROUTES, WRONG_PROFILE};
 use compare::joint::{archive, lengths};
-use compare::share;
+use compare::portion;
 use std::time::Instant;
 
 #[test]
 fn every_tick_on_a_route_is_the_rust_s_and_the_look_back_s() {
-    let (start, ticks) = (Instant::now(), share::of(GATE_ON_ROUTES));
+    let (start, ticks) = (Instant::now(), portion::of(GATE_ON_ROUTES));
     let (seen, parted) = runs::compare(&archive, ticks, Watch::All, MIXED, |_| {});
     let routes = &seen.routes;
     println!("{seen}\n{:.1} s", start.elapsed().as_secs_f32());
@@ -20,7 +20,7 @@ fn every_tick_on_a_route_is_the_rust_s_and_the_look_back_s() {
         panic!("{parted}");
     }
     assert!(routes.accepted() >= ticks / 2 && seen.looked_back >= ticks / 2);
-    let ([many, some], part) = ([1000, 100].map(share::least), share::one_in(20));
+    let ([many, some], part) = ([1000, 100].map(portion::least), portion::one_in(20));
     // a run that never goes where the errors are shows nothing
     for (what, counts) in [
         ("counts", &routes.counts[..]),
@@ -46,7 +46,7 @@ fn every_tick_on_a_route_is_the_rust_s_and_the_look_back_s() {
 #[test]
 fn what_looks_right_but_is_wrong_is_caught() {
     let all = [WRONG_ON_ROUTES, WRONG_ERROR, WRONG_PROFILE, WRONG_EXCHANGE].concat();
-    let ticks = share::of(GATE_ON_ROUTES);
+    let ticks = portion::of(GATE_ON_ROUTES);
     let missed: Vec<_> = all.into_iter().filter(|version| !caught(*version, ticks, Watch::All, MIXED)).collect();
     assert!(missed.is_empty(), "not caught within {ticks} ticks: {missed:?}");
 }
@@ -61,21 +61,21 @@ fn looking_back_alone_catches_what_is_about_the_flag() {
         wrong::ExchangeResetsShield::VERSION,
         wrong::ExchangeReleases::VERSION,
     ] {
-        assert!(caught(version, share::of(GATE_ON_ROUTES), Watch::LookBack, MIXED), "{version:?}");
+        assert!(caught(version, portion::of(GATE_ON_ROUTES), Watch::LookBack, MIXED), "{version:?}");
     }
 }
 
 /// What the wrong ones are made from is right.
 #[test]
 fn with_no_fault_nothing_differs() {
-    assert!(!caught(Right::VERSION, share::of(GATE_ON_ROUTES / 10), Watch::All, MIXED));
+    assert!(!caught(Right::VERSION, portion::of(GATE_ON_ROUTES / 10), Watch::All, MIXED));
 }
 
 #[test]
 fn every_length_of_a_route() {
     let calls = lengths::routes(&archive).unwrap_or_else(|text| panic!("{text}"));
     println!("{calls} calls");
-    assert!(calls >= share::of(lengths::route_calls()));
+    assert!(calls >= portion::of(lengths::route_calls()));
     // and the sweep can fail
     assert!(lengths::routes(&wrong::AnyLength::VERSION.call).is_err());
 }
@@ -119,11 +119,11 @@ fn step(time: f32) -> [u8; TICK] {
 fn first(profile: u32, segment: &[f32; WORDS], route: Option<&[u8]>, time: f32) -> ([u32; 6], f32) {
     let (mut image, mut answer, mut input) = ([0; IMAGE], [0; ANSWER], set_up(segment));
     put(&mut input, SETUP_PROFILE, profile);
-    assert_eq!(faces::setup(&mut image, &input), 0);
+    assert_eq!(archives::setup(&mut image, &input), 0);
     let segment = image[4 * 20..4 * 41].to_vec();
     let number = match route {
-        Some(route) => faces::route_tick(&mut image, &step(time), route, &mut answer),
-        None => faces::tick(&mut image, &step(time), &mut answer),
+        Some(route) => archives::route_tick(&mut image, &step(time), route, &mut answer),
+        None => archives::tick(&mut image, &step(time), &mut answer),
     };
     assert_eq!((number, &image[4 * 20..4 * 41]), (0, &segment[..]));
     ([3, 4, 5, 6, 8, 9].map(|at| word(&answer, at)), float(&answer, 7))
@@ -191,10 +191,10 @@ fn the_leg_flown_by_hand() {
 #[test]
 fn refusals_by_hand() {
     let mut image = [0; IMAGE];
-    assert_eq!(faces::setup(&mut image, &set_up(&legs(&[1.0])[0])), 0);
+    assert_eq!(archives::setup(&mut image, &set_up(&legs(&[1.0])[0])), 0);
     let number = |image: &[u8], input: usize, route: &[u8], answer: usize| {
         let (mut lent, mut out) = (image.to_vec(), vec![0xee; answer]);
-        let number = faces::route_tick(&mut lent, &step(1.0)[..input], route, &mut out);
+        let number = archives::route_tick(&mut lent, &step(1.0)[..input], route, &mut out);
         assert!(number == 0 || (lent == image && out == vec![0xee; answer]));
         number
     };
@@ -232,8 +232,8 @@ fn joins_by_hand() {
     let fresh = set_up(&legs(&[1.0])[0]);
     let of = |legs: &[[f32; WORDS]]| {
         let (mut image, mut answer) = ([0; IMAGE], [0; ANSWER]);
-        faces::setup(&mut image, &fresh);
-        faces::route_tick(&mut image, &step(1.0), &bytes(legs), &mut answer)
+        archives::setup(&mut image, &fresh);
+        archives::route_tick(&mut image, &step(1.0), &bytes(legs), &mut answer)
     };
     let (nan, infinity) = (f32::NAN, f32::INFINITY);
     for join in 0..2 {

@@ -2,7 +2,7 @@
 
 use compare::generate::{self, Kind};
 use compare::routine::{self, compare_all, Routine};
-use compare::{share, table};
+use compare::{portion, table};
 use std::time::Instant;
 
 #[test]
@@ -32,11 +32,11 @@ fn what_looks_right_but_is_wrong_is_caught() {
     let wrong = table::wrong::all();
     assert_eq!(wrong.len(), table::wrong::COUNT);
     let missed: Vec<&str> = wrong.iter().filter(|routine| first_difference(routine).is_none()).map(|routine| routine.name).collect();
-    assert!(missed.is_empty(), "not caught within {} rows: {missed:?}", share::of(routine::GATE));
+    assert!(missed.is_empty(), "not caught within {} rows: {missed:?}", portion::of(routine::GATE));
 }
 
 fn first_difference(routine: &Routine) -> Option<u64> {
-    let found = routine.compare(0, share::of(routine::GATE))?;
+    let found = routine.compare(0, portion::of(routine::GATE))?;
     println!("{}: caught in row {}", routine.name, found.row);
     Some(found.row)
 }

@@ -1,15 +1,15 @@
 //! What keeps a state, over runs of two thousand steps: every field after each step.
 
 use compare::runs::{self, Machine};
-use compare::share;
+use compare::portion;
 use compare::words::Words;
-use faces::{adrc, geo};
+use archives::{adrc, geo};
 
 const RUNS: u64 = 512;
 const STEPS: u64 = 2000;
 
 fn never_parts<O: Words + Copy, T: Words>(machine: Machine<O, T>) {
-    if let Some(parted) = machine.run(share::of(RUNS), STEPS) {
+    if let Some(parted) = machine.run(portion::of(RUNS), STEPS) {
         panic!("{parted}");
     }
 }
@@ -63,12 +63,12 @@ fn what_looks_right_but_is_wrong_parts() {
         (answer.command, answer.fallback).put(o);
         answer.shield
     });
-    assert!(in_the_band.run(share::of(RUNS), STEPS).is_some());
+    assert!(in_the_band.run(portion::of(RUNS), STEPS).is_some());
     let forgetful = runs::adrc_axis().with_ours("tick", |axis, i, o| {
         let mut answer = adrc::adrcaxis_tick(adrc::AdrcAxis { u_delivered_frac: 1.0, ..axis }, i.get(), i.get(), i.get());
         answer.axis.u_delivered_frac = axis.u_delivered_frac;
         answer.u.put(o);
         answer.axis
     });
-    assert!(forgetful.run(share::of(RUNS), STEPS).is_some());
+    assert!(forgetful.run(portion::of(RUNS), STEPS).is_some());
 }

@@ -2,7 +2,7 @@
 
 use compare::joint::bytes;
 use compare::log;
-use faces::{adrc, geo, Vec3};
+use archives::{adrc, geo, Vec3};
 
 #[test]
 fn the_same_lengths() {

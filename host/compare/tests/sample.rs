@@ -2,22 +2,22 @@
 
 use compare::joint::bytes::{float, put, word, LEG, TRAILER};
 use compare::joint::sample::{compare, expected, Fault, SAMPLE, WRONG};
-use compare::share;
+use compare::portion;
 
 const RUNS: u64 = 40_000;
 
 #[test]
 fn every_byte_is_the_rust_s() {
-    let seen = compare(&faces::route_sample, share::of(RUNS)).unwrap_or_else(|text| panic!("{text}"));
+    let seen = compare(&archives::route_sample, portion::of(RUNS)).unwrap_or_else(|text| panic!("{text}"));
     println!("{seen}");
     // a run that never goes where the errors are shows nothing
     let often = [seen.past, seen.at_start, seen.wild].into_iter().chain(seen.odd).chain(seen.refused).chain(seen.legs);
-    assert!(often.into_iter().all(|count| count > share::least(1_000)), "{seen}");
+    assert!(often.into_iter().all(|count| count > portion::least(1_000)), "{seen}");
 }
 
 #[test]
 fn what_looks_right_but_is_wrong_is_caught() {
-    let caught = |fault: &&Fault| match compare(&|route, time, sample| expected(**fault, route, time, sample), share::of(RUNS)) {
+    let caught = |fault: &&Fault| match compare(&|route, time, sample| expected(**fault, route, time, sample), portion::of(RUNS)) {
         Err(text) => {
             println!("{fault:?}: {text:.200}");
             true
@@ -44,7 +44,7 @@ fn along(places: &[f32], durations: &[f32]) -> Vec<u8> {
 
 fn sampled(route: &[u8], time: f32) -> (u32, [f32; 4]) {
     let mut sample = [0xa5; SAMPLE];
-    assert_eq!(faces::route_sample(route, time, &mut sample), 0);
+    assert_eq!(archives::route_sample(route, time, &mut sample), 0);
     assert!([2, 3, 5, 6, 8, 9, 11, 12].iter().all(|at| word(&sample, *at) == 0), "nothing happens on the other axes");
     (word(&sample, 0), [1, 4, 7, 10].map(|at| float(&sample, at)))
 }
@@ -75,7 +75,7 @@ fn every_length_and_the_order() {
     for length in 0..200 {
         let asked = |route: &[u8]| {
             let mut sample = vec![0xa5; length];
-            let number = faces::route_sample(route, 0.5, &mut sample);
+            let number = archives::route_sample(route, 0.5, &mut sample);
             assert_eq!(number == 0, sample.iter().any(|byte| *byte != 0xa5), "a refused call changes nothing");
             number
         };

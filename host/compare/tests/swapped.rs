@@ -1,9 +1,9 @@
 //! Request Eleven: actual and desired exchanged, on the archive's own calls.
 
 use compare::generate::{self, Kind, Part, Rng};
-use compare::{same, share, threads};
-use faces::geo::{self, Mat3};
-use faces::Vec3;
+use compare::{same, portion, threads};
+use archives::geo::{self, Mat3};
+use archives::Vec3;
 use std::sync::atomic::{AtomicU64, Ordering};
 
 type Rows = [[f32; 3]; 3];
@@ -69,7 +69,7 @@ fn sweep(pairs: u64, error: impl Fn(Rows, Rows) -> [f32; 3] + Sync) -> [u64; 3] 
 
 #[test]
 fn the_error_is_the_negative_within_the_bound() {
-    let pairs = share::of(PAIRS);
+    let pairs = portion::of(PAIRS);
     let [failed, other, zero] = sweep(pairs, error);
     println!("{pairs} pairs: {failed} fail; {other} components are not zero, {zero} are");
     assert_eq!(failed, 0, "of {pairs} pairs");
@@ -109,7 +109,7 @@ fn a_regrouped_error_is_not() {
 #[test]
 fn psi_is_the_same_for_all_bits() {
     let mut numbers = 0u64;
-    for number in 0..share::of(1_000_000) {
+    for number in 0..portion::of(1_000_000) {
         let mut words = [0.0f32; 18];
         generate::fill(&[Part::Rotation; 2], None, "psi swapped", number, &mut words);
         let rows = |from: usize| matrix(std::array::from_fn(|i| std::array::from_fn(|j| words[from + 3 * i + j])));
@@ -117,7 +117,7 @@ fn psi_is_the_same_for_all_bits() {
         assert!(same(here, there), "pair {number}: {here} and {there}");
         numbers += u64::from(!here.is_nan());
     }
-    assert!(numbers > share::of(200_000), "{numbers} are numbers");
+    assert!(numbers > portion::of(200_000), "{numbers} are numbers");
 }
 
 /// 2⁶⁴ in two columns: both products overflow, the component that has these columns is inf - inf, and the others hold.

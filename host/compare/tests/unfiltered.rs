@@ -49,7 +49,7 @@ fn before() -> Vec<Before> {
 fn set_up_no_longer_takes_them() {
     for Before { name, set_up, image } in before() {
         let mut lent = [0xee; IMAGE];
-        assert_eq!((faces::setup(&mut lent, &set_up), lent), (11, [0xee; IMAGE]), "{name}");
+        assert_eq!((archives::setup(&mut lent, &set_up), lent), (11, [0xee; IMAGE]), "{name}");
         if float(&image, 16) == 0.0 {
             Flight::set_up(&set_up).write(&mut lent);
             assert_eq!(lent, image, "{name}");
@@ -80,10 +80,10 @@ fn they_keep_ticking() {
         // what released it before, where the planner flies
         let mut margins = if word(&start, 15) == 0 { vec![2.0 * exit] } else { vec![] };
         let (mut log, mut flown, mut band) = (Log::new(), Vec::new(), [0u32; 2]);
-        assert_eq!(faces::tick_refusal(&start, TICK, ANSWER), 0, "{name}");
+        assert_eq!(archives::tick_refusal(&start, TICK, ANSWER), 0, "{name}");
         for _ in 0..2000 {
             let (input, mut answer, mut expected) = (input(&mut rng), [0; ANSWER], [0; ANSWER]);
-            assert_eq!(faces::tick(&mut image, &input, &mut answer), 0, "{name}");
+            assert_eq!(archives::tick(&mut image, &input, &mut answer), 0, "{name}");
             flight.tick(&input, &mut expected);
             let mut later = [0; IMAGE];
             flight.write(&mut later);

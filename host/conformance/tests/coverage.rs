@@ -128,7 +128,7 @@ fn the_rule_is_the_core_s_check_of_a_log() {
             spoil(&mut rng, &mut records[place], given);
         }
         let (log, mut verdict) = (written(&records.iter().map(|record| &record[..]).collect::<Vec<_>>()), [0; 4]);
-        assert_eq!(faces::log_check(&log, given.profile, given.enter, given.exit, &mut verdict), 0);
+        assert_eq!(archives::log_check(&log, given.profile, given.enter, given.exit, &mut verdict), 0);
         assert_eq!(first_wrong(&records, given), u32::from_le_bytes(verdict), "{given:?}");
         wrong += u32::from(verdict != [0xff; 4]);
     }

@@ -4,7 +4,7 @@
 use crate::json;
 use crate::output::{brief, seconds, FLAG};
 use crate::ticks::Ticks;
-use fosavalo::{looked_back, Image, Pilot, Record, Refusal, SetUp, Verdict};
+use fosavalo::{slow_flags, Image, Pilot, Record, Refusal, SetUp, Verdict};
 use std::io::{self, BufWriter, Write};
 
 /// Thresholds as set-up mends them.
@@ -64,7 +64,7 @@ fn flown(records: &[Record], verdict: Verdict, enter: f32, exit: f32) -> Result<
         // the greatest of all margins releases, where any does
         let before = (flown.last() == Some(&Pilot::Planner)).then_some(f32::MAX);
         let margins: Vec<f32> = before.into_iter().chain(some.iter().map(|record| record.answer().margin)).collect();
-        flown.extend(looked_back(&margins, enter, exit)?.into_iter().skip(before.iter().count()));
+        flown.extend(slow_flags(&margins, enter, exit)?.into_iter().skip(before.iter().count()));
     }
     Ok(flown)
 }

@@ -25,6 +25,6 @@ pub mod rotor;
 pub mod salvage;
 pub mod scenario;
 pub mod table;
-pub mod thrice;
+pub mod loop_thrice;
 pub mod ticks;
 pub mod vector;

@@ -5,7 +5,7 @@ use fly::flight::{Flight, Rule};
 use fly::output;
 use fly::pass;
 use fly::scenario::Scenario;
-use fosavalo::{looked_back, Answer, Log, Pilot, Profile, TickInput, ANSWER_BYTES, MOST_RECORDS};
+use fosavalo::{slow_flags, Answer, Log, Pilot, Profile, TickInput, ANSWER_BYTES, MOST_RECORDS};
 use std::path::PathBuf;
 use std::process::{Command, Output};
 
@@ -202,7 +202,7 @@ fn as_looked_back_at_once() {
         let margin = |of: u64| [0.25, 1.5, f32::NAN, f32::INFINITY, f32::MAX][of as usize];
         let margins: Vec<f32> = (0..count).map(|_| if next(2_000) < 3 { margin(next(5)) } else { 0.75 }).collect();
         let (enter, exit) = [(0.5, 1.0), (0.5, f32::MAX)][next(2) as usize];
-        let flown = looked_back(&margins, enter, exit).expect("there is room");
+        let flown = slow_flags(&margins, enter, exit).expect("there is room");
         let wrong = next(count as u64 + 1) as usize;
         let flag = |(at, pilot): (usize, &Pilot)| u32::from(*pilot == Pilot::Fallback) ^ u32::from(at >= wrong && next(3) == 0);
         let flags: Vec<u32> = flown.iter().enumerate().map(flag).collect();
@@ -222,15 +222,15 @@ fn within_the_band_it_is_soon_explained() {
     let mut margins = vec![0.75; MOST_RECORDS];
     margins[0] = 2.0;
     let start = std::time::Instant::now();
-    let slow = looked_back(&margins, 0.5, 1.0).expect("there is room");
-    let looked_back = start.elapsed();
+    let slow = slow_flags(&margins, 0.5, 1.0).expect("there is room");
+    let slow_flags = start.elapsed();
     assert!(slow.iter().all(|pilot| *pilot == Pilot::Planner));
     for wrong in [false, true] {
         flags[0] = u32::from(wrong);
         let (log, start) = (log(&margins, &flags), std::time::Instant::now());
         let explained = explained(&log, 0.5, 1.0);
         assert_eq!((explained.stretches.len(), explained.stretches[0].differ()), (1, usize::from(wrong)));
-        assert!(4 * start.elapsed() < looked_back, "{:?} of {looked_back:?}", start.elapsed());
+        assert!(4 * start.elapsed() < slow_flags, "{:?} of {slow_flags:?}", start.elapsed());
     }
 }
 

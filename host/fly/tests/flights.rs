@@ -2,7 +2,7 @@
 
 use fly::flight::{Flight, Rule, RULES};
 use fly::table::{choices, passes, table};
-use fly::{curve, desk, exchange, legs, output, pass, rotor, thrice};
+use fly::{curve, desk, exchange, legs, output, pass, rotor, loop_thrice};
 use fosavalo::{BodyRate, GyroFilter, Image, Leg, Pilot, Profile, Route, SetUp, TickInput};
 
 #[test]
@@ -98,10 +98,10 @@ fn the_desk() {
 /// And of the loop that is flown three times: each round is four legs, the same ones, and takes its eight seconds; and the aircraft is where the loop is.
 #[test]
 fn the_loop() {
-    let now = thrice::table().expect("the pattern is one");
-    assert_eq!(now, include_str!("thrice.txt"), "\n{now}");
+    let now = loop_thrice::table().expect("the pattern is one");
+    assert_eq!(now, include_str!("loop_thrice.txt"), "\n{now}");
     for seed in pass::SEEDS {
-        let flown = thrice::fly(seed).expect("the pattern is one");
+        let flown = loop_thrice::fly(seed).expect("the pattern is one");
         assert_eq!((flown.flight.strays(), flown.places.len()), (None, flown.flight.ticks.len()));
         assert_eq!(flown.rounds, [0, 1, 1, 1, 1, 2, 2, 2, 2, 3, 3, 3, 3, 4]);
         let legs: Vec<Leg> = flown.route.legs().collect();

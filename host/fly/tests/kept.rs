@@ -8,7 +8,7 @@ use fly::output;
 use fly::replay;
 use fly::salvage::{salvage, End};
 use fly::scenario::{fields, Scenario};
-use fly::{curve, desk, exchange, legs, pass, rotor, thrice};
+use fly::{curve, desk, exchange, legs, pass, rotor, loop_thrice};
 use fosavalo::{BodyRate, Leg, Log, LogSeries, LogView, Profile, Record, SetUp, TickInput, MOST_IN_SERIES, SETUP_BYTES};
 use std::path::{Path, PathBuf};
 use std::process::Command;
@@ -39,7 +39,7 @@ fn flights() -> Vec<(&'static str, Flight)> {
         ("pass-earlier", pass(Rule::Earlier)),
         ("legs", legs::fly(pass::DRAWN).expect("the legs meet")),
         ("exchange", exchange::fly(pass::DRAWN).expect("no pass is refused").flight),
-        ("thrice", thrice::fly(pass::DRAWN).expect("the legs meet").flight),
+        ("thrice", loop_thrice::fly(pass::DRAWN).expect("the legs meet").flight),
         ("curve", curve::fly(&pass::SHOWN, pass::DRAWN).expect("the legs meet").flight),
         ("rotor-lost", down(Profile::LostRotor)),
         ("rotor-whole", down(Profile::Whole)),

@@ -10,14 +10,14 @@ use core::fmt;
 ///
 /// So each typed call that computes asks first: [`Image::set_up`], [`Image::check`], the making of a [`Route`], both ticks, since a
 /// library may be loaded in flight, and a tick may be on another thread than its set-up; and those that look at a flight afterwards,
-/// [`LogView::check`] and [`looked_back`]. It costs three sums. An image, a log or an input taken from bytes is copied and not computed
+/// [`LogView::check`] and [`slow_flags`]. It costs three sums. An image, a log or an input taken from bytes is copied and not computed
 /// with, so nothing is asked; what gives no `Result` cannot refuse: before [`sinf`], [`cosf`] and [`calls`], ask [`FloatFault::check`].
 ///
 /// [`Image::set_up`]: crate::Image::set_up
 /// [`Image::check`]: crate::Image::check
 /// [`Route`]: crate::Route
 /// [`LogView::check`]: crate::LogView::check
-/// [`looked_back`]: crate::looked_back
+/// [`slow_flags`]: crate::slow_flags
 /// [`sinf`]: crate::sinf
 /// [`cosf`]: crate::cosf
 /// [`calls`]: crate::calls

@@ -31,7 +31,7 @@
 //! | ticks to keep, or a flight to look at | [`Log`], [`LogView`], [`Record`] |
 //! | a flight longer than a log | [`LogSeries`], [`SeriesCheck`] |
 //! | a log from another box, to be checked | [`LogView::check`], [`Verdict`] |
-//! | margins, to explain who flew | [`looked_back`] |
+//! | margins, to explain who flew | [`slow_flags`] |
 //! | bytes of your own | [`calls`]: the C calls as they are, on slices |
 //! | a refusal's number | [`Refusal`] |
 //! | an angle | [`sinf`], [`cosf`] |
@@ -41,7 +41,7 @@
 //!
 //! Words are little-endian, floats as their bits; `include/fosavalo.h` is the same face for C. The crate has no dependency but
 //! `libfosavalo.a`, and needs no `std`. The feature `alloc`, on by default, has what takes memory, [`Log`], [`LogSeries`], [`SeriesCheck`], [`Pattern`] and
-//! [`looked_back`]; without it no allocator is needed, and these are calls on lent bytes ([`calls::log_append`], [`calls::flags`]) or read from them ([`LogView`], [`Route::expand`]). The archive is that of `make core` in a checkout, of `lib/` in an unpacked
+//! [`slow_flags`]; without it no allocator is needed, and these are calls on lent bytes ([`calls::log_append`], [`calls::flags`]) or read from them ([`LogView`], [`Route::expand`]). The archive is that of `make core` in a checkout, of `lib/` in an unpacked
 //! distribution, or pkg-config's; the variable `FOSAVALO_LIB_DIR` names the folder of another.
 
 #![no_std]
@@ -92,7 +92,7 @@ pub use sample::Sample;
 pub use series::{LogSeries, SeriesCheck, MOST_IN_SERIES};
 pub use setup::{AdrcGains, FilterDoubt, Gains, Governor, GyroFilter, Profile, RecoverableSet, Segment, SetUp};
 #[cfg(feature = "alloc")]
-pub use slow::looked_back;
+pub use slow::slow_flags;
 pub use tick::{Answer, BodyRate, Pilot, TickInput, Torque};
 pub use version::VersionFault;
 

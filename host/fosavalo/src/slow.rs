@@ -6,13 +6,13 @@ use alloc::{vec, vec::Vec};
 /// [`Refusal::NoRoom`] more than [`MOST_MARGINS`](crate::MOST_MARGINS).
 ///
 /// ```
-/// use fosavalo::{looked_back, Pilot::Fallback, Pilot::Planner};
+/// use fosavalo::{slow_flags, Pilot::Fallback, Pilot::Planner};
 ///
-/// let flown = looked_back(&[1.0, 1.5, 0.75, 0.25, 0.75], 0.5, 1.0)?;
+/// let flown = slow_flags(&[1.0, 1.5, 0.75, 0.25, 0.75], 0.5, 1.0)?;
 /// assert_eq!(flown, [Fallback, Planner, Planner, Fallback, Fallback]);
 /// # Ok::<(), fosavalo::Refusal>(())
 /// ```
-pub fn looked_back(margins: &[f32], enter: f32, exit: f32) -> Result<Vec<Pilot>, Refusal> {
+pub fn slow_flags(margins: &[f32], enter: f32, exit: f32) -> Result<Vec<Pilot>, Refusal> {
     FloatFault::check()?;
     let words: Vec<u8> = margins.iter().flat_map(|margin| margin.to_le_bytes()).collect();
     let mut flags = vec![1; margins.len()];

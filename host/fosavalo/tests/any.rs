@@ -1,7 +1,7 @@
 //! Any bytes at all: nothing panics, what is written is read back, and the typed calls are the C calls.
 
 use fosavalo::{
-    calls, looked_back, Answer, Image, Leg, Log, LogView, Pattern, Pilot, Profile, Record, Refusal, Route, SetUp, TickInput, Verdict,
+    calls, slow_flags, Answer, Image, Leg, Log, LogView, Pattern, Pilot, Profile, Record, Refusal, Route, SetUp, TickInput, Verdict,
 };
 use fosavalo::{ANSWER_BYTES, IMAGE_BYTES, LEG_BYTES, MOST_LEGS, ROUTE_TRAILER_BYTES, SETUP_BYTES, TICK_BYTES};
 use fosavalo::{EMPTY_LOG, LOG_TRAILER_BYTES, MOST_MARGINS, MOST_RECORDS, RECORD_BYTES};
@@ -302,13 +302,13 @@ fn flags_of_any_margins() {
         let given: Vec<f32> = floats(thresholds).collect();
         let mut flags = vec![7; length];
         assert_eq!(calls::flags(margins, given[0], given[1], &mut flags), 0);
-        let typed = looked_back(&floats(margins).collect::<Vec<f32>>(), given[0], given[1]).expect("it is not too long");
+        let typed = slow_flags(&floats(margins).collect::<Vec<f32>>(), given[0], given[1]).expect("it is not too long");
         let pilots = flags.iter().map(|flag| [Pilot::Planner, Pilot::Fallback][usize::from(*flag)]);
         assert!(pilots.eq(typed));
         flags.iter().for_each(|flag| seen[usize::from(*flag)] += 1);
     }
     assert!(seen.iter().all(|count| *count > 1000), "{seen:?}");
-    assert_eq!(looked_back(&vec![1.0; MOST_MARGINS + 1], 0.5, 1.0), Err(Refusal::NoRoom));
+    assert_eq!(slow_flags(&vec![1.0; MOST_MARGINS + 1], 0.5, 1.0), Err(Refusal::NoRoom));
 }
 
 /// A record of any bytes among those of a fallback that never lets go: the typed call is the C call, and says that all is right or names that record.

@@ -1,7 +1,7 @@
 //! Floating-point environments that the core does not compute in: each is told, and nothing is made or changed.
 #![cfg(any(target_arch = "x86_64", target_arch = "aarch64"))]
 
-use fosavalo::{calls, looked_back, FloatFault, GyroFilter, Image, Leg, Log, Profile, Refusal, Route, SetUp, TickInput, IMAGE_BYTES};
+use fosavalo::{calls, slow_flags, FloatFault, GyroFilter, Image, Leg, Log, Profile, Refusal, Route, SetUp, TickInput, IMAGE_BYTES};
 use unit::{control, load, FLUSHED, WRONG};
 
 /// The processor's word for it, MXCSR.
@@ -150,7 +150,7 @@ fn what_computes_is_refused_there() {
                 Route::new(&legs).err(),
                 Route::from_bytes(route.as_bytes()).err(),
                 log.check(Profile::Whole, 0.5, 1.0).err(),
-                looked_back(&[], 0.5, 1.0).err(),
+                slow_flags(&[], 0.5, 1.0).err(),
             ]
         });
         assert_eq!(said, [refused; 8], "{bits:x}");

@@ -3,7 +3,7 @@
 //!
 //! The numbers that the published text asks for stand here, under the name that it knows them by. Sine and cosine are ours, by the exported
 //! calls (document 01: "the oracle build uses those angle functions"); the root and the absolute value are IEEE 754's, by the standard library;
-//! `atan2f` is called only by what is not ported. In `oracle-published`, whose manifest has another crate as `faces`, sine and cosine are relay's.
+//! `atan2f` is called only by what is not ported. In `oracle-published`, whose manifest has another crate as `archives`, sine and cosine are relay's.
 
 extern crate self as relay_math;
 
@@ -35,7 +35,7 @@ macro_rules! words {
 
 include!(concat!(env!("OUT_DIR"), "/modules.rs"));
 
-pub use faces::{cosf, sinf};
+pub use archives::{cosf, sinf};
 pub use libm::{atan2f, fabsf, sqrtf};
 
 #[cfg(test)]

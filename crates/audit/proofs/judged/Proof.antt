@@ -1,6 +1,6 @@
 -- `audit::judged`: what is carried along is what looking back says, and the verdict from here on is the verdict. Assumes nothing.
 use Rattle.laws.proofs.Prelude.{needs, _≡_, refl, sym, ap, _∙_, _-_, _≤_, sub-zero, arith, length}
-use Rattle.slow.specs.Back.{lookBack}
+use Rattle.slow_shield.specs.Back.{lookBack}
 use Rattle.log.{specs.Records.records, proofs.LogForm.is-a-log}
 use Rattle.audit.specs.{Right.marginsIn, Verdict.{verdictFrom, verdictOf}}
 use Rattle.audit.proofs.{OneTurn.{turn, all-turns, carried, goes-on, stops}, judged.Statement.statement}

@@ -127,8 +127,8 @@ fn routines() -> Vec<(u32, Routine)> {
 fn numbers() -> Vec<Routine> {
     let any = [Part::Above(100.0)];
     vec![
-        Routine::new("sqrtf", &any, |i| faces::sqrtf(i.get()), |i| relay_math_published::sqrtf(i.get())),
-        Routine::new("fabsf", &any, |i| faces::fabsf(i.get()), |i| relay_math_published::fabsf(i.get())),
+        Routine::new("sqrtf", &any, |i| archives::sqrtf(i.get()), |i| relay_math_published::sqrtf(i.get())),
+        Routine::new("fabsf", &any, |i| archives::fabsf(i.get()), |i| relay_math_published::fabsf(i.get())),
     ]
 }
 

@@ -23,7 +23,7 @@ pub struct Given {
 
 /// The proved archive.
 pub fn archive(log: &[u8], Given { profile, enter, exit }: Given, verdict: &mut [u8]) -> u32 {
-    faces::log_check(log, profile, enter, exit, verdict)
+    archives::log_check(log, profile, enter, exit, verdict)
 }
 
 /// The verdict that all is right.

@@ -113,7 +113,7 @@ fn run(number: u64, ticks: usize) -> Result<Run, String> {
     let given = Given { profile: word(&set_up, SETUP_PROFILE), enter: float(&set_up, 12), exit: float(&set_up, 13) };
     let (mut buffer, mut len, mut seen) = ([written(&[]), vec![0x3c; RECORD * ticks]].concat(), TRAILER, Seen::NONE);
     let wrong = |what: &str, number: u32| Err(format!("{what} is refused with {number}"));
-    match faces::setup(&mut image, &set_up) {
+    match archives::setup(&mut image, &set_up) {
         0 => {}
         // for its cut-off: an image that an earlier release set up so, whose log is checked as before
         11 => Flight::set_up(&set_up).write(&mut image),
@@ -123,7 +123,7 @@ fn run(number: u64, ticks: usize) -> Result<Run, String> {
     while records.len() < ticks {
         let call = guide.call();
         if call == joint::Call::Exchange {
-            let number = faces::exchange(&mut image, &guide.leg(pilot.own_leg()));
+            let number = archives::exchange(&mut image, &guide.leg(pilot.own_leg()));
             *(if number == 0 { &mut seen.exchanges } else { &mut seen.refused }) += 1;
             continue;
         }
@@ -132,8 +132,8 @@ fn run(number: u64, ticks: usize) -> Result<Run, String> {
         guide.hurry(&mut input);
         let (mut answer, route) = ([0; ANSWER], guide.route(call, flight.time_ahead(float(&input, 7), float(&input, 10))));
         let number = match call {
-            joint::Call::RouteTick => faces::route_tick(&mut image, &input, &route, &mut answer),
-            _ => faces::tick(&mut image, &input, &mut answer),
+            joint::Call::RouteTick => archives::route_tick(&mut image, &input, &route, &mut answer),
+            _ => archives::tick(&mut image, &input, &mut answer),
         };
         if number != 0 {
             seen.refused += 1;
@@ -141,9 +141,9 @@ fn run(number: u64, ticks: usize) -> Result<Run, String> {
         }
         *(if call == joint::Call::RouteTick { &mut seen.on_routes } else { &mut seen.plain }) += 1;
         if rng.below(8) == 0 {
-            seen.refused += u64::from(faces::log_append(&mut buffer, len as u64 + 1, &input, &answer) == 8);
+            seen.refused += u64::from(archives::log_append(&mut buffer, len as u64 + 1, &input, &answer) == 8);
         }
-        let number = faces::log_append(&mut buffer, len as u64, &input, &answer);
+        let number = archives::log_append(&mut buffer, len as u64, &input, &answer);
         if number != 0 {
             return wrong("an append", number);
         }

@@ -47,7 +47,7 @@ fn profiles() -> bool {
         for low in 0..1 << 16 {
             let profile = (high as u32) << 16 | low;
             put(&mut image, PROFILE, profile);
-            let number = faces::tick_refusal(&image, TICK, ANSWER);
+            let number = archives::tick_refusal(&image, TICK, ANSWER);
             own += u64::from(number == 0);
             off += u64::from(number != if profile < 2 { 0 } else { 4 });
         }
@@ -66,8 +66,8 @@ fn main() {
     good &= report("sine and cosine beyond 8192", numbers::far(1));
     good &= report("sine and cosine up to 8192 against document 01", numbers::document(1));
     report("the published kernels up to 128, for the record", numbers::published(7));
-    beside("sine", numbers::apart(1, faces::sinf, relay_math_published::sinf));
-    beside("cosine", numbers::apart(1, faces::cosf, relay_math_published::cosf));
+    beside("sine", numbers::apart(1, archives::sinf, relay_math_published::sinf));
+    beside("cosine", numbers::apart(1, archives::cosf, relay_math_published::cosf));
     good &= profiles();
     let numbers::Checksum { cases, sum } = numbers::checksum();
     println!(

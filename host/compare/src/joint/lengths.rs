@@ -7,7 +7,7 @@ use super::model::{self, Flight, Profile};
 use super::pilot::Pilot;
 use super::route::Source;
 use super::{Call, Face};
-use crate::{share, threads};
+use crate::{portion, threads};
 use std::sync::{Mutex, PoisonError};
 
 /// And of a route.
@@ -45,7 +45,7 @@ fn with_image(face: Face, call: Call, image: usize, before: &Hands) -> Result<u6
     let answers = if none { 0 } else { LONGEST };
     let (mut calls, mut lent, mut expected) = (0, before.clone(), before.clone());
     for input in 0..=LONGEST {
-        for answer in (0..=answers).filter(|answer| none || share::has(*answer, ANSWER, image + input + answer)) {
+        for answer in (0..=answers).filter(|answer| none || portion::has(*answer, ANSWER, image + input + answer)) {
             for hands in [&mut lent, &mut expected] {
                 (hands.image.len, hands.input.len, hands.answer.len) = (image, input, answer);
             }
@@ -110,7 +110,7 @@ pub fn routes(face: Face) -> Result<u64, String> {
         let mut whole = Lent::with_room(&vec![0; LEG * count], LONGEST_ROUTE - LEG * count);
         (0..count).for_each(|leg| put(whole.bytes_mut(), 19 * leg + 18, 1.0f32.to_bits()));
         trailer(whole.bytes_mut(), LEG * count);
-        for len in (0..=LONGEST_ROUTE).filter(|len| share::has(*len, LEG * count + TRAILER, count + len)) {
+        for len in (0..=LONGEST_ROUTE).filter(|len| portion::has(*len, LEG * count + TRAILER, count + len)) {
             for moved in [false, true] {
                 let mut route = whole.clone();
                 if let (Some(at), true) = (len.checked_sub(TRAILER), moved) {

@@ -39,9 +39,9 @@ pub type Face<'a> = &'a (dyn Fn(Call, &mut Lending<'_>) -> u32 + Sync);
 /// The proved archive.
 pub fn archive(call: Call, Lending { image, input, route, answer }: &mut Lending<'_>) -> u32 {
     match call {
-        Call::SetUp => faces::setup(image, input),
-        Call::Tick => faces::tick(image, input, answer),
-        Call::RouteTick => faces::route_tick(image, input, route, answer),
-        Call::Exchange => faces::exchange(image, input),
+        Call::SetUp => archives::setup(image, input),
+        Call::Tick => archives::tick(image, input, answer),
+        Call::RouteTick => archives::route_tick(image, input, route, answer),
+        Call::Exchange => archives::exchange(image, input),
     }
 }

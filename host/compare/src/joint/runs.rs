@@ -13,7 +13,7 @@ use super::route::{Legs, Source};
 use super::wrong::Version;
 use super::{demand, Call, Face};
 use crate::counts::{counts, Counts};
-use crate::{share, threads};
+use crate::{portion, threads};
 use oracle::geo::{Mat3, Vec3};
 use std::cell::Cell;
 use std::fmt;
@@ -27,7 +27,7 @@ pub const GATE_ON_ROUTES: u64 = 2_000_000;
 
 /// The ticks of this run: the gate's, or their share, or more where the environment has FOSAVALO_TICKS.
 pub fn ticks() -> u64 {
-    std::env::var("FOSAVALO_TICKS").ok().and_then(|text| text.parse().ok()).unwrap_or(0).max(share::of(GATE))
+    std::env::var("FOSAVALO_TICKS").ok().and_then(|text| text.parse().ok()).unwrap_or(0).max(portion::of(GATE))
 }
 
 /// How many runs have at least so many accepted ticks.

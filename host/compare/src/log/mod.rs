@@ -29,4 +29,4 @@ pub struct Face {
 }
 
 /// The proved archive.
-pub const ARCHIVE: Face = Face { name: "libfosavalo.a", append: faces::log_append, count: faces::log_count, record: faces::log_record };
+pub const ARCHIVE: Face = Face { name: "libfosavalo.a", append: archives::log_append, count: archives::log_count, record: archives::log_record };

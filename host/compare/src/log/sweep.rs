@@ -9,7 +9,7 @@ use crate::joint::model::{Flight, Right};
 use crate::joint::pilot::{self, Pilot};
 use crate::joint::refusal::Refusals;
 use crate::joint::route::Source;
-use crate::share;
+use crate::portion;
 use std::fmt;
 
 counts! {
@@ -150,7 +150,7 @@ pub fn lengths(face: &Face) -> Result<Seen, String> {
                 }
                 buffer.len = len;
                 sides.read(&buffer)?;
-                for all in (0..=LONGEST).filter(|all| share::has(len, log.len(), len + all)) {
+                for all in (0..=LONGEST).filter(|all| portion::has(len, log.len(), len + all)) {
                     buffer.len = all;
                     sides.append(&buffer, len as u64, &input, &answer)?;
                 }
@@ -169,7 +169,7 @@ pub fn other_lengths(face: &Face) -> Result<Seen, String> {
     let (mut input, mut answer) = (Lent::of(&[0x11; LONGEST]), Lent::of(&[0x22; LONGEST]));
     for (buffer, log_len) in [(&good, log.len()), (&full, log.len()), (&good, log.len() - 1), (&full, full.len + 1)] {
         for n in 0..=LONGEST {
-            for a in (0..=LONGEST).filter(|a| share::has(n, TICK, n + a) || share::has(*a, ANSWER, n + a)) {
+            for a in (0..=LONGEST).filter(|a| portion::has(n, TICK, n + a) || portion::has(*a, ANSWER, n + a)) {
                 (input.len, answer.len) = (n, a);
                 sides.append(buffer, log_len as u64, &input, &answer)?;
             }
@@ -313,7 +313,7 @@ pub const FLIGHTS: u64 = 96;
 /// Real ticks, each logged when it is accepted, some calls that are refused between them; then the log is read back from the start.
 pub fn flights(face: &Face) -> Result<Seen, String> {
     let mut seen = Seen::NONE;
-    for number in 0..share::of(FLIGHTS) {
+    for number in 0..portion::of(FLIGHTS) {
         let (mut pilot, mut rng) = (Pilot::new(number), Rng::new("logged", number));
         let set_up = pilot.set_up();
         let (mut flight, mut image) = (Flight::set_up(&set_up), [0; IMAGE]);
@@ -324,7 +324,7 @@ pub fn flights(face: &Face) -> Result<Seen, String> {
         while flown.len() < ticks {
             let input = pilot.next(&flight, &Source::Segment);
             let mut answer = [0; ANSWER];
-            if faces::tick(&mut image, &input, &mut answer) != 0 {
+            if archives::tick(&mut image, &input, &mut answer) != 0 {
                 return Err(format!("flight {number}: a tick from set-up is refused with {}", Right.of_tick(&image, TICK, ANSWER)));
             }
             flight.tick(&input, &mut [0; ANSWER]);

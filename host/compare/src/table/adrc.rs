@@ -3,7 +3,7 @@
 use crate::generate::{Part, Rng};
 use crate::routine::Routine;
 use crate::words::Words;
-use faces::adrc;
+use archives::adrc;
 use oracle::adrc::{private, AdrcAxis, AdrcGains, AdrcRate, Biquad, CommandFilter, CommandFilter3, GyroLpf};
 
 /// omega_o, omega_c, b0, tau.

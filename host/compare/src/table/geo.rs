@@ -4,7 +4,7 @@ use crate::generate::{Part, Rng};
 use crate::numbers::{EARLIER_LIMIT, LIMIT};
 use crate::routine::Routine;
 use crate::words::In;
-use faces::geo;
+use archives::geo;
 use oracle::geo::{private, GeoAtt, GeoGains, RecoverableSet, SimplexShield};
 
 /// An acceleration, a body rate, a jerk: m/s², rad/s, m/s³.
@@ -277,7 +277,7 @@ fn axis_along_the_heading(rng: &mut Rng, words: &mut [f32]) {
             let scale = rng.range(0.5, 2.0);
             let off = rng.of(&[0.0, 1e-9, 1e-8, 1e-7, -1e-9]).unwrap_or(0.0);
             let off = rng.near(off);
-            let (s, c) = faces::sincos(words[3]);
+            let (s, c) = archives::sincos(words[3]);
             words[0] = c * scale;
             words[1] = rng.near(s * scale);
             words[2] = off * scale;

@@ -3,7 +3,7 @@
 use crate::generate::{Part, Rng};
 use crate::numbers::{EARLIER_LIMIT, LIMIT};
 use crate::routine::Routine;
-use faces::pos;
+use archives::pos;
 
 pub fn routines() -> Vec<Routine> {
     vec![Routine::new(

@@ -2,7 +2,7 @@
 
 use crate::generate::{Part, Rng};
 use crate::routine::Routine;
-use faces::traj;
+use archives::traj;
 use oracle::traj::{private, Quintic, RefGovernor, Segment3};
 
 const POSITION: Part = Part::Number(50.0);

@@ -4,8 +4,8 @@
 use crate::numbers::LIMIT;
 use crate::routine::Routine;
 use crate::words::{In, Words};
-use faces::geo::AxisAnswer;
-use faces::{adrc, geo, traj, BodyRate, Torque, Vec3};
+use archives::geo::AxisAnswer;
+use archives::{adrc, geo, traj, BodyRate, Torque, Vec3};
 use oracle::geo::private as vectors;
 
 /// The routine of the table with `ours` in the place of ours.
@@ -58,7 +58,7 @@ fn geometry() -> Vec<Option<Routine>> {
         instead("desired_attitude", "an axis taken as given, not normalised again", |i| {
             let (b3, yaw): (V, f32) = i.get();
             let AxisAnswer { given, .. } = geo::normalize(Vec3(b3[0], b3[1], b3[2]));
-            let (s, c) = faces::sincos(yaw);
+            let (s, c) = archives::sincos(yaw);
             let b2 = vectors::normalize(vectors::cross(b3, [c, s, 0.0])).filter(|_| given);
             b2.map(|b2| vectors::transpose3([vectors::cross(b2, b3), b2, b3]))
         }),

@@ -7,7 +7,7 @@ use crate::flight::Flight;
 use crate::output::{self, of_file};
 use crate::scenario::{self, Scenario};
 use crate::table::{choices, passes, table, Pair};
-use crate::{curve, desk, exchange, legs, pass, rotor, thrice};
+use crate::{curve, desk, exchange, legs, pass, rotor, loop_thrice};
 use fosavalo::{LEG_BYTES, TICK_BYTES};
 use std::path::{Path, PathBuf};
 
@@ -85,8 +85,8 @@ fn run(arguments: &Arguments) -> Result<u8, String> {
         let flown = exchange::fly(pass::DRAWN).map_err(|refusal| refusal.to_string())?;
         told(Ok(exchange::table(&flown)))?;
         lines(output::kept(&folder, "exchange", &flown.flight).map(|said| vec![said]))?;
-        told(thrice::table())?;
-        lines(thrice::write(&folder))?;
+        told(loop_thrice::table())?;
+        lines(loop_thrice::write(&folder))?;
         told(curve::table().map_err(|refusal| refusal.to_string()))?;
         lines(curve::write(&folder))?;
         told(rotor::table().map_err(|refusal| refusal.to_string()))?;

@@ -7,7 +7,8 @@ use Rattle.words.specs.Words.{word, float, flag, bytesOf}
 use Rattle.latch.specs.Latch.{FliesAt}
 use Rattle.relay_geo.{specs.{declared.{set.RecoverableSet.RecoverableSet, shield.Thresholds.Thresholds}, Shield.{mendThresholds, newShield}}, proofs.SetUp.{enter-finite-positive, enter-below-exit}}
 use Rattle.outcome.{specs.{declared.Outcome.the-variants.{Done, PassThrough}, Outcomes.{firstOf, left}}, proofs.Tables.never-given}
-use Rattle.slow_shield.specs.{Back.{lookBack, flagsTo, slowFlags}, Entry.{MOST-MARGINS, marginsFrom, marginsIn, flagBytes, flagsTable, flagsCall}, Stepping.{StepGiven, marginsGiven, steppedFlags}}
+use Rattle.slow_shield.specs.{Back.{lookBack, flagsTo, slowFlags}, Entry.{MOST-MARGINS, marginsFrom, marginsIn, flagBytes, flagsTable, flagsCall}}
+use Rattle.slow_shield.specs.Stepping.{StepGiven, marginsGiven, steppedFlags}
 use Rattle.slow_shield.proofs.{Slow.{slow-flies-at, slow-is-stepping}, Loops.margins-length}
 
 -- thresholds as set-up mends them are what looking back asks for

@@ -2,7 +2,7 @@
 #                  a pass of three legs on a route, one whose segment is exchanged, a loop flown three times, a curved pass, one in which a rotor stops, and one
 #                  from an operator's desk.
 #                  The files go to flights/, which nothing here removes
-#                  `make fly SCENARIO=my.txt` flies that file instead (docs/FLYING.md); OUT=folder has the files elsewhere;
+#                  `make fly SCENARIO=my.txt` flies that file instead (docs/SCENARIOS.md); OUT=folder has the files elsewhere;
 #                  the picture wants gnuplot, which is looked for first; root has it installed, and is told before it is; INSTALL=no installs nothing
 # make log         a flight as CSV on standard output, and its picture: `make log FILE=flights/pass-shield.flight`, or a log (docs/FLYING.md);
 #                  with ENTER=0.03 EXIT=0.07 the picture of a log has these thresholds; OUT and INSTALL as above
@@ -13,7 +13,7 @@
 # make review      a flight as one page that any browser shows from a disk, with the proved core in it: `make review FILE=flights/pass-shield.flight`, or a log with
 #                  ENTER and EXIT; PAGE=my.html has it elsewhere than in flights/review.html; without FILE the page waits for what is dropped on it
 # make expand      a pattern of legs and repeats, as text: its legs as they are flown, and the bytes of both, in flights/:
-#                  `make expand FILE=host/fly/scenarios/loop.txt` (docs/FLYING.md); OUT as above. All of these are one program's, which has more:
+#                  `make expand FILE=host/fly/scenarios/loop.txt` (docs/SCENARIOS.md); OUT as above. All of these are one program's, which has more:
 #                  `host/target/release/fosavalo --help`
 # make choices     the pass with other choices of set, filter and noise: what hangs on them
 # make test        the gate: proofs, must-fail edits, programs, the host's comparisons; its last line is `N passed, 0 failed`.

@@ -12,7 +12,7 @@
 //! Lines `leg` with nineteen numbers, before the first tick, make a route that is flown in place of the segment; `repeat 3 { … }` about some of them has
 //! these flown three times. A line `profile lost-rotor` there has the flight set up for a lost rotor.
 //!
-//! A number is a decimal, `nan`, `inf`, `-inf`, or `0x` and the bits. docs/FLYING.md has all of it.
+//! A number is a decimal, `nan`, `inf`, `-inf`, or `0x` and the bits. docs/SCENARIOS.md has all of it.
 
 use crate::pattern::{self, Draft, Expanded};
 use fosavalo::{GyroFilter, Image, Leg, Profile, Refusal, Route, SetUp, TickInput, LEG_BYTES, SETUP_BYTES, TICK_BYTES};

@@ -161,10 +161,10 @@ fn what_is_read() {
     assert_eq!(inputs.len(), 7);
 }
 
-/// docs/FLYING.md has every field, with how many numbers it takes.
+/// docs/SCENARIOS.md has every field, with how many numbers it takes.
 #[test]
 fn the_fields_are_documented() {
-    let page = std::fs::read_to_string("../../docs/FLYING.md").expect("the page, from where cargo runs a test");
+    let page = std::fs::read_to_string("../../docs/SCENARIOS.md").expect("the page, from where cargo runs a test");
     let (_, table) = page.split_once("| Set-up field |").expect("the table of fields");
     let (table, _) = table.split_once("\n\n").expect("its end");
     let mut documented = Vec::new();

@@ -13,7 +13,7 @@ pub const SUBCOMMAND: Subcommand = Subcommand {
     takes: "FILE [--out FOLDER]",
     brief: "a pattern of legs and repeats: its legs as they are flown, and its bytes",
     about: || {
-        "Expands the pattern in FILE, plain text of legs and repeats as a scenario has them (docs/FLYING.md), and lists its legs on
+        "Expands the pattern in FILE, plain text of legs and repeats as a scenario has them (docs/SCENARIOS.md), and lists its legs on
 standard output as they are flown, each with its line; the list is itself a pattern, of legs alone. A mistake is named by its
 line and field.
 

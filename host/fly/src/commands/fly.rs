@@ -41,7 +41,7 @@ fn fields() -> String {
         named.chunks(9).map(|line| format!("\n  {}", line.join(", "))).collect::<String>()
     });
     format!(
-        "A scenario is plain text, a field and its numbers on a line, # before a comment (docs/FLYING.md; host/fly/scenarios has
+        "A scenario is plain text, a field and its numbers on a line, # before a comment (docs/SCENARIOS.md; host/fly/scenarios has
 examples). Fields, and how many numbers each takes; of the set-up, before the first tick:{set_up}
 of the input, which hold until they are given again:{input}
 and

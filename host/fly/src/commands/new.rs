@@ -69,7 +69,7 @@ fn commented(field: &str, what: &str) -> String {
 pub fn scenario() -> String {
     let mut text =
         "# A scenario: a field and its numbers on a line; what follows a # is a comment. A field that is left out has the numbers
-# that stand here. docs/FLYING.md has more.
+# that stand here. docs/SCENARIOS.md has more.
 
 # the set-up
 "

@@ -4,7 +4,7 @@ use Rattle.laws.proofs.Determined.{OneAnswer, no_second, both}
 use Rattle.outcome.specs.Outcomes.{Filled}
 use Rattle.audit.proofs.check_into
 
-pub check-into-once : OneAnswer check_into.ended check_into.Reads.Post
-check-into-once κs a x y v w p q =
+pub check_into_once : OneAnswer check_into.ended check_into.Reads.Post
+check_into_once κs a x y v w p q =
     let e = no_second p q in
     (ap (λ (l : Filled). l.outcome) e, both refl (both refl (both refl (both refl (both (ap (λ (l : Filled). l.later) e) refl)))))

@@ -3,17 +3,17 @@
 ghost use Rattle.std.specs.Prelude.{◌≡◌, true, ◌<◌, length};
 ghost use Rattle.std.specs.Float.Ieee.{lt};
 ghost use Rattle.outcome.specs.Outcomes.{left};
-ghost use Rattle.log.specs.Form.{RECORD-BYTES, isLog};
-ghost use Rattle.log.specs.Records.{records};
-ghost use Rattle.image.specs.Passed.{passedOn};
-ghost use Rattle.audit.specs.Right.{passes, passesThird, planners, finiteOn, finites, right};
-ghost use Rattle.audit.specs.Verdict.{verdictOf, verdictWord};
-ghost use Rattle.audit.specs.Entry.{checkCall};
+ghost use Rattle.flight_log.specs.Form.{RECORD_BYTES, is_log};
+ghost use Rattle.flight_log.specs.Records.{records};
+ghost use Rattle.image.specs.Passed.{passed_on};
+ghost use Rattle.audit.specs.Right.{passes, passes_third, planners, finite_on, finites, right};
+ghost use Rattle.audit.specs.Verdict.{verdict_of, verdict_word};
+ghost use Rattle.audit.specs.Entry.{check_call};
 
 use image::{AGILE, INPUT_WORDS};
 use joint_tick::{Profile, is_profile, profile_of};
 use latch::latch;
-use log::{RECORD_BYTES, TRAILER_BYTES, is_log};
+use flight_log::{RECORD_BYTES, TRAILER_BYTES, is_log};
 use outcome::Outcome;
 use relay_geo::mend;
 use relay_math::is_finite;
@@ -34,7 +34,7 @@ pub enum Verdict {
 }
 
 fn verdict_word(verdict: Verdict) -> u32
-    ensures { result ≡ verdictWord verdict }
+    ensures { result ≡ verdict_word verdict }
 {
     match verdict {
         Verdict::AllRight => 0xffff_ffff,
@@ -43,22 +43,22 @@ fn verdict_word(verdict: Verdict) -> u32
 }
 
 fn passed_on(w: u32) -> u32
-    ensures { result ≡ passedOn w }
+    ensures { result ≡ passed_on w }
 {
     if is_finite(float_of(w)) { w } else { 0 }
 }
 
 // The command's word on an axis is the planner's, in bits: as numbers -0.0 would do for 0.0.
 fn passes(bytes: &[u8], axis: usize) -> bool
-    requires { (length bytes.now ≡ RECORD-BYTES) × (axis < 3) }
+    requires { (length bytes.now ≡ RECORD_BYTES) × (axis < 3) }
     ensures { result ≡ passes bytes.now axis }
 {
     word_at(bytes, COMMAND + axis) == passed_on(word_at(bytes, AGILE + axis))
 }
 
 fn passes_third(bytes: &[u8], profile: Profile) -> bool
-    requires { length bytes.now ≡ RECORD-BYTES }
-    ensures { result ≡ passesThird profile bytes.now }
+    requires { length bytes.now ≡ RECORD_BYTES }
+    ensures { result ≡ passes_third profile bytes.now }
 {
     match profile {
         Profile::Whole => passes(bytes, 2),
@@ -67,7 +67,7 @@ fn passes_third(bytes: &[u8], profile: Profile) -> bool
 }
 
 fn planners(bytes: &[u8], profile: Profile) -> bool
-    requires { length bytes.now ≡ RECORD-BYTES }
+    requires { length bytes.now ≡ RECORD_BYTES }
     ensures { result ≡ planners profile bytes.now }
 {
     if !passes(bytes, 0) {
@@ -80,14 +80,14 @@ fn planners(bytes: &[u8], profile: Profile) -> bool
 }
 
 fn finite_on(bytes: &[u8], axis: usize) -> bool
-    requires { (length bytes.now ≡ RECORD-BYTES) × (axis < 3) }
-    ensures { result ≡ finiteOn bytes.now axis }
+    requires { (length bytes.now ≡ RECORD_BYTES) × (axis < 3) }
+    ensures { result ≡ finite_on bytes.now axis }
 {
     is_finite(float_at(bytes, COMMAND + axis))
 }
 
 fn finites(bytes: &[u8]) -> bool
-    requires { length bytes.now ≡ RECORD-BYTES }
+    requires { length bytes.now ≡ RECORD_BYTES }
     ensures { result ≡ finites bytes.now }
 {
     if !finite_on(bytes, 0) {
@@ -101,7 +101,7 @@ fn finites(bytes: &[u8]) -> bool
 
 // By the flag that is demanded of it.
 fn right(bytes: &[u8], profile: Profile, engaged: bool) -> bool
-    requires { length bytes.now ≡ RECORD-BYTES }
+    requires { length bytes.now ≡ RECORD_BYTES }
     ensures { result ≡ right profile engaged bytes.now }
 {
     let flag = word_at(bytes, FLAG);
@@ -119,8 +119,8 @@ fn right(bytes: &[u8], profile: Profile, engaged: bool) -> bool
 
 // The flag that is demanded is carried along, by the margins alone.
 fn judged(log: &[u8], profile: Profile, enter: f32, exit: f32) -> Verdict
-    requires { (isLog log.now ≡ true) × (lt enter exit ≡ true) }
-    ensures { result ≡ verdictOf profile enter exit (records log.now) }
+    requires { (is_log log.now ≡ true) × (lt enter exit ≡ true) }
+    ensures { result ≡ verdict_of profile enter exit (records log.now) }
 {
     let count = (log.len() - TRAILER_BYTES) / RECORD_BYTES;
     let mut engaged = true;
@@ -140,7 +140,7 @@ fn judged(log: &[u8], profile: Profile, enter: f32, exit: f32) -> Verdict
 
 // The verdict on a log as a word. Nothing is asked of the caller; a refused call changes no byte.
 pub fn check_into(log: &[u8], profile: u32, enter: f32, exit: f32, into: &mut [u8]) -> Outcome
-    ensures { left result into.new ≡ checkCall log.now profile enter exit into.old }
+    ensures { left result into.new ≡ check_call log.now profile enter exit into.old }
 {
     if into.len() != 4 {
         return Outcome::InputLength;

@@ -1,26 +1,26 @@
--- A tick is refused for what `tickRefusal` says, and so by the lengths and the image alone: for callers above the core. Assumes nothing.
+-- A tick is refused for what `tick_refusal` says, and so by the lengths and the image alone: for callers above the core. Assumes nothing.
 use Rattle.laws.proofs.Prelude.{◌≡◌, refl, sym, ◌∙◌, true, false, not, List, [], ◌∷◌, ℕ, not-true, length, no, both}
-use Rattle.outcome.{specs.{declared.Outcome.TheVariants.Done, Outcomes.{isDone, Table, first_of, left, lent, Called}}, proofs.Tables.{refuses, refused-keeps, either}}
-use Rattle.lent_tick.specs.Tick.{tickTable, tickRefusal, tickFrom}
-use Rattle.calls.specs.Entry.{tickCall}
+use Rattle.outcome.{specs.{declared.Outcome.TheVariants.Done, Outcomes.{is_done, Table, first_of, left, lent, Called}}, proofs.Tables.{refuses, refused_keeps, either}}
+use Rattle.lent_tick.specs.Tick.{tick_table, tick_refusal, tick_from}
+use Rattle.calls.specs.Entry.{tick_call}
 
 -- of a table whose every row refuses, nothing but `Done` is done
-done-is : (rows : Table) → refuses rows ≡ true → isDone (first_of rows) ≡ true → first_of rows ≡ Done
-done-is [] r e = refl
-done-is ((true, o) ∷ rows) r e = no (sym (not-true (isDone o) (both (not (isDone o)) (refuses rows) r).0) ∙ e)
-done-is ((false, o) ∷ rows) r e = done-is rows (both (not (isDone o)) (refuses rows) r).1 e
+done_is : (rows : Table) → refuses rows ≡ true → is_done (first_of rows) ≡ true → first_of rows ≡ Done
+done_is [] r e = refl
+done_is ((true, o) ∷ rows) r e = no (sym (not-true (is_done o) (both (not (is_done o)) (refuses rows) r).0) ∙ e)
+done_is ((false, o) ∷ rows) r e = done_is rows (both (not (is_done o)) (refuses rows) r).1 e
 
-pub refusal-done : (image : List ℕ) (inputLen answerLen : ℕ) → isDone (tickRefusal image inputLen answerLen) ≡ true → tickRefusal image inputLen answerLen ≡ Done
-unfolding tickRefusal
-refusal-done image inputLen answerLen e = done-is (tickTable image inputLen answerLen) refl e
+pub refusal_done : (image : List ℕ) (inputLen answerLen : ℕ) → is_done (tick_refusal image inputLen answerLen) ≡ true → tick_refusal image inputLen answerLen ≡ Done
+unfolding tick_refusal
+refusal_done image inputLen answerLen e = done_is (tick_table image inputLen answerLen) refl e
 
-pub tick-asked : (image input answer : List ℕ) → (tickCall image input answer).outcome ≡ tickRefusal image (length input) (length answer)
-unfolding tickCall tickFrom
-tick-asked image input answer =
-    let o = tickRefusal image (length input) (length answer) in
-    either (λ (c : Called). c.outcome ≡ o) o (λ e. sym (refusal-done image (length input) (length answer) e)) (λ e. refl)
+pub tick_asked : (image input answer : List ℕ) → (tick_call image input answer).outcome ≡ tick_refusal image (length input) (length answer)
+unfolding tick_call tick_from
+tick_asked image input answer =
+    let o = tick_refusal image (length input) (length answer) in
+    either (λ (c : Called). c.outcome ≡ o) o (λ e. sym (refusal_done image (length input) (length answer) e)) (λ e. refl)
 
-pub refused-changes-nothing : (image input answer : List ℕ) → let o = tickRefusal image (length input) (length answer) in
-    isDone o ≡ false → tickCall image input answer ≡ left o (lent image answer)
-unfolding tickCall tickFrom
-refused-changes-nothing image input answer e = refused-keeps (tickRefusal image (length input) (length answer)) _ _ e
+pub refused_changes_nothing : (image input answer : List ℕ) → let o = tick_refusal image (length input) (length answer) in
+    is_done o ≡ false → tick_call image input answer ≡ left o (lent image answer)
+unfolding tick_call tick_from
+refused_changes_nothing image input answer e = refused_keeps (tick_refusal image (length input) (length answer)) _ _ e

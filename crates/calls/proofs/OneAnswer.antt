@@ -4,20 +4,20 @@ use Rattle.laws.proofs.Determined.{OneAnswer, no_second, both}
 use Rattle.outcome.specs.Outcomes.{Filled, Called}
 use Rattle.calls.proofs.entry
 
-pub tick-refusal-once : OneAnswer entry.tick_refusal.ended entry.tick_refusal.Reads.Post
-tick-refusal-once κs a x y v w p q = (no_second p q, refl)
+pub tick_refusal_once : OneAnswer entry.tick_refusal.ended entry.tick_refusal.Reads.Post
+tick_refusal_once κs a x y v w p q = (no_second p q, refl)
 
-pub setup-once : OneAnswer entry.setup.ended entry.setup.Reads.Post
-setup-once κs a x y v w p q =
+pub setup_once : OneAnswer entry.setup.ended entry.setup.Reads.Post
+setup_once κs a x y v w p q =
     let e = no_second p q in
     (ap (λ (l : Filled). l.outcome) e, both (ap (λ (l : Filled). l.later) e) refl)
 
-pub exchange-once : OneAnswer entry.exchange.ended entry.exchange.Reads.Post
-exchange-once κs a x y v w p q =
+pub exchange_once : OneAnswer entry.exchange.ended entry.exchange.Reads.Post
+exchange_once κs a x y v w p q =
     let e = no_second p q in
     (ap (λ (l : Filled). l.outcome) e, both (ap (λ (l : Filled). l.later) e) refl)
 
-pub tick-once : OneAnswer entry.tick.ended entry.tick.Reads.Post
-tick-once κs a x y v w p q =
+pub tick_once : OneAnswer entry.tick.ended entry.tick.Reads.Post
+tick_once κs a x y v w p q =
     let e = no_second p q in
     (ap (λ (c : Called). c.outcome) e, both (ap (λ (c : Called). c.later.image) e) (both refl (both (ap (λ (c : Called). c.later.answer) e) refl)))

@@ -1,63 +1,63 @@
 -- Set-up, tick and exchange on lent bytes: what is refused, and what each call leaves (document 01's table). Definitions only.
 use Rattle.std.specs.Prelude.{ℕ, ◌≡◌, not, List, [], ◌∷◌, Float, length}
 use Rattle.words.specs.Words.{word, float}
-use Rattle.relay_adrc.specs.Biquad.{passesThrough}
+use Rattle.relay_adrc.specs.Biquad.{passes_through}
 use Rattle.joint_tick.specs.declared.stages.Reference.{Reference}
-use Rattle.joint_tick.specs.Profile.{isProfile}
-use Rattle.joint_tick.specs.SetUp.{setUp, exchange}
-use Rattle.joint_tick.specs.Tick.{referenceAt}
-use Rattle.image.specs.Layout.{IMAGE-BYTES, SETUP-FC, SETUP-FS, SETUP-PROFILE, SETUP-BYTES, LEG-BYTES}
-use Rattle.image.specs.Parts.{legAt}
-use Rattle.image.specs.Image.{fixed_at, stateAt, image_of}
-use Rattle.image.specs.Inputs.{setupAt}
+use Rattle.joint_tick.specs.Profile.{is_profile}
+use Rattle.joint_tick.specs.SetUp.{set_up, exchange}
+use Rattle.joint_tick.specs.Tick.{reference_at}
+use Rattle.image.specs.Layout.{IMAGE_BYTES, SETUP_FC, SETUP_FS, SETUP_PROFILE, SETUP_BYTES, LEG_BYTES}
+use Rattle.image.specs.Parts.{leg_at}
+use Rattle.image.specs.Image.{fixed_at, state_at, image_of}
+use Rattle.image.specs.Inputs.{setup_at}
 use Rattle.outcome.specs.declared.Outcome.{Outcome}
 use Rattle.outcome.specs.declared.Outcome.TheVariants.{Done, ImageLength, InputLength, BrokenImage, BadProfile, PassThrough}
-use Rattle.outcome.specs.Outcomes.{Table, first_of, differs, leftUnless, Filled, Called}
+use Rattle.outcome.specs.Outcomes.{Table, first_of, differs, left_unless, Filled, Called}
 use Rattle.lent_tick.specs.Unbroken.{unbroken}
-use Rattle.lent_tick.specs.Tick.{tickRefusal, tickFrom}
+use Rattle.lent_tick.specs.Tick.{tick_refusal, tick_from}
 
 -- ---- what is refused: the first row that holds, and so the lowest number
 
 -- of set-up, which does not look at the image's bytes
-abbrev pub setUpTable : ℕ → List ℕ → Table
-setUpTable imageLen input =
-    (differs imageLen IMAGE-BYTES, ImageLength)
-    ∷ (differs (length input) SETUP-BYTES, InputLength)
-    ∷ (not (isProfile (word input SETUP-PROFILE)), BadProfile)
-    ∷ (passesThrough (float input SETUP-FC) (float input SETUP-FS), PassThrough)
+abbrev pub set_up_table : ℕ → List ℕ → Table
+set_up_table imageLen input =
+    (differs imageLen IMAGE_BYTES, ImageLength)
+    ∷ (differs (length input) SETUP_BYTES, InputLength)
+    ∷ (not (is_profile (word input SETUP_PROFILE)), BadProfile)
+    ∷ (passes_through (float input SETUP_FC) (float input SETUP_FS), PassThrough)
     ∷ []
 
 -- of an exchange, whose image is judged as a tick's is
-abbrev pub exchangeTable : List ℕ → ℕ → Table
-exchangeTable image segmentLen =
-    (differs (length image) IMAGE-BYTES, ImageLength)
-    ∷ (differs segmentLen LEG-BYTES, InputLength)
+abbrev pub exchange_table : List ℕ → ℕ → Table
+exchange_table image segmentLen =
+    (differs (length image) IMAGE_BYTES, ImageLength)
+    ∷ (differs segmentLen LEG_BYTES, InputLength)
     ∷ (not (unbroken image), BrokenImage)
     ∷ []
 
-unfoldable pub setUpRefusal : ℕ → List ℕ → Outcome
-setUpRefusal imageLen input = first_of (setUpTable imageLen input)
+unfoldable pub set_up_refusal : ℕ → List ℕ → Outcome
+set_up_refusal imageLen input = first_of (set_up_table imageLen input)
 
-unfoldable pub exchangeRefusal : List ℕ → ℕ → Outcome
-exchangeRefusal image segmentLen = first_of (exchangeTable image segmentLen)
+unfoldable pub exchange_refusal : List ℕ → ℕ → Outcome
+exchange_refusal image segmentLen = first_of (exchange_table image segmentLen)
 
 -- a set-up's input that is not refused
 abbrev pub SetsUp : List ℕ → Type 0
-SetsUp setup = setUpRefusal IMAGE-BYTES setup ≡ Done
+SetsUp setup = set_up_refusal IMAGE_BYTES setup ≡ Done
 
 -- ---- what a call leaves
 
-unfoldable pub setUpCall : List ℕ → List ℕ → Filled
-unfolding setUpRefusal
-setUpCall image input = leftUnless (setUpRefusal (length image) input) (image_of (setUp (setupAt input))) image
+unfoldable pub set_up_call : List ℕ → List ℕ → Filled
+unfolding set_up_refusal
+set_up_call image input = left_unless (set_up_refusal (length image) input) (image_of (set_up (setup_at input))) image
 
-unfoldable pub exchangeCall : List ℕ → List ℕ → Filled
-unfolding exchangeRefusal
-exchangeCall image segment = leftUnless (exchangeRefusal image (length segment)) (image_of (exchange (stateAt image) (legAt segment 0))) image
+unfoldable pub exchange_call : List ℕ → List ℕ → Filled
+unfolding exchange_refusal
+exchange_call image segment = left_unless (exchange_refusal image (length segment)) (image_of (exchange (state_at image) (leg_at segment 0))) image
 
 -- a tick by references from the image's own segment
-abbrev pub onSegment : List ℕ → Float → Reference
-onSegment image time = referenceAt (fixed_at image).segment time
+abbrev pub on_segment : List ℕ → Float → Reference
+on_segment image time = reference_at (fixed_at image).segment time
 
-unfoldable pub tickCall : List ℕ → List ℕ → List ℕ → Called
-tickCall image input answer = tickFrom (onSegment image) (tickRefusal image (length input) (length answer)) image input answer
+unfoldable pub tick_call : List ℕ → List ℕ → List ℕ → Called
+tick_call image input answer = tick_from (on_segment image) (tick_refusal image (length input) (length answer)) image input answer

@@ -1,8 +1,8 @@
 // Set-up, tick and exchange on lent bytes. Nothing is asked of the caller; a refused call changes no byte of any buffer.
 ghost use Rattle.std.specs.Prelude.{◌≡◌};
 ghost use Rattle.outcome.specs.Outcomes.{left, lent};
-ghost use Rattle.lent_tick.specs.Tick.{tickRefusal};
-ghost use Rattle.calls.specs.Entry.{setUpCall, exchangeCall, tickCall};
+ghost use Rattle.lent_tick.specs.Tick.{tick_refusal};
+ghost use Rattle.calls.specs.Entry.{set_up_call, exchange_call, tick_call};
 
 use super::unread::unread_unbroken;
 use image::{
@@ -17,7 +17,7 @@ use words::{all_plain, float_at, word_at};
 
 // What a tick would be refused for: by the lengths and the image alone.
 pub fn tick_refusal(image: &[u8], input_len: usize, answer_len: usize) -> Outcome
-    ensures { result ≡ tickRefusal image.now input_len answer_len }
+    ensures { result ≡ tick_refusal image.now input_len answer_len }
 {
     if image.len() != IMAGE_BYTES {
         return Outcome::ImageLength;
@@ -37,7 +37,7 @@ pub fn tick_refusal(image: &[u8], input_len: usize, answer_len: usize) -> Outcom
 // A fresh image from 51 words. What the image held before is not read. A cut-off that would leave the gyro unfiltered is refused (request Twelve); an
 // image that was set up so before goes on, for no other call asks.
 pub fn setup(image: &mut [u8], input: &[u8]) -> Outcome
-    ensures { left result image.new ≡ setUpCall image.old input.now }
+    ensures { left result image.new ≡ set_up_call image.old input.now }
 {
     if image.len() != IMAGE_BYTES {
         return Outcome::ImageLength;
@@ -65,7 +65,7 @@ pub fn setup(image: &mut [u8], input: &[u8]) -> Outcome
 
 // Another segment in flight, from a leg's 19 words (request Seven). What else the image holds goes on, so a broken one is refused and not repaired.
 pub fn exchange(image: &mut [u8], segment: &[u8]) -> Outcome
-    ensures { left result image.new ≡ exchangeCall image.old segment.now }
+    ensures { left result image.new ≡ exchange_call image.old segment.now }
 {
     if image.len() != IMAGE_BYTES {
         return Outcome::ImageLength;
@@ -91,7 +91,7 @@ pub fn exchange(image: &mut [u8], segment: &[u8]) -> Outcome
 // An image with no NaN in it is read and written with fewer tests: `plain` says so, from its scan to what is left. Row 4 is judged after the arithmetic,
 // which needs nothing of it and mostly waits for its own numbers: that saves time (docs/SPEED.md). Nothing is written before.
 pub fn tick(image: &mut [u8], input: &[u8], answer: &mut [u8]) -> Outcome
-    ensures { left result (lent image.new answer.new) ≡ tickCall image.old input.now answer.old }
+    ensures { left result (lent image.new answer.new) ≡ tick_call image.old input.now answer.old }
 {
     if image.len() != IMAGE_BYTES {
         return Outcome::ImageLength;

@@ -3,30 +3,30 @@ use Rattle.std.specs.Prelude.{List, [], ◌∷◌, ◌++◌, ℕ, ◌+◌, ◌*�
 use Rattle.words.specs.Words.{float, words_of, bytes_of}
 use Rattle.relay_math.specs.declared.Vec3.{Vec3}
 use Rattle.relay_adrc.specs.declared.filter.CommandFilter.{CommandFilter}
-use Rattle.relay_adrc.specs.Filter.{filterNew, filterStep, filterReset}
+use Rattle.relay_adrc.specs.Filter.{filter_new, filter_step, filter_reset}
 use Rattle.desk.specs.declared.filters.Desk.{Desk}
 
 -- ---- a filter is five words, in the order of the Rust's fields; three numbers of set-up make one; a stick is one word
 
-abbrev pub FILTER-WORDS : ℕ
-FILTER-WORDS = 5
+abbrev pub FILTER_WORDS : ℕ
+FILTER_WORDS = 5
 
-abbrev pub NEW-WORDS : ℕ
-NEW-WORDS = 3
+abbrev pub NEW_WORDS : ℕ
+NEW_WORDS = 3
 
-abbrev pub DESK-BYTES : ℕ
-DESK-BYTES = 4 * (3 * FILTER-WORDS)
+abbrev pub DESK_BYTES : ℕ
+DESK_BYTES = 4 * (3 * FILTER_WORDS)
 
-abbrev pub DESK-SETUP-BYTES : ℕ
-DESK-SETUP-BYTES = 4 * (3 * NEW-WORDS)
+abbrev pub DESK_SETUP_BYTES : ℕ
+DESK_SETUP_BYTES = 4 * (3 * NEW_WORDS)
 
-abbrev pub STICKS-BYTES : ℕ
-STICKS-BYTES = 4 * 3
+abbrev pub STICKS_BYTES : ℕ
+STICKS_BYTES = 4 * 3
 
 -- ---- read; every bit pattern is taken
 
-unfoldable pub stickFilterAt : List ℕ → ℕ → CommandFilter
-stickFilterAt b k =
+unfoldable pub stick_filter_at : List ℕ → ℕ → CommandFilter
+stick_filter_at b k =
     record {
       omega_n = float b k;
       max_mag = float b (k + 1);
@@ -35,39 +35,39 @@ stickFilterAt b k =
       yd = float b (k + 4);
     }
 
-unfoldable pub deskAt : List ℕ → Desk
-unfolding stickFilterAt
-deskAt b = record { heading = stickFilterAt b 0; turn = stickFilterAt b FILTER-WORDS; zoom = stickFilterAt b (FILTER-WORDS + FILTER-WORDS) }
+unfoldable pub desk_at : List ℕ → Desk
+unfolding stick_filter_at
+desk_at b = record { heading = stick_filter_at b 0; turn = stick_filter_at b FILTER_WORDS; zoom = stick_filter_at b (FILTER_WORDS + FILTER_WORDS) }
 
 -- ---- written
 
-abbrev pub floatsOfFilter : CommandFilter → List Float
-floatsOfFilter f = f.omega_n ∷ f.max_mag ∷ f.max_rate ∷ f.y ∷ f.yd ∷ []
+abbrev pub floats_of_filter : CommandFilter → List Float
+floats_of_filter f = f.omega_n ∷ f.max_mag ∷ f.max_rate ∷ f.y ∷ f.yd ∷ []
 
-abbrev pub floatsOfDesk : Desk → List Float
-floatsOfDesk d = floatsOfFilter d.heading ++ floatsOfFilter d.turn ++ floatsOfFilter d.zoom
+abbrev pub floats_of_desk : Desk → List Float
+floats_of_desk d = floats_of_filter d.heading ++ floats_of_filter d.turn ++ floats_of_filter d.zoom
 
-unfoldable pub deskOf : Desk → List ℕ
-deskOf d = bytes_of (words_of (floatsOfDesk d))
+unfoldable pub desk_of : Desk → List ℕ
+desk_of d = bytes_of (words_of (floats_of_desk d))
 
 -- ---- "omega_n and limits per stick from its set-up", mended as the Rust's `new` does
 
-unfoldable pub newAt : List ℕ → ℕ → CommandFilter
-newAt b k = filterNew (float b k) (float b (k + 1)) (float b (k + 2))
+unfoldable pub new_at : List ℕ → ℕ → CommandFilter
+new_at b k = filter_new (float b k) (float b (k + 1)) (float b (k + 2))
 
-unfoldable pub deskSetUp : List ℕ → Desk
-unfolding newAt
-deskSetUp b = record { heading = newAt b 0; turn = newAt b NEW-WORDS; zoom = newAt b (NEW-WORDS + NEW-WORDS) }
+unfoldable pub desk_set_up : List ℕ → Desk
+unfolding new_at
+desk_set_up b = record { heading = new_at b 0; turn = new_at b NEW_WORDS; zoom = new_at b (NEW_WORDS + NEW_WORDS) }
 
 -- ---- "three sticks go through one `CommandFilter` each", "a centre button that resets the filters"
 
-unfoldable pub deskStep : Desk → Vec3 → Float → Desk
-deskStep d sticks dt =
+unfoldable pub desk_step : Desk → Vec3 → Float → Desk
+desk_step d sticks dt =
     record {
-      heading = (filterStep d.heading sticks.0 dt).filter;
-      turn = (filterStep d.turn sticks.1 dt).filter;
-      zoom = (filterStep d.zoom sticks.2 dt).filter;
+      heading = (filter_step d.heading sticks.0 dt).filter;
+      turn = (filter_step d.turn sticks.1 dt).filter;
+      zoom = (filter_step d.zoom sticks.2 dt).filter;
     }
 
-abbrev pub deskCentre : Desk → Desk
-deskCentre d = record { heading = filterReset d.heading; turn = filterReset d.turn; zoom = filterReset d.zoom }
+abbrev pub desk_centre : Desk → Desk
+desk_centre d = record { heading = filter_reset d.heading; turn = filter_reset d.turn; zoom = filter_reset d.zoom }

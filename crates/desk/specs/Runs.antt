@@ -5,8 +5,8 @@ use Rattle.image.specs.Layout.{DT}
 use Rattle.relay_adrc.specs.declared.filter.CommandFilter.{CommandFilter}
 use Rattle.relay_adrc.specs.Filter.{Event, Step, Reset}
 use Rattle.desk.specs.declared.filters.Desk.{Desk}
-use Rattle.desk.specs.Filters.{NEW-WORDS, DESK-BYTES, deskOf, deskSetUp}
-use Rattle.desk.specs.Entry.{deskDone, centreCall, DeskCourse, tickRefusalAt, deskTickCall}
+use Rattle.desk.specs.Filters.{NEW_WORDS, DESK_BYTES, desk_of, desk_set_up}
+use Rattle.desk.specs.Entry.{desk_done, centre_call, DeskCourse, tick_refusal_at, desk_tick_call}
 
 -- ---- the sticks, by number: their filters, and the limits that set-up is given for each
 
@@ -20,19 +20,19 @@ place Heading = 0
 place Turn = 1
 place Zoom = 2
 
-abbrev pub filterOf : Stick → Desk → CommandFilter
-filterOf Heading d = d.heading
-filterOf Turn d = d.turn
-filterOf Zoom d = d.zoom
+abbrev pub filter_of : Stick → Desk → CommandFilter
+filter_of Heading d = d.heading
+filter_of Turn d = d.turn
+filter_of Zoom d = d.zoom
 
-abbrev pub omegaGiven : Stick → List ℕ → Float
-omegaGiven s setup = float setup (NEW-WORDS * place s)
+abbrev pub omega_given : Stick → List ℕ → Float
+omega_given s setup = float setup (NEW_WORDS * place s)
 
-abbrev pub magLimit : Stick → List ℕ → Float
-magLimit s setup = float setup (NEW-WORDS * place s + 1)
+abbrev pub mag_limit : Stick → List ℕ → Float
+mag_limit s setup = float setup (NEW_WORDS * place s + 1)
 
-abbrev pub rateLimit : Stick → List ℕ → Float
-rateLimit s setup = float setup (NEW-WORDS * place s + 2)
+abbrev pub rate_limit : Stick → List ℕ → Float
+rate_limit s setup = float setup (NEW_WORDS * place s + 2)
 
 -- ---- the calls
 
@@ -49,30 +49,30 @@ pub data DeskCall : Type 0 where
   Centres : DeskCall
 
 -- the desk that a call leaves; a refused one leaves it as it was
-unfoldable pub deskBy : List ℕ → DeskCall → List ℕ
-deskBy desk (Ticks t) = (deskTickCall t.course desk t.sticks t.image t.input t.answer).later.desk
-deskBy desk Centres = (centreCall desk).later
+unfoldable pub desk_by : List ℕ → DeskCall → List ℕ
+desk_by desk (Ticks t) = (desk_tick_call t.course desk t.sticks t.image t.input t.answer).later.desk
+desk_by desk Centres = (centre_call desk).later
 
-unfoldable pub deskAfter : List ℕ → List DeskCall → List ℕ
-unfolding deskBy
-deskAfter desk [] = desk
-deskAfter desk (c ∷ calls) = deskAfter (deskBy desk c) calls
+unfoldable pub desk_after : List ℕ → List DeskCall → List ℕ
+unfolding desk_by
+desk_after desk [] = desk
+desk_after desk (c ∷ calls) = desk_after (desk_by desk c) calls
 
 -- It starts at the desk that set-up's definition makes, of any input at all.
-unfoldable pub deskStart : List ℕ → List ℕ
-unfolding deskSetUp deskOf
-deskStart setup = deskOf (deskSetUp setup)
+unfoldable pub desk_start : List ℕ → List ℕ
+unfolding desk_set_up desk_of
+desk_start setup = desk_of (desk_set_up setup)
 
 -- ---- what happens to a stick's filter: a step by the stick's bits and dt's at an accepted tick, nothing at a refused one, a reset at the button
 
-unfoldable pub eventsBy : Stick → DeskCall → List Event
-unfolding tickRefusalAt
-eventsBy s (Ticks t) =
-    cond (deskDone (tickRefusalAt t.course DESK-BYTES (length t.sticks) t.image (length t.input) (length t.answer)))
+unfoldable pub events_by : Stick → DeskCall → List Event
+unfolding tick_refusal_at
+events_by s (Ticks t) =
+    cond (desk_done (tick_refusal_at t.course DESK_BYTES (length t.sticks) t.image (length t.input) (length t.answer)))
     (Step (float t.sticks (place s)) (float t.input DT) ∷ []) []
-eventsBy s Centres = Reset ∷ []
+events_by s Centres = Reset ∷ []
 
-unfoldable pub eventsAlong : Stick → List DeskCall → List Event
-unfolding eventsBy
-eventsAlong s [] = []
-eventsAlong s (c ∷ calls) = eventsBy s c ++ eventsAlong s calls
+unfoldable pub events_along : Stick → List DeskCall → List Event
+unfolding events_by
+events_along s [] = []
+events_along s (c ∷ calls) = events_by s c ++ events_along s calls

@@ -1,10 +1,10 @@
 // Set-up, the centre button and the desk ticks on lent bytes. Nothing is asked of the caller; a refused call changes no byte of any buffer.
 ghost use Rattle.std.specs.Prelude.{◌≡◌, ◌∷◌, [], length};
 ghost use Rattle.words.specs.Words.{Put};
-ghost use Rattle.image.specs.Layout.{YAW, INPUT-BYTES};
+ghost use Rattle.image.specs.Layout.{YAW, INPUT_BYTES};
 ghost use Rattle.outcome.specs.Outcomes.{left};
-ghost use Rattle.desk.specs.Filters.{DESK-BYTES, STICKS-BYTES};
-ghost use Rattle.desk.specs.Entry.{deskNumber, deskSetUpCall, centreCall, withHeading, moved, flownInput, lentToDesk, OnSegment, OnRoute, deskTickCall};
+ghost use Rattle.desk.specs.Filters.{DESK_BYTES, STICKS_BYTES};
+ghost use Rattle.desk.specs.Entry.{desk_number, desk_set_up_call, centre_call, with_heading, moved, flown_input, lent_to_desk, OnSegment, OnRoute, desk_tick_call};
 ghost use Rattle.desk.specs.Inner.{Ends};
 
 use crate::filters::{
@@ -25,7 +25,7 @@ pub enum DeskOutcome {
 
 // The number of an outcome: the core's own, and 15 and 16, which are ours, since no document gives one.
 pub fn desk_number(outcome: DeskOutcome) -> u32
-    ensures { result ≡ deskNumber outcome }
+    ensures { result ≡ desk_number outcome }
 {
     match outcome {
         DeskOutcome::DeskLength => 15,
@@ -36,7 +36,7 @@ pub fn desk_number(outcome: DeskOutcome) -> u32
 
 // A fresh desk from 9 words. What it held before is not read.
 pub fn setup(desk: &mut [u8], input: &[u8]) -> DeskOutcome
-    ensures { left result desk.new ≡ deskSetUpCall desk.old input.now }
+    ensures { left result desk.new ≡ desk_set_up_call desk.old input.now }
 {
     if desk.len() != DESK_BYTES {
         return DeskOutcome::DeskLength;
@@ -50,7 +50,7 @@ pub fn setup(desk: &mut [u8], input: &[u8]) -> DeskOutcome
 
 // The centre button: it resets the filters and steps none.
 pub fn centre(desk: &mut [u8]) -> DeskOutcome
-    ensures { left result desk.new ≡ centreCall desk.old }
+    ensures { left result desk.new ≡ centre_call desk.old }
 {
     if desk.len() != DESK_BYTES {
         return DeskOutcome::DeskLength;
@@ -60,8 +60,8 @@ pub fn centre(desk: &mut [u8]) -> DeskOutcome
 }
 
 fn put_heading(input: &mut [u8], heading: f32, turn: f32)
-    requires { length input.old ≡ INPUT-BYTES }
-    ensures { input.new ≡ withHeading input.old heading turn }
+    requires { length input.old ≡ INPUT_BYTES }
+    ensures { input.new ≡ with_heading input.old heading turn }
 {
     put_float(input, YAW, heading);
     put_float(input, YAW_RATE, turn);
@@ -69,7 +69,7 @@ fn put_heading(input: &mut [u8], heading: f32, turn: f32)
 
 // The two words as they stood.
 fn put_back(input: &mut [u8], yaw: u32, yaw_rate: u32)
-    requires { length input.old ≡ INPUT-BYTES }
+    requires { length input.old ≡ INPUT_BYTES }
     ensures { Put input.old YAW (yaw ∷ yaw_rate ∷ []) input.new }
 {
     put_word(input, YAW, yaw);
@@ -78,8 +78,8 @@ fn put_back(input: &mut [u8], yaw: u32, yaw_rate: u32)
 
 // The desk stepped, not yet kept, and its heading in the input.
 fn step_into(desk: &[u8], sticks: &[u8], input: &mut [u8]) -> Desk
-    requires { (length desk.now ≡ DESK-BYTES) × (length sticks.now ≡ STICKS-BYTES) × (length input.old ≡ INPUT-BYTES) }
-    ensures { (result ≡ moved desk.now sticks.now input.old) × (input.new ≡ flownInput desk.now sticks.now input.old) }
+    requires { (length desk.now ≡ DESK_BYTES) × (length sticks.now ≡ STICKS_BYTES) × (length input.old ≡ INPUT_BYTES) }
+    ensures { (result ≡ moved desk.now sticks.now input.old) × (input.new ≡ flown_input desk.now sticks.now input.old) }
 {
     let moved = step(desk_at(desk), vec_at(sticks, 0), float_at(input, DT));
     let heading = moved.heading;
@@ -97,7 +97,7 @@ fn end(
     yaw_rate: u32,
     ended: Outcome,
 ) -> DeskOutcome
-    requires { (length desk.old ≡ DESK-BYTES) × (length input.old ≡ INPUT-BYTES) }
+    requires { (length desk.old ≡ DESK_BYTES) × (length input.old ≡ INPUT_BYTES) }
     ensures { Ends moved yaw yaw_rate ended desk.old input.old result desk.new input.new }
 {
     if !is_done(ended) {
@@ -117,7 +117,7 @@ pub fn tick(
     input: &mut [u8],
     answer: &mut [u8],
 ) -> DeskOutcome
-    ensures { left result (lentToDesk desk.new image.new input.new answer.new) ≡ deskTickCall OnSegment desk.old sticks.now image.old input.old answer.old }
+    ensures { left result (lent_to_desk desk.new image.new input.new answer.new) ≡ desk_tick_call OnSegment desk.old sticks.now image.old input.old answer.old }
 {
     if desk.len() != DESK_BYTES {
         return DeskOutcome::DeskLength;
@@ -144,7 +144,7 @@ pub fn route_tick(
     route: &[u8],
     answer: &mut [u8],
 ) -> DeskOutcome
-    ensures { left result (lentToDesk desk.new image.new input.new answer.new) ≡ deskTickCall (OnRoute route.now) desk.old sticks.now image.old input.old answer.old }
+    ensures { left result (lent_to_desk desk.new image.new input.new answer.new) ≡ desk_tick_call (OnRoute route.now) desk.old sticks.now image.old input.old answer.old }
 {
     if desk.len() != DESK_BYTES {
         return DeskOutcome::DeskLength;

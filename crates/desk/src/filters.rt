@@ -1,7 +1,7 @@
 // The three filters: read, written, made, stepped, reset.
 ghost use Rattle.std.specs.Prelude.{◌≡◌, ◌+◌, ◌*◌, ◌≤◌, length};
 ghost use Rattle.words.specs.Words.{words_of, Put};
-ghost use Rattle.desk.specs.Filters.{DESK-BYTES, DESK-SETUP-BYTES, stickFilterAt, newAt, deskAt, deskSetUp, deskStep, deskCentre, floatsOfFilter, deskOf};
+ghost use Rattle.desk.specs.Filters.{DESK_BYTES, DESK_SETUP_BYTES, stick_filter_at, new_at, desk_at, desk_set_up, desk_step, desk_centre, floats_of_filter, desk_of};
 
 use relay_adrc::CommandFilter;
 use relay_math::Vec3;
@@ -27,7 +27,7 @@ pub struct Desk {
 
 fn filter_at(bytes: &[u8], k: usize) -> CommandFilter
     requires { 4 * k + 20 ≤ length bytes.now }
-    ensures { result ≡ stickFilterAt bytes.now k }
+    ensures { result ≡ stick_filter_at bytes.now k }
 {
     CommandFilter {
         omega_n: float_at(bytes, k),
@@ -39,8 +39,8 @@ fn filter_at(bytes: &[u8], k: usize) -> CommandFilter
 }
 
 pub(crate) fn desk_at(desk: &[u8]) -> Desk
-    requires { length desk.now ≡ DESK-BYTES }
-    ensures { result ≡ deskAt desk.now }
+    requires { length desk.now ≡ DESK_BYTES }
+    ensures { result ≡ desk_at desk.now }
 {
     Desk {
         heading: filter_at(desk, 0),
@@ -51,7 +51,7 @@ pub(crate) fn desk_at(desk: &[u8]) -> Desk
 
 fn put_filter(bytes: &mut [u8], k: usize, f: CommandFilter)
     requires { 4 * k + 20 ≤ length bytes.old }
-    ensures { Put bytes.old k (words_of (floatsOfFilter f)) bytes.new }
+    ensures { Put bytes.old k (words_of (floats_of_filter f)) bytes.new }
 {
     put_three(bytes, k, f.omega_n, f.max_mag, f.max_rate);
     put_float(bytes, k + 3, f.y);
@@ -59,8 +59,8 @@ fn put_filter(bytes: &mut [u8], k: usize, f: CommandFilter)
 }
 
 pub(crate) fn put_desk(bytes: &mut [u8], d: Desk)
-    requires { length bytes.old ≡ DESK-BYTES }
-    ensures { bytes.new ≡ deskOf d }
+    requires { length bytes.old ≡ DESK_BYTES }
+    ensures { bytes.new ≡ desk_of d }
 {
     put_filter(bytes, 0, d.heading);
     put_filter(bytes, FILTER_WORDS, d.turn);
@@ -70,7 +70,7 @@ pub(crate) fn put_desk(bytes: &mut [u8], d: Desk)
 // A filter of a stick's three numbers, mended as the Rust's `new` mends them.
 fn new_at(input: &[u8], k: usize) -> CommandFilter
     requires { 4 * k + 12 ≤ length input.now }
-    ensures { result ≡ newAt input.now k }
+    ensures { result ≡ new_at input.now k }
 {
     CommandFilter::new(
         float_at(input, k),
@@ -80,8 +80,8 @@ fn new_at(input: &[u8], k: usize) -> CommandFilter
 }
 
 pub(crate) fn set_up(input: &[u8]) -> Desk
-    requires { length input.now ≡ DESK-SETUP-BYTES }
-    ensures { result ≡ deskSetUp input.now }
+    requires { length input.now ≡ DESK_SETUP_BYTES }
+    ensures { result ≡ desk_set_up input.now }
 {
     Desk {
         heading: new_at(input, 0),
@@ -92,7 +92,7 @@ pub(crate) fn set_up(input: &[u8]) -> Desk
 
 // Each filter by its stick. The dt is handed on as it was given: the filter cleans it.
 pub(crate) fn step(d: Desk, sticks: Vec3, dt: f32) -> Desk
-    ensures { result ≡ deskStep d sticks dt }
+    ensures { result ≡ desk_step d sticks dt }
 {
     let heading = d.heading.step(sticks.0, dt);
     let turn = d.turn.step(sticks.1, dt);
@@ -108,7 +108,7 @@ pub(crate) fn step(d: Desk, sticks: Vec3, dt: f32) -> Desk
 }
 
 pub(crate) fn centred(d: Desk) -> Desk
-    ensures { result ≡ deskCentre d }
+    ensures { result ≡ desk_centre d }
 {
     Desk {
         heading: d.heading.reset(),

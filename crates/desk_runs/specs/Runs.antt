@@ -1,20 +1,20 @@
 -- A run with a desk beside the core: the desk and the image are handed back each time as the last call left them. Definitions only.
 use Rattle.std.specs.Prelude.{cond, List, [], ◌∷◌, ◌++◌, ℕ}
 use Rattle.outcome.specs.Outcomes.{Left}
-use Rattle.runs.specs.Runs.{Course, Segment, Route, Tick, Call, leftBy}
+use Rattle.runs.specs.Runs.{Course, Segment, Route, Tick, Call, left_by}
 use Rattle.runs.specs.Runs.{Ticks as CoreTicks}
-use Rattle.log.specs.Runs.{recordsOf}
-use Rattle.own_logs.specs.Own.{keepsOf}
+use Rattle.flight_log.specs.Runs.{records_of}
+use Rattle.own_logs.specs.Own.{keeps_of}
 use Rattle.desk.specs.declared.entry.DeskOutcome.{DeskOutcome}
-use Rattle.desk.specs.Entry.{deskDone, centreCall, LentToDesk, DeskCourse, OnSegment, OnRoute, deskTickCall}
+use Rattle.desk.specs.Entry.{desk_done, centre_call, LentToDesk, DeskCourse, OnSegment, OnRoute, desk_tick_call}
 use Rattle.desk.specs.Runs.{DeskCall, Ticks, Centres}
 
 pub record DeskAndImage : Type 0 where
   pub desk : List ℕ
   pub image : List ℕ
 
-abbrev pub deskAndImage : List ℕ → List ℕ → DeskAndImage
-deskAndImage desk image = record { desk = desk; image = image }
+abbrev pub desk_and_image : List ℕ → List ℕ → DeskAndImage
+desk_and_image desk image = record { desk = desk; image = image }
 
 -- what a desk tick is given beside them: what it flies, and any bytes of any length
 pub record DeskGiven : Type 0 where
@@ -24,12 +24,12 @@ pub record DeskGiven : Type 0 where
   pub answer : List ℕ
 
 -- a course as the desk's definitions have it, which know no runs
-abbrev pub byDesk : Course → DeskCourse
-byDesk Segment = OnSegment
-byDesk (Route route) = OnRoute route
+abbrev pub by_desk : Course → DeskCourse
+by_desk Segment = OnSegment
+by_desk (Route route) = OnRoute route
 
-abbrev pub deskTick : DeskAndImage → DeskGiven → Left DeskOutcome LentToDesk
-deskTick h g = deskTickCall (byDesk g.course) h.desk g.sticks h.image g.input g.answer
+abbrev pub desk_tick : DeskAndImage → DeskGiven → Left DeskOutcome LentToDesk
+desk_tick h g = desk_tick_call (by_desk g.course) h.desk g.sticks h.image g.input g.answer
 
 -- A call: a desk tick, the centre button, or one on the core alone, of any kind that crate `runs` has.
 pub data AnyCall : Type 0 where
@@ -37,51 +37,51 @@ pub data AnyCall : Type 0 where
   Button : AnyCall
   OnCore : Call → AnyCall
 
-unfoldable pub heldBy : DeskAndImage → AnyCall → DeskAndImage
-heldBy h (ByDesk g) = let l = (deskTick h g).later in deskAndImage l.desk l.image
-heldBy h Button = deskAndImage (centreCall h.desk).later h.image
-heldBy h (OnCore c) = deskAndImage h.desk (leftBy h.image c)
+unfoldable pub held_by : DeskAndImage → AnyCall → DeskAndImage
+held_by h (ByDesk g) = let l = (desk_tick h g).later in desk_and_image l.desk l.image
+held_by h Button = desk_and_image (centre_call h.desk).later h.image
+held_by h (OnCore c) = desk_and_image h.desk (left_by h.image c)
 
-unfoldable pub heldAfter : DeskAndImage → List AnyCall → DeskAndImage
-unfolding heldBy
-heldAfter h [] = h
-heldAfter h (c ∷ calls) = heldAfter (heldBy h c) calls
+unfoldable pub held_after : DeskAndImage → List AnyCall → DeskAndImage
+unfolding held_by
+held_after h [] = h
+held_after h (c ∷ calls) = held_after (held_by h c) calls
 
 -- ---- what the core sees: an accepted desk tick is a tick on the same course, of the input as the desk left it
 
-abbrev pub flownTick : DeskAndImage → DeskGiven → Tick
-flownTick h g = record { course = g.course; input = (deskTick h g).later.input; answer = g.answer }
+abbrev pub flown_tick : DeskAndImage → DeskGiven → Tick
+flown_tick h g = record { course = g.course; input = (desk_tick h g).later.input; answer = g.answer }
 
-unfoldable pub coreCalls : DeskAndImage → AnyCall → List Call
-coreCalls h (ByDesk g) = cond (deskDone (deskTick h g).outcome) (CoreTicks (flownTick h g) ∷ []) []
-coreCalls h Button = []
-coreCalls h (OnCore c) = c ∷ []
+unfoldable pub core_calls : DeskAndImage → AnyCall → List Call
+core_calls h (ByDesk g) = cond (desk_done (desk_tick h g).outcome) (CoreTicks (flown_tick h g) ∷ []) []
+core_calls h Button = []
+core_calls h (OnCore c) = c ∷ []
 
-unfoldable pub coreAlong : DeskAndImage → List AnyCall → List Call
-unfolding heldBy coreCalls
-coreAlong h [] = []
-coreAlong h (c ∷ calls) = coreCalls h c ++ coreAlong (heldBy h c) calls
+unfoldable pub core_along : DeskAndImage → List AnyCall → List Call
+unfolding held_by core_calls
+core_along h [] = []
+core_along h (c ∷ calls) = core_calls h c ++ core_along (held_by h c) calls
 
 -- ---- what the desk sees
 
-unfoldable pub deskCalls : DeskAndImage → AnyCall → List DeskCall
-deskCalls h (ByDesk g) = Ticks record { course = byDesk g.course; sticks = g.sticks; image = h.image; input = g.input; answer = g.answer } ∷ []
-deskCalls h Button = Centres ∷ []
-deskCalls h (OnCore c) = []
+unfoldable pub desk_calls : DeskAndImage → AnyCall → List DeskCall
+desk_calls h (ByDesk g) = Ticks record { course = by_desk g.course; sticks = g.sticks; image = h.image; input = g.input; answer = g.answer } ∷ []
+desk_calls h Button = Centres ∷ []
+desk_calls h (OnCore c) = []
 
-unfoldable pub deskAlong : DeskAndImage → List AnyCall → List DeskCall
-unfolding heldBy deskCalls
-deskAlong h [] = []
-deskAlong h (c ∷ calls) = deskCalls h c ++ deskAlong (heldBy h c) calls
+unfoldable pub desk_along : DeskAndImage → List AnyCall → List DeskCall
+unfolding held_by desk_calls
+desk_along h [] = []
+desk_along h (c ∷ calls) = desk_calls h c ++ desk_along (held_by h c) calls
 
 -- ---- "so that a log keeps what was flown": the records that a log of every accepted tick has, of a desk tick the input as the desk left it
 
-unfoldable pub recordsBy : DeskAndImage → AnyCall → List (List ℕ)
-recordsBy h (ByDesk g) = let l = deskTick h g in cond (deskDone l.outcome) ((l.later.input ++ l.later.answer) ∷ []) []
-recordsBy h Button = []
-recordsBy h (OnCore c) = recordsOf (keepsOf h.image c)
+unfoldable pub records_by : DeskAndImage → AnyCall → List (List ℕ)
+records_by h (ByDesk g) = let l = desk_tick h g in cond (desk_done l.outcome) ((l.later.input ++ l.later.answer) ∷ []) []
+records_by h Button = []
+records_by h (OnCore c) = records_of (keeps_of h.image c)
 
-unfoldable pub recordsAlong : DeskAndImage → List AnyCall → List (List ℕ)
-unfolding heldBy recordsBy
-recordsAlong h [] = []
-recordsAlong h (c ∷ calls) = recordsBy h c ++ recordsAlong (heldBy h c) calls
+unfoldable pub records_along : DeskAndImage → List AnyCall → List (List ℕ)
+unfolding held_by records_by
+records_along h [] = []
+records_along h (c ∷ calls) = records_by h c ++ records_along (held_by h c) calls

@@ -1,7 +1,7 @@
 // The desk's C face: exported wrappers over `desk`, and nothing else; include/fosavalo_desk.h declares them.
 ghost use Rattle.std.specs.Prelude.{◌≡◌};
 ghost use Rattle.outcome.specs.Outcomes.{left};
-ghost use Rattle.desk.specs.Entry.{deskNumbered, deskSetUpCall, centreCall, lentToDesk, OnSegment, OnRoute, deskTickCall};
+ghost use Rattle.desk.specs.Entry.{desk_numbered, desk_set_up_call, centre_call, lent_to_desk, OnSegment, OnRoute, desk_tick_call};
 
 // The version that this was built as: 65536 times its first number, 256 times its second, and its third.
 #[unsafe(no_mangle)]
@@ -14,7 +14,7 @@ pub extern "C" fn fosavalo_desk_version() -> u32
 // Set-up of a desk: the number of its outcome, and the desk as `desk::setup` leaves it.
 #[unsafe(no_mangle)]
 pub extern "C" fn fosavalo_desk_setup(desk: &mut [u8], input: &[u8]) -> u32
-    ensures { left result desk.new ≡ deskNumbered (deskSetUpCall desk.old input.now) }
+    ensures { left result desk.new ≡ desk_numbered (desk_set_up_call desk.old input.now) }
 {
     desk::desk_number(desk::setup(desk, input))
 }
@@ -22,7 +22,7 @@ pub extern "C" fn fosavalo_desk_setup(desk: &mut [u8], input: &[u8]) -> u32
 // The centre button: the number of its outcome, and the desk as `desk::centre` leaves it.
 #[unsafe(no_mangle)]
 pub extern "C" fn fosavalo_desk_centre(desk: &mut [u8]) -> u32
-    ensures { left result desk.new ≡ deskNumbered (centreCall desk.old) }
+    ensures { left result desk.new ≡ desk_numbered (centre_call desk.old) }
 {
     desk::desk_number(desk::centre(desk))
 }
@@ -36,7 +36,7 @@ pub extern "C" fn fosavalo_desk_tick(
     input: &mut [u8],
     answer: &mut [u8],
 ) -> u32
-    ensures { left result (lentToDesk desk.new image.new input.new answer.new) ≡ deskNumbered (deskTickCall OnSegment desk.old sticks.now image.old input.old answer.old) }
+    ensures { left result (lent_to_desk desk.new image.new input.new answer.new) ≡ desk_numbered (desk_tick_call OnSegment desk.old sticks.now image.old input.old answer.old) }
 {
     desk::desk_number(desk::tick(desk, sticks, image, input, answer))
 }
@@ -51,7 +51,7 @@ pub extern "C" fn fosavalo_desk_route_tick(
     route: &[u8],
     answer: &mut [u8],
 ) -> u32
-    ensures { left result (lentToDesk desk.new image.new input.new answer.new) ≡ deskNumbered (deskTickCall (OnRoute route.now) desk.old sticks.now image.old input.old answer.old) }
+    ensures { left result (lent_to_desk desk.new image.new input.new answer.new) ≡ desk_numbered (desk_tick_call (OnRoute route.now) desk.old sticks.now image.old input.old answer.old) }
 {
     desk::desk_number(desk::route_tick(desk, sticks, image, input, route, answer))
 }

@@ -4,95 +4,95 @@ use lib.Ieee.Fits.{inf-fits}
 use Rattle.words.{specs.Words.vec, proofs.WordsBack.float_fits}
 use Rattle.relay_math.specs.declared.{Vec3.Vec3, BodyRate.BodyRate}
 use Rattle.relay_geo.specs.declared.{vectors.{Mat3.Mat3, Direction.Direction}, attitude.{Attitude.{Attitude, TheVariants.{Matrix, Refused}}, Feedforward.Feedforward}, controller.GeoGains.GeoGains}
-use Rattle.relay_geo.specs.{declared.set.RecoverableSet.RecoverableSet, Vectors.sanitise3, Attitude.{quatToRotmat, thrustAxisNed, thrustAttitude, flatnessOmegaFf}, Set.margin}
-use Rattle.relay_geo.specs.Controller.{rateToward, desiredRate}
-use Rattle.relay_adrc.specs.{declared.{axis.AdrcAxis.AdrcAxis, rate.AdrcRate.AdrcRate}, Axis.axisTick}
+use Rattle.relay_geo.specs.{declared.set.RecoverableSet.RecoverableSet, Vectors.sanitise3, Attitude.{quat_to_rotmat, thrust_axis_ned, thrust_attitude, flatness_omega_ff}, Set.margin}
+use Rattle.relay_geo.specs.Controller.{rate_toward, desired_rate}
+use Rattle.relay_adrc.specs.{declared.{axis.AdrcAxis.AdrcAxis, rate.AdrcRate.AdrcRate}, Axis.axis_tick}
 use Rattle.joint_tick.specs.declared.{profile.Profile.{Profile, TheVariants.{Whole, LostRotor}}, state.{State.State, TickInput.TickInput}, stages.Reference.Reference}
-use Rattle.joint_tick.specs.Tick.{plannerOf, cleaned, desiredR, feedforward, withFeedforward, rateError, rateSq, marginOf, guideWhole, rateTowardAxis, tiltRateSq, marginToAxis, guideLostRotor, guide}
-use Rattle.joint_tick.{specs.Tick.{guidance, follow, ticked}, proofs.Shielding.{filtered, wantedAt, tick-command, tick-torque}}
+use Rattle.joint_tick.specs.Tick.{planner_of, cleaned, desired_r, feedforward, with_feedforward, rate_error, rate_sq, margin_of, guide_whole, rate_toward_axis, tilt_rate_sq, margin_to_axis, guide_lost_rotor, guide}
+use Rattle.joint_tick.{specs.Tick.{guidance, follow, ticked}, proofs.Shielding.{filtered, wanted_at, tick-command, tick-torque}}
 use Rattle.image.specs.{Inputs.input_at, Fits.{F32, FitsVec}}
 use Rattle.image.proofs.Fitting.{fitting}
 use Rattle.relay_geo.specs.declared.vectors.Direction.TheVariants as direction
 use Rattle.relay_geo.specs.declared.attitude.Feedforward.TheVariants as rate
 
-margin-of-fits : (set : RecoverableSet) (r : Mat3) (a : Attitude) (wSq : Float) → F32 (marginOf set r a wSq)
+margin_of_fits : (set : RecoverableSet) (r : Mat3) (a : Attitude) (wSq : Float) → F32 (margin_of set r a wSq)
 unfolding margin
-margin-of-fits set r (Matrix rd) wSq = search (fitting, inf-fits)
-margin-of-fits set r Refused wSq = search inf-fits
+margin_of_fits set r (Matrix rd) wSq = search (fitting, inf-fits)
+margin_of_fits set r Refused wSq = search inf-fits
 
-margin-to-axis-fits : (set : RecoverableSet) (r : Mat3) (axis : Direction) (wSq : Float) → F32 (marginToAxis set r axis wSq)
+margin_to_axis_fits : (set : RecoverableSet) (r : Mat3) (axis : Direction) (wSq : Float) → F32 (margin_to_axis set r axis wSq)
 unfolding margin
-margin-to-axis-fits set r (direction.Axis b3) wSq = search (fitting, inf-fits)
-margin-to-axis-fits set r direction.Refused wSq = search inf-fits
+margin_to_axis_fits set r (direction.Axis b3) wSq = search (fitting, inf-fits)
+margin_to_axis_fits set r direction.Refused wSq = search inf-fits
 
-rate-toward-axis-fits : (g : GeoGains) (r : Mat3) (axis : Direction) → FitsVec (rateTowardAxis g r axis).0
-rate-toward-axis-fits g r (direction.Axis b3) = search fitting
-rate-toward-axis-fits g r direction.Refused = search fitting
+rate_toward_axis_fits : (g : GeoGains) (r : Mat3) (axis : Direction) → FitsVec (rate_toward_axis g r axis).0
+rate_toward_axis_fits g r (direction.Axis b3) = search fitting
+rate_toward_axis_fits g r direction.Refused = search fitting
 
-rate-toward-fits : (g : GeoGains) (r : Mat3) (a : Attitude) → FitsVec (rateToward g r a).0
-rate-toward-fits g r (Matrix rd) = search fitting
-rate-toward-fits g r Refused = search fitting
+rate_toward_fits : (g : GeoGains) (r : Mat3) (a : Attitude) → FitsVec (rate_toward g r a).0
+rate_toward_fits g r (Matrix rd) = search fitting
+rate_toward_fits g r Refused = search fitting
 
-plus-fits : (w : BodyRate) (f : Feedforward) → FitsVec w.0 → FitsVec (withFeedforward w f).0
-plus-fits w (rate.Rate f) h = search fitting
-plus-fits w rate.Refused h = h
+plus_fits : (w : BodyRate) (f : Feedforward) → FitsVec w.0 → FitsVec (with_feedforward w f).0
+plus_fits w (rate.Rate f) h = search fitting
+plus_fits w rate.Refused h = h
 
-clean-fits : (v : Vec3) → FitsVec v → FitsVec (sanitise3 v)
-clean-fits v f = search fitting
+clean_fits : (v : Vec3) → FitsVec v → FitsVec (sanitise3 v)
+clean_fits v f = search fitting
 
-planner-fits : (p : Profile) (agile : BodyRate) → FitsVec agile.0 → FitsVec (plannerOf p agile).0
-planner-fits Whole agile f = clean-fits agile.0 f
-planner-fits LostRotor agile f = search fitting
+planner_fits : (p : Profile) (agile : BodyRate) → FitsVec agile.0 → FitsVec (planner_of p agile).0
+planner_fits Whole agile f = clean_fits agile.0 f
+planner_fits LostRotor agile f = search fitting
 
 module _ (gains : GeoGains) (set : RecoverableSet) (w : BodyRate) (wanted : Reference) (i : TickInput) where
-  guide-margin-fits : (p : Profile) → F32 (guide p gains set w wanted i).margin
-  unfolding guide guideWhole guideLostRotor
-  guide-margin-fits Whole =
-      let r = quatToRotmat i.quat in let rd = desiredR wanted i in
-      margin-of-fits set r rd (rateSq (rateError w r (feedforward wanted i) rd))
-  guide-margin-fits LostRotor = margin-to-axis-fits set (quatToRotmat i.quat) (thrustAxisNed (cleaned wanted).acc) (tiltRateSq w)
+  guide_margin_fits : (p : Profile) → F32 (guide p gains set w wanted i).margin
+  unfolding guide guide_whole guide_lost_rotor
+  guide_margin_fits Whole =
+      let r = quat_to_rotmat i.quat in let rd = desired_r wanted i in
+      margin_of_fits set r rd (rate_sq (rate_error w r (feedforward wanted i) rd))
+  guide_margin_fits LostRotor = margin_to_axis_fits set (quat_to_rotmat i.quat) (thrust_axis_ned (cleaned wanted).acc) (tilt_rate_sq w)
 
-  guide-fallback-fits : (p : Profile) → FitsVec (guide p gains set w wanted i).fallback.0
-  unfolding guide guideWhole guideLostRotor desiredRate
-  guide-fallback-fits Whole =
+  guide_fallback_fits : (p : Profile) → FitsVec (guide p gains set w wanted i).fallback.0
+  unfolding guide guide_whole guide_lost_rotor desired_rate
+  guide_fallback_fits Whole =
       let c = cleaned wanted in
-      plus-fits (desiredRate gains i.quat c.acc i.yaw) (flatnessOmegaFf c.acc c.jerk i.yaw i.yaw_rate)
-      (rate-toward-fits gains (quatToRotmat i.quat) (thrustAttitude (sanitise3 c.acc) i.yaw))
-  guide-fallback-fits LostRotor = rate-toward-axis-fits gains (quatToRotmat i.quat) (thrustAxisNed (cleaned wanted).acc)
+      plus_fits (desired_rate gains i.quat c.acc i.yaw) (flatness_omega_ff c.acc c.jerk i.yaw i.yaw_rate)
+      (rate_toward_fits gains (quat_to_rotmat i.quat) (thrust_attitude (sanitise3 c.acc) i.yaw))
+  guide_fallback_fits LostRotor = rate_toward_axis_fits gains (quat_to_rotmat i.quat) (thrust_axis_ned (cleaned wanted).acc)
 
 module _ (source : Float → Reference) (s : State) where
-  pub margin-fits : (i : TickInput) → F32 (guidance source s i).margin
+  pub margin_fits : (i : TickInput) → F32 (guidance source s i).margin
   unfolding guidance
-  margin-fits i = guide-margin-fits s.fixed.gains s.fixed.set (filtered source s i) (wantedAt source s i) i s.fixed.profile
+  margin_fits i = guide_margin_fits s.fixed.gains s.fixed.set (filtered source s i) (wanted_at source s i) i s.fixed.profile
 
-  fallback-fits : (i : TickInput) → FitsVec (guidance source s i).fallback.0
+  fallback_fits : (i : TickInput) → FitsVec (guidance source s i).fallback.0
   unfolding guidance
-  fallback-fits i = guide-fallback-fits s.fixed.gains s.fixed.set (filtered source s i) (wantedAt source s i) i s.fixed.profile
+  fallback_fits i = guide_fallback_fits s.fixed.gains s.fixed.set (filtered source s i) (wanted_at source s i) i s.fixed.profile
 
-  agile-fits : (b : List ℕ) → FitsVec (input_at b).agile.0
+  agile_fits : (b : List ℕ) → FitsVec (input_at b).agile.0
   unfolding input_at vec
-  agile-fits b = search float_fits
+  agile_fits b = search float_fits
 
-  pub command-fits : (b : List ℕ) → FitsVec (ticked source s (input_at b)).answer.command.0
-  command-fits b =
+  pub command_fits : (b : List ℕ) → FitsVec (ticked source s (input_at b)).answer.command.0
+  command_fits b =
       let i = input_at b in
       rw (tick-command source s i)
-      (either (ticked source s i).answer.fallback (guidance source s i).fallback.0 _ (fallback-fits i) (planner-fits s.fixed.profile i.agile (agile-fits b)))
+      (either (ticked source s i).answer.fallback (guidance source s i).fallback.0 _ (fallback_fits i) (planner_fits s.fixed.profile i.agile (agile_fits b)))
     where
       either : (e : Bool) (v : Vec3) (w : BodyRate) → FitsVec v → FitsVec w.0 → FitsVec (cond {A = BodyRate} e record { 0 = sanitise3 v } w).0
-      either true v w f g = clean-fits v f
+      either true v w f g = clean_fits v f
       either false v w f g = g
 
 -- ---- the torque is what ADRC's axes give
 
-axis-torque-fits : (a : AdrcAxis) (m d dt : Float) → F32 (axisTick a m d dt).u
-unfolding axisTick
-axis-torque-fits a m d dt = search fitting
+axis_torque_fits : (a : AdrcAxis) (m d dt : Float) → F32 (axis_tick a m d dt).u
+unfolding axis_tick
+axis_torque_fits a m d dt = search fitting
 
-follow-fits : (p : Profile) (r : AdrcRate) (m d : BodyRate) (dt : Float) → FitsVec (follow p r m d dt).torque.0
+follow_fits : (p : Profile) (r : AdrcRate) (m d : BodyRate) (dt : Float) → FitsVec (follow p r m d dt).torque.0
 unfolding follow
-follow-fits Whole r m d dt = search axis-torque-fits
-follow-fits LostRotor r m d dt = search (axis-torque-fits, fitting)
+follow_fits Whole r m d dt = search axis_torque_fits
+follow_fits LostRotor r m d dt = search (axis_torque_fits, fitting)
 
-pub torque-fits : (source : Float → Reference) (s : State) (i : TickInput) → FitsVec (ticked source s i).answer.torque.0
-torque-fits source s i = rw (tick-torque source s i) (follow-fits s.fixed.profile _ _ _ _)
+pub torque_fits : (source : Float → Reference) (s : State) (i : TickInput) → FitsVec (ticked source s i).answer.torque.0
+torque_fits source s i = rw (tick-torque source s i) (follow_fits s.fixed.profile _ _ _ _)

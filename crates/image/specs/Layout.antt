@@ -2,29 +2,29 @@
 use Rattle.std.specs.Prelude.{ℕ, ◌*◌}
 
 -- widths of the parts that stand more than once
-abbrev pub VEC-WORDS : ℕ
-VEC-WORDS = 3
+abbrev pub VEC_WORDS : ℕ
+VEC_WORDS = 3
 
-abbrev pub QUINTIC-WORDS : ℕ
-QUINTIC-WORDS = 7
+abbrev pub QUINTIC_WORDS : ℕ
+QUINTIC_WORDS = 7
 
-abbrev pub T-END : ℕ
-T-END = 6  -- of a quintic's words the last
+abbrev pub T_END : ℕ
+T_END = 6  -- of a quintic's words the last
 
-abbrev pub ADRC-WORDS : ℕ
-ADRC-WORDS = 4
+abbrev pub ADRC_WORDS : ℕ
+ADRC_WORDS = 4
 
-abbrev pub AXIS-WORDS : ℕ
-AXIS-WORDS = 9
+abbrev pub AXIS_WORDS : ℕ
+AXIS_WORDS = 9
 
-abbrev pub BIQUAD-WORDS : ℕ
-BIQUAD-WORDS = 9
+abbrev pub BIQUAD_WORDS : ℕ
+BIQUAD_WORDS = 9
 
-abbrev pub LEG-WORDS : ℕ
-LEG-WORDS = 19
+abbrev pub LEG_WORDS : ℕ
+LEG_WORDS = 19
 
-abbrev pub LEG-BYTES : ℕ
-LEG-BYTES = 4 * LEG-WORDS
+abbrev pub LEG_BYTES : ℕ
+LEG_BYTES = 4 * LEG_WORDS
 
 -- the image
 abbrev pub COUNT : ℕ
@@ -63,48 +63,48 @@ PROFILE = 95  -- its word: 0 or 1
 abbrev pub PEAKS : ℕ
 PEAKS = 96  -- of the jerk, axis by axis
 
-abbrev pub IMAGE-WORDS : ℕ
-IMAGE-WORDS = 99
+abbrev pub IMAGE_WORDS : ℕ
+IMAGE_WORDS = 99
 
-abbrev pub IMAGE-BYTES : ℕ
-IMAGE-BYTES = 4 * IMAGE-WORDS
+abbrev pub IMAGE_BYTES : ℕ
+IMAGE_BYTES = 4 * IMAGE_WORDS
 
 -- what set-up is given
-abbrev pub SETUP-GAINS : ℕ
-SETUP-GAINS = 0
+abbrev pub SETUP_GAINS : ℕ
+SETUP_GAINS = 0
 
-abbrev pub SETUP-SET : ℕ
-SETUP-SET = 9
+abbrev pub SETUP_SET : ℕ
+SETUP_SET = 9
 
-abbrev pub SETUP-ENTER : ℕ
-SETUP-ENTER = 12
+abbrev pub SETUP_ENTER : ℕ
+SETUP_ENTER = 12
 
-abbrev pub SETUP-EXIT : ℕ
-SETUP-EXIT = 13
+abbrev pub SETUP_EXIT : ℕ
+SETUP_EXIT = 13
 
-abbrev pub SETUP-BAND : ℕ
-SETUP-BAND = 14  -- err_lo, err_hi, g_min
+abbrev pub SETUP_BAND : ℕ
+SETUP_BAND = 14  -- err_lo, err_hi, g_min
 
-abbrev pub SETUP-LEG : ℕ
-SETUP-LEG = 17
+abbrev pub SETUP_LEG : ℕ
+SETUP_LEG = 17
 
-abbrev pub SETUP-ADRC : ℕ
-SETUP-ADRC = 36
+abbrev pub SETUP_ADRC : ℕ
+SETUP_ADRC = 36
 
-abbrev pub SETUP-FC : ℕ
-SETUP-FC = 48
+abbrev pub SETUP_FC : ℕ
+SETUP_FC = 48
 
-abbrev pub SETUP-FS : ℕ
-SETUP-FS = 49
+abbrev pub SETUP_FS : ℕ
+SETUP_FS = 49
 
-abbrev pub SETUP-PROFILE : ℕ
-SETUP-PROFILE = 50
+abbrev pub SETUP_PROFILE : ℕ
+SETUP_PROFILE = 50
 
-abbrev pub SETUP-WORDS : ℕ
-SETUP-WORDS = 51
+abbrev pub SETUP_WORDS : ℕ
+SETUP_WORDS = 51
 
-abbrev pub SETUP-BYTES : ℕ
-SETUP-BYTES = 4 * SETUP-WORDS
+abbrev pub SETUP_BYTES : ℕ
+SETUP_BYTES = 4 * SETUP_WORDS
 
 -- what a tick is given
 abbrev pub GYRO : ℕ
@@ -113,14 +113,14 @@ GYRO = 0
 abbrev pub QUAT : ℕ
 QUAT = 3
 
-abbrev pub TRACK-ERR : ℕ
-TRACK-ERR = 7
+abbrev pub TRACK_ERR : ℕ
+TRACK_ERR = 7
 
 abbrev pub YAW : ℕ
 YAW = 8
 
-abbrev pub YAW-RATE : ℕ
-YAW-RATE = 9
+abbrev pub YAW_RATE : ℕ
+YAW_RATE = 9
 
 abbrev pub DT : ℕ
 DT = 10
@@ -131,11 +131,11 @@ AGILE = 11
 abbrev pub FRACTION : ℕ
 FRACTION = 14
 
-abbrev pub INPUT-WORDS : ℕ
-INPUT-WORDS = 17
+abbrev pub INPUT_WORDS : ℕ
+INPUT_WORDS = 17
 
-abbrev pub INPUT-BYTES : ℕ
-INPUT-BYTES = 4 * INPUT-WORDS
+abbrev pub INPUT_BYTES : ℕ
+INPUT_BYTES = 4 * INPUT_WORDS
 
 -- what a tick answers
 abbrev pub TORQUE : ℕ
@@ -156,8 +156,8 @@ PSI = 8
 abbrev pub MARGIN : ℕ
 MARGIN = 9
 
-abbrev pub ANSWER-WORDS : ℕ
-ANSWER-WORDS = 10
+abbrev pub ANSWER_WORDS : ℕ
+ANSWER_WORDS = 10
 
-abbrev pub ANSWER-BYTES : ℕ
-ANSWER-BYTES = 4 * ANSWER-WORDS
+abbrev pub ANSWER_BYTES : ℕ
+ANSWER_BYTES = 4 * ANSWER_WORDS

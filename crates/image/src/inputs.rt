@@ -1,8 +1,8 @@
 // What set-up and a tick are given, and what a tick answers.
 ghost use Rattle.std.specs.Prelude.{◌≡◌, length};
 ghost use Rattle.words.specs.Inner.{Plain};
-ghost use Rattle.image.specs.Layout.{SETUP-BYTES, INPUT-BYTES, ANSWER-BYTES};
-ghost use Rattle.image.specs.Inputs.{setupAt, input_at, answer_of};
+ghost use Rattle.image.specs.Layout.{SETUP_BYTES, INPUT_BYTES, ANSWER_BYTES};
+ghost use Rattle.image.specs.Inputs.{setup_at, input_at, answer_of};
 
 use super::layout::{
     ADRC_WORDS, AGILE, COMMAND, DT, FLAG, FRACTION, GYRO, QUAT, SETUP_ADRC, SETUP_BAND,
@@ -16,8 +16,8 @@ use words::{float_at, put_flag, put_three, put_vec, read_float, read_vec};
 
 // Every bit pattern is taken: what is bad is mended later, by the constructors. (A word that is no profile's is refused before.)
 pub fn setup_at(input: &[u8]) -> SetUp
-    requires { length input.now ≡ SETUP-BYTES }
-    ensures { result ≡ setupAt input.now }
+    requires { length input.now ≡ SETUP_BYTES }
+    ensures { result ≡ setup_at input.now }
 {
     SetUp {
         gains: gains_at(input, SETUP_GAINS, false),
@@ -38,7 +38,7 @@ pub fn setup_at(input: &[u8]) -> SetUp
 }
 
 pub fn input_at(input: &[u8], plain: bool) -> TickInput
-    requires fact_1 { length input.now ≡ INPUT-BYTES }
+    requires fact_1 { length input.now ≡ INPUT_BYTES }
     requires fact_2 { Plain plain input.now }
     ensures { result ≡ input_at input.now }
 {
@@ -55,7 +55,7 @@ pub fn input_at(input: &[u8], plain: bool) -> TickInput
 }
 
 pub fn put_answer(answer: &mut [u8], a: Answer)
-    requires { length answer.old ≡ ANSWER-BYTES }
+    requires { length answer.old ≡ ANSWER_BYTES }
     ensures { answer.new ≡ answer_of a }
 {
     put_vec(answer, TORQUE, a.torque.0);

@@ -3,9 +3,9 @@
 ghost use Rattle.std.specs.Prelude.{◌≡◌, ◌∷◌, [], ◌+◌, ◌*◌, ◌≤◌, length};
 ghost use Rattle.words.specs.Words.{words_of, Put};
 ghost use Rattle.words.specs.Inner.{Plain};
-ghost use Rattle.joint_tick.specs.Profile.{profileWord};
-ghost use Rattle.image.specs.Parts.{quatAt, gainsAt, set_at, governorAt, quinticAt, segmentAt, adrcGainsAt, axisAt, rateAt, biquadAt, lpfAt, legAt, profileAt, floatsOfGains, floatsOfSet, floatsOfGovernor, floatsOfQuintic, floatsOfSegment, floatsOfAdrcGains, floatsOfAxis, floatsOfRate, floatsOfBiquad, floatsOfLpf};
-ghost use Rattle.image.specs.Inner.{movedOfAxis, movedOfBiquad};
+ghost use Rattle.joint_tick.specs.Profile.{profile_word};
+ghost use Rattle.image.specs.Parts.{quat_at, gains_at, set_at, governor_at, quintic_at, segment_at, adrc_gains_at, axis_at, rate_at, biquad_at, lpf_at, leg_at, profile_at, floats_of_gains, floats_of_set, floats_of_governor, floats_of_quintic, floats_of_segment, floats_of_adrc_gains, floats_of_axis, floats_of_rate, floats_of_biquad, floats_of_lpf};
+ghost use Rattle.image.specs.Inner.{moved_of_axis, moved_of_biquad};
 
 use super::layout::{AXIS_WORDS, BIQUAD_WORDS, QUINTIC_WORDS, T_END, VEC_WORDS};
 use joint_tick::{Leg, Profile, profile_of, profile_word};
@@ -19,7 +19,7 @@ use words::{
 pub(crate) fn quat_at(bytes: &[u8], k: usize, plain: bool) -> Quat
     requires fact_1 { 4 * k + 16 ≤ length bytes.now }
     requires fact_2 { Plain plain bytes.now }
-    ensures { result ≡ quatAt bytes.now k }
+    ensures { result ≡ quat_at bytes.now k }
 {
     Quat(
         read_float(bytes, k, plain),
@@ -32,7 +32,7 @@ pub(crate) fn quat_at(bytes: &[u8], k: usize, plain: bool) -> Quat
 pub(crate) fn gains_at(bytes: &[u8], k: usize, plain: bool) -> GeoGains
     requires fact_1 { 4 * k + 36 ≤ length bytes.now }
     requires fact_2 { Plain plain bytes.now }
-    ensures { result ≡ gainsAt bytes.now k }
+    ensures { result ≡ gains_at bytes.now k }
 {
     GeoGains {
         k_r: read_vec(bytes, k, plain),
@@ -56,7 +56,7 @@ pub(crate) fn set_at(bytes: &[u8], k: usize, plain: bool) -> RecoverableSet
 pub(crate) fn governor_at(bytes: &[u8], k: usize, plain: bool) -> RefGovernor
     requires fact_1 { 4 * k + 16 ≤ length bytes.now }
     requires fact_2 { Plain plain bytes.now }
-    ensures { result ≡ governorAt bytes.now k }
+    ensures { result ≡ governor_at bytes.now k }
 {
     RefGovernor {
         s: read_float(bytes, k, plain),
@@ -69,7 +69,7 @@ pub(crate) fn governor_at(bytes: &[u8], k: usize, plain: bool) -> RefGovernor
 pub(crate) fn quintic_at(bytes: &[u8], k: usize, plain: bool) -> Quintic
     requires fact_1 { 4 * k + 28 ≤ length bytes.now }
     requires fact_2 { Plain plain bytes.now }
-    ensures { result ≡ quinticAt bytes.now k }
+    ensures { result ≡ quintic_at bytes.now k }
 {
     Quintic {
         c5: read_float(bytes, k, plain),
@@ -85,7 +85,7 @@ pub(crate) fn quintic_at(bytes: &[u8], k: usize, plain: bool) -> Quintic
 pub(crate) fn segment_at(bytes: &[u8], k: usize, plain: bool) -> Segment3
     requires fact_1 { 4 * k + 84 ≤ length bytes.now }
     requires fact_2 { Plain plain bytes.now }
-    ensures { result ≡ segmentAt bytes.now k }
+    ensures { result ≡ segment_at bytes.now k }
 {
     Segment3(
         quintic_at(bytes, k, plain),
@@ -97,7 +97,7 @@ pub(crate) fn segment_at(bytes: &[u8], k: usize, plain: bool) -> Segment3
 pub(crate) fn adrc_gains_at(bytes: &[u8], k: usize, plain: bool) -> AdrcGains
     requires fact_1 { 4 * k + 16 ≤ length bytes.now }
     requires fact_2 { Plain plain bytes.now }
-    ensures { result ≡ adrcGainsAt bytes.now k }
+    ensures { result ≡ adrc_gains_at bytes.now k }
 {
     AdrcGains {
         omega_o: read_float(bytes, k, plain),
@@ -110,7 +110,7 @@ pub(crate) fn adrc_gains_at(bytes: &[u8], k: usize, plain: bool) -> AdrcGains
 pub(crate) fn axis_at(bytes: &[u8], k: usize, plain: bool) -> AdrcAxis
     requires fact_1 { 4 * k + 36 ≤ length bytes.now }
     requires fact_2 { Plain plain bytes.now }
-    ensures { result ≡ axisAt bytes.now k }
+    ensures { result ≡ axis_at bytes.now k }
 {
     AdrcAxis {
         z1: read_float(bytes, k, plain),
@@ -125,7 +125,7 @@ pub(crate) fn axis_at(bytes: &[u8], k: usize, plain: bool) -> AdrcAxis
 pub(crate) fn rate_at(bytes: &[u8], k: usize, plain: bool) -> AdrcRate
     requires fact_1 { 4 * k + 108 ≤ length bytes.now }
     requires fact_2 { Plain plain bytes.now }
-    ensures { result ≡ rateAt bytes.now k }
+    ensures { result ≡ rate_at bytes.now k }
 {
     AdrcRate {
         roll: axis_at(bytes, k, plain),
@@ -137,7 +137,7 @@ pub(crate) fn rate_at(bytes: &[u8], k: usize, plain: bool) -> AdrcRate
 pub(crate) fn biquad_at(bytes: &[u8], k: usize, plain: bool) -> Biquad
     requires fact_1 { 4 * k + 36 ≤ length bytes.now }
     requires fact_2 { Plain plain bytes.now }
-    ensures { result ≡ biquadAt bytes.now k }
+    ensures { result ≡ biquad_at bytes.now k }
 {
     Biquad {
         b0: read_float(bytes, k, plain),
@@ -155,7 +155,7 @@ pub(crate) fn biquad_at(bytes: &[u8], k: usize, plain: bool) -> Biquad
 pub(crate) fn lpf_at(bytes: &[u8], k: usize, plain: bool) -> GyroLpf
     requires fact_1 { 4 * k + 108 ≤ length bytes.now }
     requires fact_2 { Plain plain bytes.now }
-    ensures { result ≡ lpfAt bytes.now k }
+    ensures { result ≡ lpf_at bytes.now k }
 {
     GyroLpf {
         roll: biquad_at(bytes, k, plain),
@@ -167,7 +167,7 @@ pub(crate) fn lpf_at(bytes: &[u8], k: usize, plain: bool) -> GyroLpf
 // A leg as it is given, before mending. Every reader of legs goes through this one.
 pub fn leg_at(bytes: &[u8], k: usize) -> Leg
     requires { 4 * k + 76 ≤ length bytes.now }
-    ensures { result ≡ legAt bytes.now k }
+    ensures { result ≡ leg_at bytes.now k }
 {
     Leg {
         p0: vec_at(bytes, k),
@@ -182,14 +182,14 @@ pub fn leg_at(bytes: &[u8], k: usize) -> Leg
 
 pub(crate) fn profile_at(bytes: &[u8], k: usize) -> Profile
     requires { 4 * k + 4 ≤ length bytes.now }
-    ensures { result ≡ profileAt bytes.now k }
+    ensures { result ≡ profile_at bytes.now k }
 {
     profile_of(word_at(bytes, k))
 }
 
 pub(crate) fn put_gains(bytes: &mut [u8], k: usize, g: GeoGains)
     requires { 4 * k + 36 ≤ length bytes.old }
-    ensures { Put bytes.old k (words_of (floatsOfGains g)) bytes.new }
+    ensures { Put bytes.old k (words_of (floats_of_gains g)) bytes.new }
 {
     put_vec(bytes, k, g.k_r);
     put_vec(bytes, k + VEC_WORDS, g.k_omega);
@@ -198,14 +198,14 @@ pub(crate) fn put_gains(bytes: &mut [u8], k: usize, g: GeoGains)
 
 pub(crate) fn put_set(bytes: &mut [u8], k: usize, s: RecoverableSet)
     requires { 4 * k + 12 ≤ length bytes.old }
-    ensures { Put bytes.old k (words_of (floatsOfSet s)) bytes.new }
+    ensures { Put bytes.old k (words_of (floats_of_set s)) bytes.new }
 {
     put_three(bytes, k, s.k_r, s.lambda_j, s.psi_max);
 }
 
 pub(crate) fn put_governor(bytes: &mut [u8], k: usize, g: RefGovernor)
     requires { 4 * k + 16 ≤ length bytes.old }
-    ensures { Put bytes.old k (words_of (floatsOfGovernor g)) bytes.new }
+    ensures { Put bytes.old k (words_of (floats_of_governor g)) bytes.new }
 {
     put_three(bytes, k, g.s, g.err_lo, g.err_hi);
     put_float(bytes, k + 3, g.g_min);
@@ -213,7 +213,7 @@ pub(crate) fn put_governor(bytes: &mut [u8], k: usize, g: RefGovernor)
 
 pub(crate) fn put_quintic(bytes: &mut [u8], k: usize, q: Quintic)
     requires { 4 * k + 28 ≤ length bytes.old }
-    ensures { Put bytes.old k (words_of (floatsOfQuintic q)) bytes.new }
+    ensures { Put bytes.old k (words_of (floats_of_quintic q)) bytes.new }
 {
     put_three(bytes, k, q.c5, q.c4, q.c3);
     put_three(bytes, k + 3, q.c2, q.c1, q.c0);
@@ -222,7 +222,7 @@ pub(crate) fn put_quintic(bytes: &mut [u8], k: usize, q: Quintic)
 
 pub(crate) fn put_segment(bytes: &mut [u8], k: usize, s: Segment3)
     requires { 4 * k + 84 ≤ length bytes.old }
-    ensures { Put bytes.old k (words_of (floatsOfSegment s)) bytes.new }
+    ensures { Put bytes.old k (words_of (floats_of_segment s)) bytes.new }
 {
     put_quintic(bytes, k, s.0);
     put_quintic(bytes, k + QUINTIC_WORDS, s.1);
@@ -231,7 +231,7 @@ pub(crate) fn put_segment(bytes: &mut [u8], k: usize, s: Segment3)
 
 pub(crate) fn put_adrc_gains(bytes: &mut [u8], k: usize, g: AdrcGains)
     requires { 4 * k + 16 ≤ length bytes.old }
-    ensures { Put bytes.old k (words_of (floatsOfAdrcGains g)) bytes.new }
+    ensures { Put bytes.old k (words_of (floats_of_adrc_gains g)) bytes.new }
 {
     put_three(bytes, k, g.omega_o, g.omega_c, g.b0);
     put_float(bytes, k + 3, g.tau);
@@ -240,7 +240,7 @@ pub(crate) fn put_adrc_gains(bytes: &mut [u8], k: usize, g: AdrcGains)
 // What a tick moves of an axis: all but its gains.
 pub(crate) fn put_axis_moved(bytes: &mut [u8], k: usize, a: AdrcAxis)
     requires { 4 * k + 20 ≤ length bytes.old }
-    ensures { Put bytes.old k (words_of (movedOfAxis a)) bytes.new }
+    ensures { Put bytes.old k (words_of (moved_of_axis a)) bytes.new }
 {
     put_three(bytes, k, a.z1, a.z2, a.u_prev);
     put_float(bytes, k + 3, a.u_act);
@@ -249,7 +249,7 @@ pub(crate) fn put_axis_moved(bytes: &mut [u8], k: usize, a: AdrcAxis)
 
 pub(crate) fn put_axis(bytes: &mut [u8], k: usize, a: AdrcAxis)
     requires { 4 * k + 36 ≤ length bytes.old }
-    ensures { Put bytes.old k (words_of (floatsOfAxis a)) bytes.new }
+    ensures { Put bytes.old k (words_of (floats_of_axis a)) bytes.new }
 {
     put_axis_moved(bytes, k, a);
     put_adrc_gains(bytes, k + 5, a.g);
@@ -257,7 +257,7 @@ pub(crate) fn put_axis(bytes: &mut [u8], k: usize, a: AdrcAxis)
 
 pub(crate) fn put_rate(bytes: &mut [u8], k: usize, r: AdrcRate)
     requires { 4 * k + 108 ≤ length bytes.old }
-    ensures { Put bytes.old k (words_of (floatsOfRate r)) bytes.new }
+    ensures { Put bytes.old k (words_of (floats_of_rate r)) bytes.new }
 {
     put_axis(bytes, k, r.roll);
     put_axis(bytes, k + AXIS_WORDS, r.pitch);
@@ -266,7 +266,7 @@ pub(crate) fn put_rate(bytes: &mut [u8], k: usize, r: AdrcRate)
 
 pub(crate) fn put_biquad(bytes: &mut [u8], k: usize, f: Biquad)
     requires { 4 * k + 36 ≤ length bytes.old }
-    ensures { Put bytes.old k (words_of (floatsOfBiquad f)) bytes.new }
+    ensures { Put bytes.old k (words_of (floats_of_biquad f)) bytes.new }
 {
     put_three(bytes, k, f.b0, f.b1, f.b2);
     put_three(bytes, k + 3, f.a1, f.a2, f.x1);
@@ -276,7 +276,7 @@ pub(crate) fn put_biquad(bytes: &mut [u8], k: usize, f: Biquad)
 // What a tick moves of a biquad: all but its coefficients.
 pub(crate) fn put_biquad_moved(bytes: &mut [u8], k: usize, f: Biquad)
     requires { 4 * k + 36 ≤ length bytes.old }
-    ensures { Put bytes.old (k + 5) (words_of (movedOfBiquad f)) bytes.new }
+    ensures { Put bytes.old (k + 5) (words_of (moved_of_biquad f)) bytes.new }
 {
     put_float(bytes, k + 5, f.x1);
     put_three(bytes, k + 6, f.x2, f.y1, f.y2);
@@ -284,7 +284,7 @@ pub(crate) fn put_biquad_moved(bytes: &mut [u8], k: usize, f: Biquad)
 
 pub(crate) fn put_lpf(bytes: &mut [u8], k: usize, l: GyroLpf)
     requires { 4 * k + 108 ≤ length bytes.old }
-    ensures { Put bytes.old k (words_of (floatsOfLpf l)) bytes.new }
+    ensures { Put bytes.old k (words_of (floats_of_lpf l)) bytes.new }
 {
     put_biquad(bytes, k, l.roll);
     put_biquad(bytes, k + BIQUAD_WORDS, l.pitch);
@@ -293,7 +293,7 @@ pub(crate) fn put_lpf(bytes: &mut [u8], k: usize, l: GyroLpf)
 
 pub(crate) fn put_profile(bytes: &mut [u8], k: usize, profile: Profile)
     requires { 4 * k + 4 ≤ length bytes.old }
-    ensures { Put bytes.old k (profileWord profile ∷ []) bytes.new }
+    ensures { Put bytes.old k (profile_word profile ∷ []) bytes.new }
 {
     put_word(bytes, k, profile_word(profile));
 }

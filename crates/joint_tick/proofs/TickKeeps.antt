@@ -1,8 +1,8 @@
 -- What a tick keeps of what moves. Assumes nothing.
 use Rattle.laws.proofs.Prelude.{◌≡◌, refl, Float}
-use Rattle.relay_adrc.specs.{declared.axis.AdrcAxis.AdrcAxis, Axis.axisTick}
+use Rattle.relay_adrc.specs.{declared.axis.AdrcAxis.AdrcAxis, Axis.axis_tick}
 use Rattle.joint_tick.specs.declared.{profile.Profile.{Profile, TheVariants.{Whole, LostRotor}}, state.{Moving.Moving, State.State, TickInput.TickInput}, stages.Reference.Reference}
-use Rattle.joint_tick.specs.Tick.{fractionThird, prepare, tickThird, follow, pick, guidePickFollow, ticked, stateAfter}
+use Rattle.joint_tick.specs.Tick.{fraction_third, prepare, tick_third, follow, pick, guide_pick_follow, ticked, state_after}
 
 -- ADRC's gains. (What is fixed is no part of what it leaves.)
 pub record Kept (s t : Moving) : Type 0 where
@@ -10,11 +10,11 @@ pub record Kept (s t : Moving) : Type 0 where
   pub pitch : t.rate.pitch.g ≡ s.rate.pitch.g
   pub yaw : t.rate.yaw.g ≡ s.rate.yaw.g
 
-third-keeps : (p : Profile) (a : AdrcAxis) (fraction measured wanted dt : Float) → (tickThird p (fractionThird p a fraction) measured wanted dt).axis.g ≡ a.g
-unfolding axisTick
-third-keeps Whole a fraction measured wanted dt = refl
-third-keeps LostRotor a fraction measured wanted dt = refl
+third_keeps : (p : Profile) (a : AdrcAxis) (fraction measured wanted dt : Float) → (tick_third p (fraction_third p a fraction) measured wanted dt).axis.g ≡ a.g
+unfolding axis_tick
+third_keeps Whole a fraction measured wanted dt = refl
+third_keeps LostRotor a fraction measured wanted dt = refl
 
-pub tick-keeps : (source : Float → Reference) (s : State) (i : TickInput) → Kept s.moving (stateAfter source s i).moving
-unfolding ticked prepare guidePickFollow pick follow axisTick
-tick-keeps source s i = record { roll = refl; pitch = refl; yaw = third-keeps s.fixed.profile s.moving.rate.yaw _ _ _ _ }
+pub tick_keeps : (source : Float → Reference) (s : State) (i : TickInput) → Kept s.moving (state_after source s i).moving
+unfolding ticked prepare guide_pick_follow pick follow axis_tick
+tick_keeps source s i = record { roll = refl; pitch = refl; yaw = third_keeps s.fixed.profile s.moving.rate.yaw _ _ _ _ }

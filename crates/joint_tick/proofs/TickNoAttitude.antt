@@ -2,12 +2,12 @@
 use Rattle.laws.proofs.Prelude.{◌≡◌, refl, ◌∙◌, ap, Bool, true, false, not, cond, T, Float, nan, of_bits}
 use Rattle.relay_math.specs.{F32.{0·0, is_finite}, Exact.in_range, declared.{Vec3.Vec3, BodyRate.BodyRate}}
 use Rattle.relay_geo.specs.{declared.{attitude.{Attitude.TheVariants.Refused, Feedforward.Feedforward}, controller.GeoGains.GeoGains, set.RecoverableSet.RecoverableSet}, Vectors.{norm, sanitise3}}
-use Rattle.relay_geo.{specs.{Attitude.{thrustForce, thrustAxisNed, thrustAttitude, tooWeak, flatnessOmegaFf}, Inner.{thrustOf, feedforwardOn}, Set.minusInfinity}, proofs.Accepts.feedforward-shares}
-use Rattle.relay_geo.proofs.NoAttitude.{bad-heading-none}
+use Rattle.relay_geo.{specs.{Attitude.{thrust_force, thrust_axis_ned, thrust_attitude, too_weak, flatness_omega_ff}, Inner.{thrust_of, feedforward_on}, Set.minus_infinity}, proofs.Accepts.feedforward_shares}
+use Rattle.relay_geo.proofs.NoAttitude.{bad_heading_none}
 use Rattle.latch.specs.Latch.{latch}
 use Rattle.joint_tick.specs.declared.{profile.Profile.TheVariants.{Whole, LostRotor}, state.{State.State, TickInput.TickInput}, stages.{Reference.Reference, Guided.Guided}}
-use Rattle.joint_tick.specs.Tick.{cleaned, desiredR, plannerOf, guideWhole, guideLostRotor, guide, guidance, ticked}
-use Rattle.joint_tick.proofs.{Once.one-attitude, Shielding.{filtered, wantedAt, by-profile, tick-latch, tick-margin, tick-psi, tick-fallback}}
+use Rattle.joint_tick.specs.Tick.{cleaned, desired_r, planner_of, guide_whole, guide_lost_rotor, guide, guidance, ticked}
+use Rattle.joint_tick.proofs.{Once.one_attitude, Shielding.{filtered, wanted_at, by_profile, tick_latch, tick_margin, tick_psi, tick_fallback}}
 use Rattle.relay_geo.specs.declared.vectors.Direction.TheVariants as direction
 use Rattle.relay_geo.specs.declared.attitude.Feedforward.TheVariants as rate
 
@@ -15,65 +15,65 @@ abbrev zeros : BodyRate
 zeros = record { 0 = (0·0, 0·0, 0·0) }
 
 -- the feedforward "takes an R_d and there is none"
-no-feedforward : (a j : Vec3) (yaw yawRate : Float) → thrustAttitude a yaw ≡ Refused → flatnessOmegaFf a j yaw yawRate ≡ rate.Refused
-unfolding feedforwardOn thrustOf
-no-feedforward a j yaw yawRate e = rw (feedforward-shares a j yaw yawRate, e) (either (tooWeak (norm (thrustForce a))))
+no_feedforward : (a j : Vec3) (yaw yawRate : Float) → thrust_attitude a yaw ≡ Refused → flatness_omega_ff a j yaw yawRate ≡ rate.Refused
+unfolding feedforward_on thrust_of
+no_feedforward a j yaw yawRate e = rw (feedforward_shares a j yaw yawRate, e) (either (too_weak (norm (thrust_force a))))
   where
     either : (b : Bool) → ◌≡◌ {A = Feedforward} (cond b rate.Refused rate.Refused) rate.Refused
     either true = refl
     either false = refl
 
 -- "If there is no R_d the margin is minus infinity and the psi word NaN." The fallback is then three +0.0.
-pub no-attitude : (gains : GeoGains) (set : RecoverableSet) (w : BodyRate) (wanted : Reference) (i : TickInput)
-    → desiredR wanted i ≡ Refused
-    → guideWhole gains set w wanted i ≡ record { fallback = zeros; psi = nan; margin = minusInfinity; planner = plannerOf Whole i.agile }
-unfolding guideWhole
-no-attitude gains set w wanted i e =
+pub no_attitude : (gains : GeoGains) (set : RecoverableSet) (w : BodyRate) (wanted : Reference) (i : TickInput)
+    → desired_r wanted i ≡ Refused
+    → guide_whole gains set w wanted i ≡ record { fallback = zeros; psi = nan; margin = minus_infinity; planner = planner_of Whole i.agile }
+unfolding guide_whole
+no_attitude gains set w wanted i e =
     let c = cleaned wanted in
-    rw (one-attitude gains i.quat wanted.acc i.yaw, no-feedforward c.acc c.jerk i.yaw i.yaw_rate e, e)
+    rw (one_attitude gains i.quat wanted.acc i.yaw, no_feedforward c.acc c.jerk i.yaw i.yaw_rate e, e)
 
 -- minus infinity engages, whatever the thresholds
-unknown-engages : (enter exit : Float) (b : Bool) → latch enter exit b minusInfinity ≡ true
+unknown_engages : (enter exit : Float) (b : Bool) → latch enter exit b minus_infinity ≡ true
 unfolding latch is_finite
-unknown-engages enter exit true = refl
-unknown-engages enter exit false = refl
+unknown_engages enter exit true = refl
+unknown_engages enter exit false = refl
 
-clean-zeros : sanitise3 zeros.0 ≡ zeros.0
+clean_zeros : sanitise3 zeros.0 ≡ zeros.0
 unfolding is_finite of_bits
-clean-zeros = refl
+clean_zeros = refl
 
 -- So the flag names the fallback, and the command is three +0.0.
 pub record Damped (source : Float → Reference) (s : State) (i : TickInput) : Type 0 where
-  pub margin : (ticked source s i).answer.margin ≡ minusInfinity
+  pub margin : (ticked source s i).answer.margin ≡ minus_infinity
   pub psi : (ticked source s i).answer.psi ≡ nan
   pub flag : (ticked source s i).answer.fallback ≡ true
   pub command : (ticked source s i).answer.command ≡ zeros
 
 module _ (source : Float → Reference) (s : State) (i : TickInput) where
   -- by whichever profile
-  damped : (planner : BodyRate) → guidance source s i ≡ record { fallback = zeros; psi = nan; margin = minusInfinity; planner = planner } → Damped source s i
+  damped : (planner : BodyRate) → guidance source s i ≡ record { fallback = zeros; psi = nan; margin = minus_infinity; planner = planner } → Damped source s i
   damped planner g =
-      let m = tick-margin source s i ∙ ap (λ (x : Guided). x.margin) g in
+      let m = tick_margin source s i ∙ ap (λ (x : Guided). x.margin) g in
       let f : (ticked source s i).answer.fallback ≡ true =
-      tick-latch source s i ∙ rw (ap (λ (x : Guided). x.margin) g) (unknown-engages s.fixed.enter s.fixed.exit s.moving.engaged) in
-      record { margin = m; psi = tick-psi source s i ∙ ap (λ (x : Guided). x.psi) g; flag = f; command = tick-fallback source s i f ∙ rw (ap (λ (x : Guided). x.fallback) g, clean-zeros) }
+      tick_latch source s i ∙ rw (ap (λ (x : Guided). x.margin) g) (unknown_engages s.fixed.enter s.fixed.exit s.moving.engaged) in
+      record { margin = m; psi = tick_psi source s i ∙ ap (λ (x : Guided). x.psi) g; flag = f; command = tick_fallback source s i f ∙ rw (ap (λ (x : Guided). x.fallback) g, clean_zeros) }
 
-  pub no-attitude-tick : s.fixed.profile ≡ Whole → desiredR (wantedAt source s i) i ≡ Refused → Damped source s i
+  pub no_attitude_tick : s.fixed.profile ≡ Whole → desired_r (wanted_at source s i) i ≡ Refused → Damped source s i
   unfolding guide
-  no-attitude-tick p e =
-      damped (plannerOf Whole i.agile)
-      (by-profile source s i p ∙ no-attitude s.fixed.gains s.fixed.set (filtered source s i) (wantedAt source s i) i e)
+  no_attitude_tick p e =
+      damped (planner_of Whole i.agile)
+      (by_profile source s i p ∙ no_attitude s.fixed.gains s.fixed.set (filtered source s i) (wanted_at source s i) i e)
 
   -- "A non-finite yaw makes the heading vector zero", and so does one beyond the limit: whatever the segment asks for.
-  pub bad-heading-tick : s.fixed.profile ≡ Whole → T (not (in_range i.yaw)) → Damped source s i
-  bad-heading-tick p far = no-attitude-tick p (bad-heading-none i.yaw far (cleaned (wantedAt source s i)).acc)
+  pub bad_heading_tick : s.fixed.profile ≡ Whole → T (not (in_range i.yaw)) → Damped source s i
+  bad_heading_tick p far = no_attitude_tick p (bad_heading_none i.yaw far (cleaned (wanted_at source s i)).acc)
 
   -- "Headings that aren't numbers."
-  pub nan-heading-tick : s.fixed.profile ≡ Whole → i.yaw ≡ nan → Damped source s i
+  pub nan_heading_tick : s.fixed.profile ≡ Whole → i.yaw ≡ nan → Damped source s i
   unfolding in_range
-  nan-heading-tick p e = bad-heading-tick p (rw e tt)
+  nan_heading_tick p e = bad_heading_tick p (rw e tt)
 
   -- With a rotor lost only a thrust axis that is refused does it.
-  pub no-axis-tick : s.fixed.profile ≡ LostRotor → thrustAxisNed (cleaned (wantedAt source s i)).acc ≡ direction.Refused → Damped source s i
-  unfolding guide guideLostRotor
-  no-axis-tick p e = damped (plannerOf LostRotor i.agile) (by-profile source s i p ∙ rw e)
+  pub no_axis_tick : s.fixed.profile ≡ LostRotor → thrust_axis_ned (cleaned (wanted_at source s i)).acc ≡ direction.Refused → Damped source s i
+  unfolding guide guide_lost_rotor
+  no_axis_tick p e = damped (planner_of LostRotor i.agile) (by_profile source s i p ∙ rw e)

@@ -2,42 +2,42 @@
 use Rattle.laws.proofs.Prelude.{◌≡◌, refl, of_bits, add, sub, mul, div, neg, lt, le, eq}
 use Rattle.relay_math.specs.{declared.BodyRate.BodyRate, F32.{0·0, 1·0, 2·0, is_finite, grains}, Sqrt.sqrtf}
 use Rattle.relay_geo.specs.declared.{vectors.Direction.TheVariants.Axis, attitude.{Attitude.TheVariants.Matrix, Feedforward.TheVariants.Rate}}
-use Rattle.relay_geo.specs.{Vectors.{identity3, cross, dot, normalize, prod3, matmul3, transposedTimes}, Controller.{psi, attitudeError, desiredRate}, Set.margin}
-use Rattle.relay_geo.{specs.Attitude.{quatToRotmat, thrustForce, thrustAxisNed, thrustAttitude, bodyRate, flatnessOmegaFf}, proofs.AttitudeFigures.level}
+use Rattle.relay_geo.specs.{Vectors.{identity3, cross, dot, normalize, prod3, matmul3, transposed_times}, Controller.{psi, attitude_error, desired_rate}, Set.margin}
+use Rattle.relay_geo.{specs.Attitude.{quat_to_rotmat, thrust_force, thrust_axis_ned, thrust_attitude, body_rate, flatness_omega_ff}, proofs.AttitudeFigures.level}
 use Rattle.relay_traj.specs.Quintic.{4·0}
-use Rattle.joint_tick.specs.{Tick.{commanded, rateSq, guideWhole, guideLostRotor, guide}, Worked.{8·0, curve, aside, WorkedFigures}}
+use Rattle.joint_tick.specs.{Tick.{commanded, rate_sq, guide_whole, guide_lost_rotor, guide}, Worked.{8·0, curve, aside, WorkedFigures}}
 
-root-of-64 : sqrtf (dot (0·0, 0·0, 8·0) (0·0, 0·0, 8·0)) ≡ 8·0
+root_of_64 : sqrtf (dot (0·0, 0·0, 8·0) (0·0, 0·0, 8·0)) ≡ 8·0
 unfolding sqrtf grains of_bits dot add mul
-root-of-64 = refl
+root_of_64 = refl
 
-root-aside : sqrtf (dot (8·0, 0·0, 0·0) (8·0, 0·0, 0·0)) ≡ 8·0
+root_aside : sqrtf (dot (8·0, 0·0, 0·0) (8·0, 0·0, 0·0)) ≡ 8·0
 unfolding sqrtf grains of_bits dot add mul
-root-aside = refl
+root_aside = refl
 
-axis-of-curve : thrustAxisNed curve.acc ≡ Axis (0·0, 0·0, 1·0)
-unfolding thrustAxisNed thrustForce normalize sub div is_finite lt of_bits
-axis-of-curve = rw root-of-64
+axis_of_curve : thrust_axis_ned curve.acc ≡ Axis (0·0, 0·0, 1·0)
+unfolding thrust_axis_ned thrust_force normalize sub div is_finite lt of_bits
+axis_of_curve = rw root_of_64
 
-axis-aside : thrustAxisNed aside.acc ≡ Axis (1·0, 0·0, 0·0)
-unfolding thrustAxisNed thrustForce normalize sub div is_finite lt of_bits
-axis-aside = rw root-aside
+axis_aside : thrust_axis_ned aside.acc ≡ Axis (1·0, 0·0, 0·0)
+unfolding thrust_axis_ned thrust_force normalize sub div is_finite lt of_bits
+axis_aside = rw root_aside
 
-level-desired : thrustAttitude curve.acc 0·0 ≡ Matrix identity3
-unfolding thrustAttitude
-level-desired = rw (axis-of-curve, level)
+level_desired : thrust_attitude curve.acc 0·0 ≡ Matrix identity3
+unfolding thrust_attitude
+level_desired = rw (axis_of_curve, level)
 
 abbrev along : BodyRate
 along = record { 0 = (1·0, 2·0, 4·0) }
 
-turns : bodyRate 8·0 (0·0, 0·0, 1·0) curve.jerk 4·0 identity3 ≡ along
-unfolding bodyRate cross transposedTimes dot is_finite of_bits add sub mul div neg
+turns : body_rate 8·0 (0·0, 0·0, 1·0) curve.jerk 4·0 identity3 ≡ along
+unfolding body_rate cross transposed_times dot is_finite of_bits add sub mul div neg
 turns = refl
 
-ahead-of-curve : flatnessOmegaFf curve.acc curve.jerk 0·0 4·0 ≡ Rate along
-unfolding flatnessOmegaFf thrustForce is_finite lt le eq of_bits sub div
-ahead-of-curve = rw (root-of-64, level, turns)
+ahead_of_curve : flatness_omega_ff curve.acc curve.jerk 0·0 4·0 ≡ Rate along
+unfolding flatness_omega_ff thrust_force is_finite lt le eq of_bits sub div
+ahead_of_curve = rw (root_of_64, level, turns)
 
-pub worked-figures : WorkedFigures
-unfolding guide guideWhole guideLostRotor desiredRate quatToRotmat psi attitudeError margin commanded rateSq matmul3 prod3 transposedTimes dot is_finite of_bits add sub mul div neg lt le
-worked-figures = record { turning = rw (level-desired, ahead-of-curve); matrix-first = refl; falling = rw axis-aside }
+pub worked_figures : WorkedFigures
+unfolding guide guide_whole guide_lost_rotor desired_rate quat_to_rotmat psi attitude_error margin commanded rate_sq matmul3 prod3 transposed_times dot is_finite of_bits add sub mul div neg lt le
+worked_figures = record { turning = rw (level_desired, ahead_of_curve); matrix_first = refl; falling = rw axis_aside }

@@ -1,7 +1,7 @@
 -- Set-up, as document 01 has it: each part by its constructor. And the exchange of the segment (request Seven). Definitions only.
-use Rattle.relay_adrc.specs.Rate.{rateNew}
-use Rattle.relay_adrc.specs.Biquad.{gyroNew}
-use Rattle.relay_geo.specs.Shield.{newShield}
+use Rattle.relay_adrc.specs.Rate.{rate_new}
+use Rattle.relay_adrc.specs.Biquad.{gyro_new}
+use Rattle.relay_geo.specs.Shield.{new_shield}
 use Rattle.relay_traj.specs.declared.segment.Segment3.{Segment3}
 use Rattle.relay_traj.specs.Governor.{governor, reset}
 use Rattle.relay_traj.specs.Segment.{segment}
@@ -9,20 +9,20 @@ use Rattle.joint_tick.specs.declared.state.Leg.{Leg}
 use Rattle.joint_tick.specs.declared.state.SetUp.{SetUp}
 use Rattle.joint_tick.specs.declared.state.State.{State}
 
-unfoldable pub segmentOf : Leg → Segment3
-segmentOf leg = segment leg.p0 leg.v0 leg.a0 leg.pf leg.vf leg.af leg.t
+unfoldable pub segment_of : Leg → Segment3
+segment_of leg = segment leg.p0 leg.v0 leg.a0 leg.pf leg.vf leg.af leg.t
 
-unfoldable pub setUp : SetUp → State
-setUp i =
-    let shield = newShield i.set i.enter i.exit in
+unfoldable pub set_up : SetUp → State
+set_up i =
+    let shield = new_shield i.set i.enter i.exit in
     record {
-      fixed = record { gains = i.gains; set = shield.set; enter = shield.enter; exit = shield.exit; segment = segmentOf i.leg; profile = i.profile };
+      fixed = record { gains = i.gains; set = shield.set; enter = shield.enter; exit = shield.exit; segment = segment_of i.leg; profile = i.profile };
       moving =
           record {
             engaged = shield.engaged;
             governor = governor i.err_lo i.err_hi i.g_min;
-            rate = rateNew i.roll i.pitch i.yaw;
-            lpf = gyroNew i.fc i.fs;
+            rate = rate_new i.roll i.pitch i.yaw;
+            lpf = gyro_new i.fc i.fs;
           };
     }
 
@@ -32,6 +32,6 @@ exchange s leg =
     let f = s.fixed in
     let m = s.moving in
     record {
-      fixed = record { gains = f.gains; set = f.set; enter = f.enter; exit = f.exit; segment = segmentOf leg; profile = f.profile };
+      fixed = record { gains = f.gains; set = f.set; enter = f.enter; exit = f.exit; segment = segment_of leg; profile = f.profile };
       moving = record { engaged = m.engaged; governor = reset m.governor; rate = m.rate; lpf = m.lpf };
     }

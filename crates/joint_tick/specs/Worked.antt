@@ -73,8 +73,8 @@ gains = record { k_r = (2·0, 8·0, 16·0); k_omega = (0·0, 0·0, 0·0); j = (0
 abbrev pub set : RecoverableSet
 set = record { k_r = 16·0; lambda_j = 1·0; psi_max = 64·0 }
 
-abbrev pub turningAt : BodyRate
-turningAt = record { 0 = (1·0, 2·0, 3·0) }
+abbrev pub turning_at : BodyRate
+turning_at = record { 0 = (1·0, 2·0, 3·0) }
 
 abbrev still : BodyRate
 still = record { 0 = (0·0, 0·0, 0·0) }
@@ -99,8 +99,8 @@ abbrev pub curve : Reference
 curve = record { acc = (0·0, 0·0, 1·81); jerk = (-16·0, 8·0, 0·0) }
 
 -- R takes the first axis to the second, that to the third and that to the first
-abbrev pub thirdOfATurn : Quat
-thirdOfATurn = record { 0 = 0·5; 1 = 0·5; 2 = 0·5; 3 = 0·5 }
+abbrev pub third_of_a_turn : Quat
+third_of_a_turn = record { 0 = 0·5; 1 = 0·5; 2 = 0·5; 3 = 0·5 }
 
 -- Six. The thrust is 8 along the first axis. R's third column is (0.5, -1, 0.375) and its first row (0.875, 0.25, 0.5): it is no rotation, which no routine
 -- asks for, and every entry is exact.
@@ -115,9 +115,9 @@ tilted = record { 0 = 1·0; 1 = 0·5; 2 = 0·25; 3 = 0·0 }
 pub record WorkedFigures : Type 0 where
   -- The attitude's error is (1, 1, 1): -k_r times it and the feedforward are (-2, -8, -16) + (1, 2, 4). R's trace is 0, so psi is 3 / 2. Rᵀ R_d times
   -- (1, 2, 4) is (2, 4, 1); the rate (1, 2, 3) less that is (-1, -2, 2), squared 9; the ceiling is 2 · 16 · (2 - 1.5) = 16.
-  pub turning : guide Whole gains set turningAt curve (held thirdOfATurn) ≡ record { fallback = record { 0 = (-1·0, -6·0, -12·0) }; psi = 1·5; margin = 7·0; planner = still }
+  pub turning : guide Whole gains set turning_at curve (held third_of_a_turn) ≡ record { fallback = record { 0 = (-1·0, -6·0, -12·0) }; psi = 1·5; margin = 7·0; planner = still }
   -- "matrix product first, then the vector": the first row of the product is (2^24 - 2^24, 1, 0), and times (1, 1, 0) that is 1. The vector first would lose
   -- the 1 beside 2^24.
-  pub matrix-first : (commanded ((1·0, 0·0, 0·0), (1·0, 0·0, 0·0), (0·0, 0·0, 0·0)) ((2^24, 1·0, 0·0), (-2^24, 0·0, 0·0), (0·0, 0·0, 0·0)) (1·0, 1·0, 0·0)).0 ≡ 1·0
+  pub matrix_first : (commanded ((1·0, 0·0, 0·0), (1·0, 0·0, 0·0), (0·0, 0·0, 0·0)) ((2^24, 1·0, 0·0), (-2^24, 0·0, 0·0), (0·0, 0·0, 0·0)) (1·0, 1·0, 0·0)).0 ≡ 1·0
   -- The reduced error is (2 · 0.25, -2 · 0.875), times -k_r. Psi is 1 - 0.5. The first two rates squared are 1 + 4; the ceiling is 2 · 16 · (2 - 0.5) = 48.
-  pub falling : guide LostRotor gains set turningAt aside (held tilted) ≡ record { fallback = record { 0 = (-1·0, 14·0, 0·0) }; psi = 0·5; margin = 43·0; planner = still }
+  pub falling : guide LostRotor gains set turning_at aside (held tilted) ≡ record { fallback = record { 0 = (-1·0, 14·0, 0·0) }; psi = 0·5; margin = 43·0; planner = still }

@@ -1,6 +1,6 @@
 // Set-up: the first state, by the constructors. They mend what is bad, so every bit pattern is taken. And the exchange of the segment.
 ghost use Rattle.std.specs.Prelude.{◌≡◌};
-ghost use Rattle.joint_tick.specs.SetUp.{segmentOf, setUp, exchange};
+ghost use Rattle.joint_tick.specs.SetUp.{segment_of, set_up, exchange};
 
 use crate::state::{Fixed, Leg, Moving, SetUp, State};
 use relay_adrc::{AdrcRate, GyroLpf};
@@ -8,13 +8,13 @@ use relay_geo::SimplexShield;
 use relay_traj::{RefGovernor, Segment3};
 
 pub fn segment_of(leg: Leg) -> Segment3
-    ensures { result ≡ segmentOf leg }
+    ensures { result ≡ segment_of leg }
 {
     Segment3::new(leg.p0, leg.v0, leg.a0, leg.pf, leg.vf, leg.af, leg.t)
 }
 
 pub fn set_up(input: SetUp) -> State
-    ensures { result ≡ setUp input }
+    ensures { result ≡ set_up input }
 {
     let gains = input.gains;
     let profile = input.profile;

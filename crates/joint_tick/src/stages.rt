@@ -2,8 +2,8 @@
 // halves, the observers' before the guidance.) A route's tick has another reference in place of `reference_at` and nothing else; what is guided to
 // depends on R, R_d and the heading in `guide` alone. With a rotor lost (request Six) `guide` is another, and the third axis of ADRC stands still.
 ghost use Rattle.std.specs.Prelude.{◌≡◌, cond};
-ghost use Rattle.joint_tick.specs.Tick.{fractionThird, fractions, prepare, sampleTime, sampleAt3, referenceAt, cleaned, withFeedforward, commanded, rateError, rateSq, psiOf, guideWhole, rateTowardAxis, psiToAxis, tiltRateSq, guideLostRotor, guide, guidePickFollow};
-ghost use Rattle.joint_tick.specs.Inner.{observeThird, observe, actThird, followOn, pickOn};
+ghost use Rattle.joint_tick.specs.Tick.{fraction_third, fractions, prepare, sample_time, sample_at3, reference_at, cleaned, with_feedforward, commanded, rate_error, rate_sq, psi_of, guide_whole, rate_toward_axis, psi_to_axis, tilt_rate_sq, guide_lost_rotor, guide, guide_pick_follow};
+ghost use Rattle.joint_tick.specs.Inner.{observe_third, observe, act_third, follow_on, pick_on};
 
 use crate::profile::Profile;
 use crate::state::{Answer, Fixed, Moving, TickInput};
@@ -63,7 +63,7 @@ pub struct Ticked {
 // ---- prepare
 
 fn fraction_third(profile: Profile, axis: AdrcAxis, fraction: f32) -> AdrcAxis
-    ensures { result ≡ fractionThird profile axis fraction }
+    ensures { result ≡ fraction_third profile axis fraction }
 {
     match profile {
         Profile::Whole => axis.set_delivered_fraction(fraction),
@@ -108,7 +108,7 @@ pub fn prepare(profile: Profile, moving: Moving, input: TickInput) -> Prepared
 
 // `eval` takes a time that is not finite for 0; a clock that ran to +infinity is past the segment's end, so the tick asks for that.
 fn sample_time(segment: Segment3, time: f32) -> f32
-    ensures { result ≡ sampleTime segment time }
+    ensures { result ≡ sample_time segment time }
 {
     if time == f32::from_bits(0x7f80_0000) {
         segment.duration()
@@ -120,7 +120,7 @@ fn sample_time(segment: Segment3, time: f32) -> f32
 // Position and velocity too, for whoever asks where the craft should be. Axis by axis: with a second caller the compiler does not inline the segment's own `eval` into
 // `reference_at`, and every tick works out a position and a velocity that nobody reads (114 instructions on x86-64).
 pub fn sample_at(segment: Segment3, time: f32) -> Sample3
-    ensures { result ≡ sampleAt3 segment time }
+    ensures { result ≡ sample_at3 segment time }
 {
     let t = sample_time(segment, time);
     let q0 = segment.0;
@@ -138,7 +138,7 @@ pub fn sample_at(segment: Segment3, time: f32) -> Sample3
 }
 
 pub fn reference_at(segment: Segment3, time: f32) -> Reference
-    ensures { result ≡ referenceAt segment time }
+    ensures { result ≡ reference_at segment time }
 {
     let s = segment.eval(sample_time(segment, time));
     let acc = s.acc;
@@ -160,7 +160,7 @@ fn clean(wanted: Reference) -> Reference
 
 // The sum, and w itself where there is no feedforward: adding +0.0 would turn a -0.0.
 fn plus(w: BodyRate, feedforward: Feedforward) -> BodyRate
-    ensures { result ≡ withFeedforward w feedforward }
+    ensures { result ≡ with_feedforward w feedforward }
 {
     let Feedforward::Rate(f) = feedforward else {
         return w;
@@ -192,7 +192,7 @@ fn commanded(r: Mat3, r_d: Mat3, f: Vec3) -> Vec3
 // What nobody commanded of the filtered rate: all of it where there is no feedforward. Three zeros in its place would not do: by an entry of the product
 // that is not finite they give a NaN.
 fn rate_error(omega: BodyRate, r: Mat3, feedforward: Feedforward, r_d: Attitude) -> BodyRate
-    ensures { result ≡ rateError omega r feedforward r_d }
+    ensures { result ≡ rate_error omega r feedforward r_d }
 {
     let Feedforward::Rate(f) = feedforward else {
         return omega;
@@ -205,13 +205,13 @@ fn rate_error(omega: BodyRate, r: Mat3, feedforward: Feedforward, r_d: Attitude)
 }
 
 fn rate_sq(e: BodyRate) -> f32
-    ensures { result ≡ rateSq e }
+    ensures { result ≡ rate_sq e }
 {
     dot(e.0, e.0)
 }
 
 fn psi_of(r: Mat3, r_d: Attitude) -> f32
-    ensures { result ≡ psiOf r r_d }
+    ensures { result ≡ psi_of r r_d }
 {
     match r_d {
         Attitude::Matrix(r_d) => GeoAtt::psi(r, r_d),
@@ -228,7 +228,7 @@ fn guide_whole(
     wanted: Reference,
     input: TickInput,
 ) -> Guided
-    ensures { result ≡ guideWhole gains set rate wanted input }
+    ensures { result ≡ guide_whole gains set rate wanted input }
 {
     let w = clean(wanted);
     let thrust = thrust_of(w.acc);
@@ -252,7 +252,7 @@ fn guide_whole(
 
 // The rate that turns the thrust axis, and none about it: yaw is let go.
 fn rate_toward_axis(gains: GeoGains, r: Mat3, axis: Direction) -> BodyRate
-    ensures { result ≡ rateTowardAxis gains r axis }
+    ensures { result ≡ rate_toward_axis gains r axis }
 {
     match axis {
         Direction::Axis(b3) => {
@@ -266,7 +266,7 @@ fn rate_toward_axis(gains: GeoGains, r: Mat3, axis: Direction) -> BodyRate
 
 // 0 where the thrust axis lies as it should, 2 where it is upside down.
 fn psi_to_axis(r: Mat3, axis: Direction) -> f32
-    ensures { result ≡ psiToAxis r axis }
+    ensures { result ≡ psi_to_axis r axis }
 {
     match axis {
         Direction::Axis(b3) => 1.0 - dot(Vec3(r.0.2, r.1.2, r.2.2), b3),
@@ -275,7 +275,7 @@ fn psi_to_axis(r: Mat3, axis: Direction) -> f32
 }
 
 fn tilt_rate_sq(w: BodyRate) -> f32
-    ensures { result ≡ tiltRateSq w }
+    ensures { result ≡ tilt_rate_sq w }
 {
     w.0.0 * w.0.0 + w.0.1 * w.0.1
 }
@@ -288,7 +288,7 @@ fn guide_lost_rotor(
     wanted: Reference,
     input: TickInput,
 ) -> Guided
-    ensures { result ≡ guideLostRotor gains set rate wanted input }
+    ensures { result ≡ guide_lost_rotor gains set rate wanted input }
 {
     let axis = thrust_axis_ned(sanitise3(wanted.acc));
     let r = quat_to_rotmat(input.quat);
@@ -324,7 +324,7 @@ fn guide(
 
 // With a rotor lost the third observer is not asked: what it has stands.
 fn observe_third(profile: Profile, axis: AdrcAxis, measured: f32, dt: f32) -> Observed
-    ensures { result ≡ observeThird profile axis measured dt }
+    ensures { result ≡ observe_third profile axis measured dt }
 {
     match profile {
         Profile::Whole => axis.observe(measured, dt),
@@ -349,7 +349,7 @@ fn observe(profile: Profile, rate: AdrcRate, measured: BodyRate, dt: f32) -> Obs
 }
 
 fn act_third(profile: Profile, axis: AdrcAxis, observed: Observed, wanted: f32) -> AxisTick
-    ensures { result ≡ actThird profile axis observed wanted }
+    ensures { result ≡ act_third profile axis observed wanted }
 {
     match profile {
         Profile::Whole => axis.act(observed, wanted),
@@ -359,7 +359,7 @@ fn act_third(profile: Profile, axis: AdrcAxis, observed: Observed, wanted: f32) 
 
 // Axis by axis: a body rate was observed, a body rate is wanted, and a torque comes out.
 fn follow(profile: Profile, rate: AdrcRate, observed: Observed3, wanted: BodyRate) -> RateTick
-    ensures { result ≡ followOn profile rate observed wanted }
+    ensures { result ≡ follow_on profile rate observed wanted }
 {
     let w = wanted.0;
     let roll = rate.roll.act(observed.roll, w.0);
@@ -387,7 +387,7 @@ fn chosen(engaged: bool, planner: BodyRate, fallback: BodyRate) -> BodyRate
 
 // The shield picks, and ADRC follows the pick.
 fn pick(fixed: Fixed, prepared: Prepared, observed: Observed3, guided: Guided) -> Ticked
-    ensures { result ≡ pickOn fixed prepared observed guided }
+    ensures { result ≡ pick_on fixed prepared observed guided }
 {
     let set = fixed.set;
     let shield = SimplexShield {
@@ -428,7 +428,7 @@ pub fn guide_pick_follow(
     wanted: Reference,
     input: TickInput,
 ) -> Ticked
-    ensures { result ≡ guidePickFollow fixed prepared wanted input }
+    ensures { result ≡ guide_pick_follow fixed prepared wanted input }
 {
     let profile = fixed.profile;
     let observed = observe(profile, prepared.moving.rate, prepared.rate, input.dt);

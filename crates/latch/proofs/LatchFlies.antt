@@ -6,38 +6,38 @@ use mathlib.Core.List.Memᴰ
 use mathlib.Core.List.{Memᴰ}
 use lib.Seq.{split_at}
 use Rattle.relay_math.{specs.F32.is_finite, proofs.Order.lt_above}
-use Rattle.latch.specs.Latch.{releases, engages, latch, after, flagsFrom, engagedAfter, flags, Flies, FliesAt}
+use Rattle.latch.specs.Latch.{releases, engages, latch, after, flags_from, engaged_after, flags, Flies, FliesAt}
 
 -- ---- one step, as tests on plain Bools: r that the margin releases, g that it engages
 
-released-step : (b r g : Bool) → r ≡ true → g ≡ false → cond b (not r) g ≡ false
-released-step true r g p q = rw p
-released-step false r g p q = q
+released_step : (b r g : Bool) → r ≡ true → g ≡ false → cond b (not r) g ≡ false
+released_step true r g p q = rw p
+released_step false r g p q = q
 
 kept_step : (b r g : Bool) → b ≡ false → g ≡ false → cond b (not r) g ≡ false
 kept_step b r g p q = rw (p, q)
 
-which-step : (b r g : Bool) → cond b (not r) g ≡ false → (r ≡ true) ⊎ ((b ≡ false) × (g ≡ false))
-which-step true true g e = inl refl
-which-step true false g e = no (sym e)
-which-step false r g e = inr (refl, e)
+which_step : (b r g : Bool) → cond b (not r) g ≡ false → (r ≡ true) ⊎ ((b ≡ false) × (g ≡ false))
+which_step true true g e = inl refl
+which_step true false g e = no (sym e)
+which_step false r g e = inr (refl, e)
 
 -- with f that it is finite, a that it is above exit, and u that it is below enter
-calm-test : (f a u : Bool) → (f && a) ≡ true → (a ≡ true → u ≡ false) → (not f || u) ≡ false
-calm-test true a u p h = h p
-calm-test false a u p h = no p
+calm_test : (f a u : Bool) → (f && a) ≡ true → (a ≡ true → u ≡ false) → (not f || u) ≡ false
+calm_test true a u p h = h p
+calm_test false a u p h = no p
 
 module _ (enter exit : Float) where
   -- a margin that releases does not engage
-  pub released-is-calm : lt enter exit ≡ true → (m : Float) → releases exit m ≡ true → engages enter m ≡ false
-  released-is-calm o m r = calm-test (is_finite m) (lt exit m) (lt m enter) r (lt_above enter exit m o)
+  pub released_is_calm : lt enter exit ≡ true → (m : Float) → releases exit m ≡ true → engages enter m ≡ false
+  released_is_calm o m r = calm_test (is_finite m) (lt exit m) (lt m enter) r (lt_above enter exit m o)
 
   -- no margin of the list engages
   abbrev Calm : List Float → Type 0
   Calm ms = (m : Float) → Memᴰ m ms → engages enter m ≡ false
 
-  calm-cons : (m : Float) (ms : List Float) → engages enter m ≡ false → Calm ms → Calm (m ∷ ms)
-  calm-cons m ms g c x h = elim (Memᴰ.cases_cons h) [ inl e ↦ rw e g | inr t ↦ c x t ]
+  calm_cons : (m : Float) (ms : List Float) → engages enter m ≡ false → Calm ms → Calm (m ∷ ms)
+  calm_cons m ms g c x h = elim (Memᴰ.cases_cons h) [ inl e ↦ rw e g | inr t ↦ c x t ]
 
   -- ---- from any flag: at the end the planner flies if it flew before and none engaged, or if it was released on the way
 
@@ -47,44 +47,44 @@ module _ (enter exit : Float) where
   further : (m : Float) (ms : List Float) → Flies enter exit ms → Flies enter exit (m ∷ ms)
   further m ms f = record { before = m ∷ f.before; margin = f.margin; later = f.later; split = ap (λ (l : List Float). m ∷ l) f.split; above = f.above; calm = f.calm }
 
-  looked-back : (b : Bool) (ms : List Float) → after enter exit b ms ≡ false → Flew b ms
+  looked_back : (b : Bool) (ms : List Float) → after enter exit b ms ≡ false → Flew b ms
   unfolding after latch
-  looked-back b [] e = inl (e, λ m h. absurd (Memᴰ.not-nil h))
-  looked-back b (m ∷ ms) e = go (looked-back (latch enter exit b m) ms e)
+  looked_back b [] e = inl (e, λ m h. absurd (Memᴰ.not-nil h))
+  looked_back b (m ∷ ms) e = go (looked_back (latch enter exit b m) ms e)
     where
       go : Flew (latch enter exit b m) ms → Flew b (m ∷ ms)
       go (inr f) = inr (further m ms f)
       go (inl (p, c)) =
-          elim (which-step b (releases exit m) (engages enter m) p) [
+          elim (which_step b (releases exit m) (engages enter m) p) [
             | inl r ↦ inr record { before = []; margin = m; later = ms; split = refl; above = r; calm = c }
-            | inr q ↦ inl (q.0, calm-cons m ms q.1 c)
+            | inr q ↦ inl (q.0, calm_cons m ms q.1 c)
           ]
 
-  stays-released : (b : Bool) (ms : List Float) → b ≡ false → Calm ms → after enter exit b ms ≡ false
+  stays_released : (b : Bool) (ms : List Float) → b ≡ false → Calm ms → after enter exit b ms ≡ false
   unfolding after latch
-  stays-released b [] e c = e
-  stays-released b (m ∷ ms) e c =
-      stays-released (latch enter exit b m) ms
+  stays_released b [] e c = e
+  stays_released b (m ∷ ms) e c =
+      stays_released (latch enter exit b m) ms
       (kept_step b (releases exit m) (engages enter m) e (c m (Memᴰ.head refl)))
       (λ x h. c x (Memᴰ.tail h))
 
-  released-at : lt enter exit ≡ true → (b : Bool) (before : List Float) (m : Float) (later : List Float) → releases exit m ≡ true → Calm later → after enter exit b (before ++ (m ∷ later)) ≡ false
+  released_at : lt enter exit ≡ true → (b : Bool) (before : List Float) (m : Float) (later : List Float) → releases exit m ≡ true → Calm later → after enter exit b (before ++ (m ∷ later)) ≡ false
   unfolding after latch
-  released-at o b [] m later r c =
-      stays-released (latch enter exit b m) later (released-step b (releases exit m) (engages enter m) r (released-is-calm o m r)) c
-  released-at o b (x ∷ before) m later r c = released-at o (latch enter exit b x) before m later r c
+  released_at o b [] m later r c =
+      stays_released (latch enter exit b m) later (released_step b (releases exit m) (engages enter m) r (released_is_calm o m r)) c
+  released_at o b (x ∷ before) m later r c = released_at o (latch enter exit b x) before m later r c
 
-  pub latch-from : lt enter exit ≡ true → (b : Bool) (ms : List Float) → (after enter exit b ms ≡ false) ↔ Flew b ms
-  latch-from o b ms = (looked-back b ms, back)
+  pub latch_from : lt enter exit ≡ true → (b : Bool) (ms : List Float) → (after enter exit b ms ≡ false) ↔ Flew b ms
+  latch_from o b ms = (looked_back b ms, back)
     where
       back : Flew b ms → after enter exit b ms ≡ false
-      back (inl (e, c)) = stays-released b ms e c
-      back (inr f) = rw f.split (released-at o b f.before f.margin f.later f.above f.calm)
+      back (inl (e, c)) = stays_released b ms e c
+      back (inr f) = rw f.split (released_at o b f.before f.margin f.later f.above f.calm)
 
   -- The user's third demand: "The planner's command is passed on at a tick exactly if some tick, this one or an earlier one, had a finite margin
   -- above the upper threshold, and no tick after that one, up to and including this, had a margin that was non-finite or below the lower one."
-  pub latch-flies : lt enter exit ≡ true → (ms : List Float) → (engagedAfter enter exit ms ≡ false) ↔ Flies enter exit ms
-  latch-flies o ms = (λ e. fresh (looked-back true ms e), λ f. (latch-from o true ms).1 (inr f))
+  pub latch_flies : lt enter exit ≡ true → (ms : List Float) → (engaged_after enter exit ms ≡ false) ↔ Flies enter exit ms
+  latch_flies o ms = (λ e. fresh (looked_back true ms e), λ f. (latch_from o true ms).1 (inr f))
     where
       fresh : Flew true ms → Flies enter exit ms
       fresh (inl (e, c)) = no (sym e)
@@ -92,25 +92,25 @@ module _ (enter exit : Float) where
 
   -- ---- every flag of a run: the one at k is that after the margins up to and including the one at k
 
-  pub flags-length : (b : Bool) (ms : List Float) → length (flagsFrom enter exit b ms) ≡ length ms
-  unfolding flagsFrom
-  flags-length b [] = refl
-  flags-length b (m ∷ ms) = ap suc (flags-length (latch enter exit b m) ms)
+  pub flags_length : (b : Bool) (ms : List Float) → length (flags_from enter exit b ms) ≡ length ms
+  unfolding flags_from
+  flags_length b [] = refl
+  flags_length b (m ∷ ms) = ap suc (flags_length (latch enter exit b m) ms)
 
-  pub flag-from : (b : Bool) (ms : List Float) (k : ℕ) → k < length ms → get_or (flagsFrom enter exit b ms) k true ≡ after enter exit b (take (suc k) ms)
-  unfolding flagsFrom after
-  flag-from b [] k h = absurd (omega arith)
-  flag-from b (m ∷ ms) zero h = refl
-  flag-from b (m ∷ ms) (suc k) h = flag-from (latch enter exit b m) ms k (le_of_suc-le-suc h)
+  pub flag_from : (b : Bool) (ms : List Float) (k : ℕ) → k < length ms → get_or (flags_from enter exit b ms) k true ≡ after enter exit b (take (suc k) ms)
+  unfolding flags_from after
+  flag_from b [] k h = absurd (omega arith)
+  flag_from b (m ∷ ms) zero h = refl
+  flag_from b (m ∷ ms) (suc k) h = flag_from (latch enter exit b m) ms k (le_of_suc-le-suc h)
 
-  pub flag-flies : lt enter exit ≡ true → (ms : List Float) (k : ℕ) → k < length ms → (get_or (flags enter exit ms) k true ≡ false) ↔ Flies enter exit (take (suc k) ms)
-  flag-flies o ms k h = rw (flag-from true ms k h) (latch-flies o (take (suc k) ms))
+  pub flag_flies : lt enter exit ≡ true → (ms : List Float) (k : ℕ) → k < length ms → (get_or (flags enter exit ms) k true ≡ false) ↔ Flies enter exit (take (suc k) ms)
+  flag_flies o ms k h = rw (flag_from true ms k h) (latch_flies o (take (suc k) ms))
 
   -- ---- the same by places
 
-  calm-by-place : (ms : List Float) → ((j : ℕ) → j < length ms → engages enter (get_or ms j nan) ≡ false) → Calm ms
-  calm-by-place [] f x h = absurd (Memᴰ.not-nil h)
-  calm-by-place (m ∷ ms) f x h = calm-cons m ms (f 0 (zero-lt-suc (length ms))) (calm-by-place ms (λ j l. f (suc j) (suc-le-suc l))) x h
+  calm_by_place : (ms : List Float) → ((j : ℕ) → j < length ms → engages enter (get_or ms j nan) ≡ false) → Calm ms
+  calm_by_place [] f x h = absurd (Memᴰ.not-nil h)
+  calm_by_place (m ∷ ms) f x h = calm_cons m ms (f 0 (zero-lt-suc (length ms))) (calm_by_place ms (λ j l. f (suc j) (suc-le-suc l))) x h
 
   member : (ms : List Float) (j : ℕ) → j < length ms → Memᴰ (get_or ms j nan) ms
   member [] j h = absurd (omega arith)
@@ -134,8 +134,8 @@ module _ (enter exit : Float) where
     whole : (f : Flies enter exit up_to) → length f.before + suc (length f.later) ≡ suc k
     whole f = sym (length-append f.before (f.margin ∷ f.later)) ∙ ap length (sym f.split) ∙ ends
 
-    to-places : Flies enter exit up_to → FliesAt enter exit ms k
-    to-places f = record {
+    to_places : Flies enter exit up_to → FliesAt enter exit ms k
+    to_places f = record {
       i = length f.before;
       reached = omega (arith, whole f);
       above = subst (λ (x : ℕ). releases exit (get_or ms x nan) ≡ true) (add-zero (length f.before)) (rw (same_place f 0 (omega (arith, whole f))) f.above);
@@ -152,13 +152,13 @@ module _ (enter exit : Float) where
       later = drop (suc g.i) up_to;
       split = split_at up_to g.i nan (omega (arith, ends, g.reached));
       above = rw (get_or-take (suc k) ms g.i nan (suc-le-suc g.reached)) g.above;
-      calm = calm-by-place (drop (suc g.i) up_to) (λ t l.
+      calm = calm_by_place (drop (suc g.i) up_to) (λ t l.
           rw (get_or-drop (suc g.i) up_to t nan, get_or-take (suc k) ms (suc g.i + t) nan (omega (arith, length-drop (suc g.i) up_to, ends)))
           (g.calm (suc g.i + t) (omega arith) (omega (arith, length-drop (suc g.i) up_to, ends))));
     }
 
-    pub flag-flies-at : lt enter exit ≡ true → (get_or (flags enter exit ms) k true ≡ false) ↔ FliesAt enter exit ms k
-    flag-flies-at o = (λ e. to-places ((flag-flies o ms k h).0 e), λ g. (flag-flies o ms k h).1 (from_places g))
+    pub flag_flies_at : lt enter exit ≡ true → (get_or (flags enter exit ms) k true ≡ false) ↔ FliesAt enter exit ms k
+    flag_flies_at o = (λ e. to_places ((flag_flies o ms k h).0 e), λ g. (flag_flies o ms k h).1 (from_places g))
 
 -- ---- document 01: "+infinity is possible; then the planner never flies"
 
@@ -168,7 +168,7 @@ nothing_above nan = refl
 nothing_above (inf s) = refl
 nothing_above (fin s m e) = refl
 
-pub infinite-exit-never-flies : (enter : Float) (ms : List Float) → engagedAfter enter (inf false) ms ≡ true
+pub infinite_exit_never_flies : (enter : Float) (ms : List Float) → engaged_after enter (inf false) ms ≡ true
 unfolding after latch
-infinite-exit-never-flies enter [] = refl
-infinite-exit-never-flies enter (m ∷ ms) = rw (nothing_above m) (infinite-exit-never-flies enter ms)
+infinite_exit_never_flies enter [] = refl
+infinite_exit_never_flies enter (m ∷ ms) = rw (nothing_above m) (infinite_exit_never_flies enter ms)

@@ -3,5 +3,5 @@ use Rattle.laws.proofs.Prelude.{refl}
 use Rattle.laws.proofs.Determined.{OneAnswer, no_second}
 use Rattle.latch.proofs.latch
 
-pub latch-once : OneAnswer latch.ended latch.Reads.Post
-latch-once κs a x y v w p q = (no_second p q, refl)
+pub latch_once : OneAnswer latch.ended latch.Reads.Post
+latch_once κs a x y v w p q = (no_second p q, refl)

@@ -3,11 +3,11 @@ use Rattle.std.specs.Prelude.{ℕ, ◌<◌, ◌≤◌, ◌≡◌, Bool, true, fa
 use mathlib.Core.List.{List, [], ◌∷◌, ◌++◌, Memᴰ}
 use Rattle.std.specs.Float.{nan}
 use Rattle.std.specs.Float.Ieee.{lt}
-use Rattle.relay_math.specs.F32.{is_finite, finiteAbove}
+use Rattle.relay_math.specs.F32.{is_finite, finite_above}
 
 -- the margin m gives control to the planner: it is finite and above exit
 abbrev pub releases : Float → Float → Bool
-releases exit m = finiteAbove exit m
+releases exit m = finite_above exit m
 
 -- the margin m gives it to the fallback: it is non-finite or below enter
 abbrev pub engages : Float → Float → Bool
@@ -25,16 +25,16 @@ after enter exit engaged [] = engaged
 after enter exit engaged (m ∷ ms) = after enter exit (latch enter exit engaged m) ms
 
 -- after each of them
-unfoldable pub flagsFrom : Float → Float → Bool → List Float → List Bool
-flagsFrom enter exit engaged [] = []
-flagsFrom enter exit engaged (m ∷ ms) = let flag = latch enter exit engaged m in flag ∷ flagsFrom enter exit flag ms
+unfoldable pub flags_from : Float → Float → Bool → List Float → List Bool
+flags_from enter exit engaged [] = []
+flags_from enter exit engaged (m ∷ ms) = let flag = latch enter exit engaged m in flag ∷ flags_from enter exit flag ms
 
 -- the same of a fresh shield, which is engaged
-abbrev pub engagedAfter : Float → Float → List Float → Bool
-engagedAfter enter exit ms = after enter exit true ms
+abbrev pub engaged_after : Float → Float → List Float → Bool
+engaged_after enter exit ms = after enter exit true ms
 
 abbrev pub flags : Float → Float → List Float → List Bool
-flags enter exit ms = flagsFrom enter exit true ms
+flags enter exit ms = flags_from enter exit true ms
 
 -- ---- the user's rule, which knows no flag and looks back over the margins
 

@@ -19,4 +19,4 @@ pub use lib.Ieee.{Float, nan, inf, fin, binary32}
 unfoldable pub use lib.Ieee.{fits, of_bits, to_bits, nan_bits, is_nan, lt, le, eq, ne, neg, add, sub, mul, div, round, nearest, odd, up, down, size, sum, units, unlike}
 pub use borrow.Author.Rules.{rules}
 pub use borrow.Author.Tests.{eq-eqb, ne_eqb, eqb-true, eqb-false, lt-ltb, le-ltb, ltb-true, ltb-false, lt-leb, le-leb, not-true, not-false}
-pub use Rattle.laws.proofs.Tests.{no, held, both, le-or-lt}
+pub use Rattle.laws.proofs.Tests.{no, held, both, le_or_lt}

@@ -15,19 +15,19 @@ pub both : (a b : Bool) → (a && b) ≡ true → (a ≡ true) × (b ≡ true)
 both true b e = (refl, e)
 both false b e = no e
 
-pub le-or-lt : (a b : ℕ) → (a ≤ b) ⊎ (b < a)
-le-or-lt a b = go (leb a b) refl
+pub le_or_lt : (a b : ℕ) → (a ≤ b) ⊎ (b < a)
+le_or_lt a b = go (leb a b) refl
   where
     go : (t : Bool) → leb a b ≡ t → (a ≤ b) ⊎ (b < a)
     go true e = inl (leb-true a b e)
     go false e = inr (leb-false a b e)
 
 -- `<` or `==`, as `le` has them, with e that a and b are equal
-pub one-sign : (a b : ℕ) (e : Bool) → (a ≡ b → e ≡ true) → ((a ≡ b → ⊥) → e ≡ false) → (ltb a b || (e && true)) ≡ not (ltb b a)
-one-sign a b e y n = elim (le-or-lt a b) [
+pub one_sign : (a b : ℕ) (e : Bool) → (a ≡ b → e ≡ true) → ((a ≡ b → ⊥) → e ≡ false) → (ltb a b || (e && true)) ≡ not (ltb b a)
+one_sign a b e y n = elim (le_or_lt a b) [
   | inl h ↦ elim (eq-or-lt_of_le h) [ inl p ↦ rw (le-ltb a b (le_of_eq (sym p)), y p, le-ltb b a h) | inr l ↦ rw (lt-ltb a b l, le-ltb b a h) ]
   | inr h ↦ rw (le-ltb a b (omega arith), n (λ p. omega arith), lt-ltb b a h)
 ]
 
 pub ordered : (a b : ℕ) → (ltb a b || (eqb a b && true)) ≡ leb a b
-ordered a b = one-sign a b (eqb a b) (eq-eqb a b) (ne_eqb a b) ∙ elim (le-or-lt a b) [ inl h ↦ rw (le-ltb b a h, le-leb a b h) | inr h ↦ rw (lt-ltb b a h, lt-leb a b h) ]
+ordered a b = one_sign a b (eqb a b) (eq-eqb a b) (ne_eqb a b) ∙ elim (le_or_lt a b) [ inl h ↦ rw (le-ltb b a h, le-leb a b h) | inr h ↦ rw (lt-ltb b a h, lt-leb a b h) ]

@@ -16,9 +16,9 @@ ReadOf segment enter exit f = (segment ≡ f.segment) × (enter ≡ f.enter) × 
 
 -- ---- what is written of what was prepared and done
 
-abbrev pub leftMoving : RefGovernor → GyroLpf → Ticked → Moving
-leftMoving governor lpf t = record { engaged = t.engaged; governor = governor; rate = t.rate; lpf = lpf }
+abbrev pub left_moving : RefGovernor → GyroLpf → Ticked → Moving
+left_moving governor lpf t = record { engaged = t.engaged; governor = governor; rate = t.rate; lpf = lpf }
 
 pub record Leaves (f : Fixed) (governor : RefGovernor) (lpf : GyroLpf) (t : Ticked) (later answered : List ℕ) : Type 0 where
-  pub image : later ≡ image_of record { fixed = f; moving = leftMoving governor lpf t }
+  pub image : later ≡ image_of record { fixed = f; moving = left_moving governor lpf t }
   pub answer : answered ≡ answer_of t.answer

@@ -1,31 +1,31 @@
 -- A tick on lent bytes, by references from any source: what is refused, and what is left (document 01's table). Definitions only.
 use Rattle.std.specs.Prelude.{ℕ, not, List, [], ◌∷◌, Float, length}
 use Rattle.joint_tick.specs.declared.stages.Reference.{Reference}
-use Rattle.joint_tick.specs.Tick.{ticked, stateAfter}
-use Rattle.image.specs.Layout.{IMAGE-BYTES, INPUT-BYTES, ANSWER-BYTES}
-use Rattle.image.specs.Image.{stateAt, image_of}
+use Rattle.joint_tick.specs.Tick.{ticked, state_after}
+use Rattle.image.specs.Layout.{IMAGE_BYTES, INPUT_BYTES, ANSWER_BYTES}
+use Rattle.image.specs.Image.{state_at, image_of}
 use Rattle.image.specs.Inputs.{input_at, answer_of}
 use Rattle.outcome.specs.declared.Outcome.{Outcome}
 use Rattle.outcome.specs.declared.Outcome.TheVariants.{ImageLength, InputLength, AnswerLength, BrokenImage}
-use Rattle.outcome.specs.Outcomes.{Table, first_of, differs, leftUnless, lent, Called}
+use Rattle.outcome.specs.Outcomes.{Table, first_of, differs, left_unless, lent, Called}
 use Rattle.lent_tick.specs.Unbroken.{unbroken}
 
 -- The first row that holds, and so the lowest number. A tick is refused whatever its input's bytes are.
-abbrev pub tickTable : List ℕ → ℕ → ℕ → Table
-tickTable image inputLen answerLen =
-    (differs (length image) IMAGE-BYTES, ImageLength)
-    ∷ (differs inputLen INPUT-BYTES, InputLength)
-    ∷ (differs answerLen ANSWER-BYTES, AnswerLength)
+abbrev pub tick_table : List ℕ → ℕ → ℕ → Table
+tick_table image inputLen answerLen =
+    (differs (length image) IMAGE_BYTES, ImageLength)
+    ∷ (differs inputLen INPUT_BYTES, InputLength)
+    ∷ (differs answerLen ANSWER_BYTES, AnswerLength)
     ∷ (not (unbroken image), BrokenImage)
     ∷ []
 
-unfoldable pub tickRefusal : List ℕ → ℕ → ℕ → Outcome
+unfoldable pub tick_refusal : List ℕ → ℕ → ℕ → Outcome
 unfolding unbroken
-tickRefusal image inputLen answerLen = first_of (tickTable image inputLen answerLen)
+tick_refusal image inputLen answerLen = first_of (tick_table image inputLen answerLen)
 
 -- Refused for o or else done: plain ticks and route ticks differ in these two alone.
-unfoldable pub tickFrom : (Float → Reference) → Outcome → List ℕ → List ℕ → List ℕ → Called
-tickFrom source o image input answer =
-    let s = stateAt image in
+unfoldable pub tick_from : (Float → Reference) → Outcome → List ℕ → List ℕ → List ℕ → Called
+tick_from source o image input answer =
+    let s = state_at image in
     let i = input_at input in
-    leftUnless o (lent (image_of (stateAfter source s i)) (answer_of (ticked source s i).answer)) (lent image answer)
+    left_unless o (lent (image_of (state_after source s i)) (answer_of (ticked source s i).answer)) (lent image answer)

@@ -2,12 +2,12 @@
 // come first.
 ghost use Rattle.std.specs.Prelude.{◌≡◌, ◌&&◌, ◌+◌, ◌*◌, ◌≤◌, eqb, length};
 ghost use Rattle.std.specs.Float.Ieee.{lt, le};
-ghost use Rattle.relay_math.specs.F32.{0·0, finiteAbove};
+ghost use Rattle.relay_math.specs.F32.{0·0, finite_above};
 ghost use Rattle.words.specs.Words.{word, float, bits};
-ghost use Rattle.relay_traj.specs.Quintic.{peakAbsJerk};
-ghost use Rattle.image.specs.Layout.{IMAGE-BYTES, GOVERNOR};
+ghost use Rattle.relay_traj.specs.Quintic.{peak_abs_jerk};
+ghost use Rattle.image.specs.Layout.{IMAGE_BYTES, GOVERNOR};
 ghost use Rattle.image.specs.Image.{fixed_at};
-ghost use Rattle.lent_tick.specs.Unbroken.{lasts, all_last, peaksStand, unbroken};
+ghost use Rattle.lent_tick.specs.Unbroken.{lasts, all_last, peaks_stand, unbroken};
 ghost use Rattle.lent_tick.specs.Inner.{ReadOf};
 
 use image::{COUNT, ENGAGED, GOVERNOR, IMAGE_WORDS, PEAKS, PROFILE};
@@ -46,8 +46,8 @@ fn all_last(segment: Segment3) -> bool
 
 // The floats that row 4 speaks of: the thresholds, the time and each t_end.
 fn numbers_stand(image: &[u8], segment: Segment3, enter: f32, exit: f32) -> bool
-    requires { length image.now ≡ IMAGE-BYTES }
-    ensures { result ≡ (finiteAbove 0·0 enter && lt enter exit && le 0·0 (float image.now GOVERNOR) && all_last segment) }
+    requires { length image.now ≡ IMAGE_BYTES }
+    ensures { result ≡ (finite_above 0·0 enter && lt enter exit && le 0·0 (float image.now GOVERNOR) && all_last segment) }
 {
     if finite_above(0.0, enter) {
         if exit > enter {
@@ -67,15 +67,15 @@ fn numbers_stand(image: &[u8], segment: Segment3, enter: f32, exit: f32) -> bool
 // The stored peak of one axis has the bits of the one worked out from its quintic.
 fn peak_stands(image: &[u8], axis: Quintic, peak: usize) -> bool
     requires { 4 * peak + 4 ≤ length image.now }
-    ensures { result ≡ eqb (word image.now peak) (bits (peakAbsJerk axis)) }
+    ensures { result ≡ eqb (word image.now peak) (bits (peak_abs_jerk axis)) }
 {
     word_at(image, peak) == bits_of(axis.peak_abs_jerk())
 }
 
 fn peaks_stand(image: &[u8], segment: Segment3) -> bool
-    requires fact_1 { length image.now ≡ IMAGE-BYTES }
+    requires fact_1 { length image.now ≡ IMAGE_BYTES }
     requires fact_2 { segment ≡ (fixed_at image.now).segment }
-    ensures { result ≡ peaksStand image.now }
+    ensures { result ≡ peaks_stand image.now }
 {
     if peak_stands(image, segment.0, PEAKS) {
         if peak_stands(image, segment.1, PEAKS + 1) {
@@ -90,7 +90,7 @@ fn peaks_stand(image: &[u8], segment: Segment3) -> bool
 
 // By what was read of the image already: a tick reads no word of the segment twice.
 pub fn unbroken(image: &[u8], segment: Segment3, enter: f32, exit: f32) -> bool
-    requires fact_1 { length image.now ≡ IMAGE-BYTES }
+    requires fact_1 { length image.now ≡ IMAGE_BYTES }
     requires fact_2 { ReadOf segment enter exit (fixed_at image.now) }
     ensures { result ≡ unbroken image.now }
 {

@@ -22,8 +22,8 @@ number NoRecord = 13
 number RecordLength = 14
 
 -- the call was not refused
-abbrev pub isDone : Outcome → Bool
-isDone o = eqb (number o) 0
+abbrev pub is_done : Outcome → Bool
+is_done o = eqb (number o) 0
 
 -- ---- what a call is refused for, as the documents' tables have it: a row is a test and an outcome, and the first row whose test holds wins
 
@@ -48,8 +48,8 @@ abbrev pub left : {O B : Type 0} → O → B → Left O B
 left o later = record { outcome = o; later = later }
 
 -- what an accepted call writes, unless it is refused: then every byte stays
-abbrev pub leftUnless : {B : Type 0} → Outcome → B → B → Left Outcome B
-leftUnless o written kept = cond (isDone o) (left Done written) (left o kept)
+abbrev pub left_unless : {B : Type 0} → Outcome → B → B → Left Outcome B
+left_unless o written kept = cond (is_done o) (left Done written) (left o kept)
 
 -- the same as C sees it, the outcome by its number
 abbrev pub numbered : {B : Type 0} → Left Outcome B → Left ℕ B

@@ -1,7 +1,7 @@
 // How a call ends. Document 01 numbers the first five, requests One, Two, Six, Twelve and Fourteen of document 02 the next eight. The numbers above 12 are our own:
 // no document gives one to "there is no such record", nor to a wrong buffer for one.
 ghost use Rattle.std.specs.Prelude.{◌≡◌};
-ghost use Rattle.outcome.specs.Outcomes.{number, isDone};
+ghost use Rattle.outcome.specs.Outcomes.{number, is_done};
 
 #[derive(Drop)]
 pub enum Outcome {
@@ -46,7 +46,7 @@ pub fn number(outcome: Outcome) -> u32
 
 // The call was not refused.
 pub fn is_done(outcome: Outcome) -> bool
-    ensures { result ≡ isDone outcome }
+    ensures { result ≡ is_done outcome }
 {
     number(outcome) == 0
 }

@@ -2,101 +2,101 @@
 use Rattle.laws.proofs.Prelude.{◌≡◌, refl, sym, ap, subst, ◌∙◌, Bool, true, false, List, [], ◌∷◌, ◌++◌, ℕ, Float, length}
 use Rattle.words.specs.Words.{word, float, bytes_of}
 use Rattle.latch.specs.Latch.{after}
-use Rattle.relay_geo.specs.{declared.shield.SimplexShield.SimplexShield, Shield.{mendThresholds, newShield}}
-use Rattle.joint_tick.specs.{declared.state.State.State, Profile.{isProfile, profileOf}, SetUp.setUp}
-use Rattle.image.{specs.{Layout.{SETUP-ENTER, SETUP-EXIT, SETUP-PROFILE}, Image.fixed_at, Inputs.setupAt}, proofs.Decoded.decode-encode}
-use Rattle.outcome.specs.{declared.Outcome.TheVariants.Done, Outcomes.{isDone, left}}
-use Rattle.lent_tick.{specs.Steps.shieldAt, proofs.NeverRefused.set-up-fits}
-use Rattle.log.{specs.{Form.isLog, Records.records, Runs.{ToAppend, NoneRefused, recordsOf, atFirst}}, proofs.Reading.{kept-all, records-kept, never-refused}}
-use Rattle.runs.specs.{Runs.{Call, Ticks, Exchanges, tickOf, leftBy, marginsBy, start, imageAfter}, DemandThree.{enterOf, exit_of}}
-use Rattle.runs.proofs.Induction.{call-steps, start-engaged, thresholds-in-order, thresholds-kept, ran}
-use Rattle.audit.{specs.{declared.Verdict.TheVariants.AllRight, Verdict.verdictOf, Entry.{verdictOn, checkCall}}, proofs.{Carried.{Carried, carried-right}, VerdictCall.taken}}
-use Rattle.own_logs.specs.Own.{keepsOf, keepsAlong, ticksKept, ownLog}
-use Rattle.own_logs.proofs.RecordRight.{margin-kept, right_kept}
+use Rattle.relay_geo.specs.{declared.shield.SimplexShield.SimplexShield, Shield.{mend_thresholds, new_shield}}
+use Rattle.joint_tick.specs.{declared.state.State.State, Profile.{is_profile, profile_of}, SetUp.set_up}
+use Rattle.image.{specs.{Layout.{SETUP_ENTER, SETUP_EXIT, SETUP_PROFILE}, Image.fixed_at, Inputs.setup_at}, proofs.Decoded.decode_encode}
+use Rattle.outcome.specs.{declared.Outcome.TheVariants.Done, Outcomes.{is_done, left}}
+use Rattle.lent_tick.{specs.Steps.shield_at, proofs.NeverRefused.set_up_fits}
+use Rattle.flight_log.{specs.{Form.is_log, Records.records, Runs.{ToAppend, NoneRefused, records_of, at_first}}, proofs.Reading.{kept_all, records_kept, never_refused}}
+use Rattle.runs.specs.{Runs.{Call, Ticks, Exchanges, tick_of, left_by, margins_by, start, image_after}, DemandThree.{enter_of, exit_of}}
+use Rattle.runs.proofs.Induction.{call_steps, start_engaged, thresholds_in_order, thresholds_kept, ran}
+use Rattle.audit.{specs.{declared.Verdict.TheVariants.AllRight, Verdict.verdict_of, Entry.{verdict_on, check_call}}, proofs.{Carried.{Carried, carried_right}, VerdictCall.taken}}
+use Rattle.own_logs.specs.Own.{keeps_of, keeps_along, ticks_kept, own_log}
+use Rattle.own_logs.proofs.RecordRight.{margin_kept, right_kept}
 
 -- ---- the records of a run, call by call
 
-records-in-turn : (xs ys : List ToAppend) → recordsOf (xs ++ ys) ≡ recordsOf xs ++ recordsOf ys
-unfolding recordsOf
-records-in-turn [] ys = refl
-records-in-turn (g ∷ xs) ys = ap (λ (rs : List (List ℕ)). (g.input ++ g.answer) ∷ rs) (records-in-turn xs ys)
+records_in_turn : (xs ys : List ToAppend) → records_of (xs ++ ys) ≡ records_of xs ++ records_of ys
+unfolding records_of
+records_in_turn [] ys = refl
+records_in_turn (g ∷ xs) ys = ap (λ (rs : List (List ℕ)). (g.input ++ g.answer) ∷ rs) (records_in_turn xs ys)
 
-pub next-kept : (image : List ℕ) (c : Call) (calls : List Call) → ticksKept image (c ∷ calls) ≡ recordsOf (keepsOf image c) ++ ticksKept (leftBy image c) calls
-unfolding keepsAlong
-next-kept image c calls = records-in-turn (keepsOf image c) (keepsAlong (leftBy image c) calls)
+pub next_kept : (image : List ℕ) (c : Call) (calls : List Call) → ticks_kept image (c ∷ calls) ≡ records_of (keeps_of image c) ++ ticks_kept (left_by image c) calls
+unfolding keeps_along
+next_kept image c calls = records_in_turn (keeps_of image c) (keeps_along (left_by image c) calls)
 
 -- ---- each of them is right by the flag that the shield carries along
 
-after_one : (image : List ℕ) (calls : List Call) (c : Call) → imageAfter image (calls ++ c ∷ []) ≡ leftBy (imageAfter image calls) c
-unfolding imageAfter
-after_one image [] c = refl
-after_one image (x ∷ calls) c = after_one (leftBy image x) calls c
+after_one_lem : (image : List ℕ) (calls : List Call) (c : Call) → image_after image (calls ++ c ∷ []) ≡ left_by (image_after image calls) c
+unfolding image_after
+after_one_lem image [] c = refl
+after_one_lem image (x ∷ calls) c = after_one_lem (left_by image x) calls c
 
-module _ (setup : List ℕ) (p : isProfile (word setup SETUP-PROFILE) ≡ true) where
+module _ (setup : List ℕ) (p : is_profile (word setup SETUP_PROFILE) ≡ true) where
   abbrev Right : Bool → List (List ℕ) → Type 0
-  Right before rs = Carried (profileOf (word setup SETUP-PROFILE)) (enterOf setup) (exit_of setup) before rs
+  Right before rs = Carried (profile_of (word setup SETUP_PROFILE)) (enter_of setup) (exit_of setup) before rs
 
   module _ (calls : List Call) where
     abbrev image : List ℕ
-    image = imageAfter (start setup) calls
+    image = image_after (start setup) calls
 
     -- the flag that a call leaves
-    engaged-after : (c : Call) → (shieldAt (leftBy image c)).engaged ≡ after (enterOf setup) (exit_of setup) (shieldAt image).engaged (marginsBy image c)
+    engaged_after_lem : (c : Call) → (shield_at (left_by image c)).engaged ≡ after (enter_of setup) (exit_of setup) (shield_at image).engaged (margins_by image c)
     unfolding fixed_at
-    engaged-after c =
-        ap (λ (h : SimplexShield). h.engaged) (call-steps image c (ran setup calls).unbroken).shield
-        ∙ rw ((thresholds-kept setup calls).0, (thresholds-kept setup calls).1)
+    engaged_after_lem c =
+        ap (λ (h : SimplexShield). h.engaged) (call_steps image c (ran setup calls).unbroken).shield
+        ∙ rw ((thresholds_kept setup calls).0, (thresholds_kept setup calls).1)
 
     -- the record of a call, if it has one, and what follows
-    one_right : (c : Call) (rs : List (List ℕ)) → Right (shieldAt (leftBy image c)).engaged rs → Right (shieldAt image).engaged (recordsOf (keepsOf image c) ++ rs)
-    unfolding keepsOf recordsOf marginsBy after
-    one_right (Exchanges segment) rs r = subst (λ (b : Bool). Right b rs) (engaged-after (Exchanges segment)) r
-    one_right (Ticks t) rs r = go (isDone (tickOf image t).outcome) refl (subst (λ (b : Bool). Right b rs) (engaged-after (Ticks t)) r)
+    one_right : (c : Call) (rs : List (List ℕ)) → Right (shield_at (left_by image c)).engaged rs → Right (shield_at image).engaged (records_of (keeps_of image c) ++ rs)
+    unfolding keeps_of records_of margins_by after
+    one_right (Exchanges segment) rs r = subst (λ (b : Bool). Right b rs) (engaged_after_lem (Exchanges segment)) r
+    one_right (Ticks t) rs r = go (is_done (tick_of image t).outcome) refl (subst (λ (b : Bool). Right b rs) (engaged_after_lem (Ticks t)) r)
       where
-        go : (b : Bool) → isDone (tickOf image t).outcome ≡ b → Right (after (enterOf setup) (exit_of setup) (shieldAt image).engaged (marginsBy image (Ticks t))) rs
-            → Right (shieldAt image).engaged (recordsOf (keepsOf image (Ticks t)) ++ rs)
-        go true d r = rw d (right_kept setup calls t p d, rw (margin-kept setup calls t p d) (rw d at r))
+        go : (b : Bool) → is_done (tick_of image t).outcome ≡ b → Right (after (enter_of setup) (exit_of setup) (shield_at image).engaged (margins_by image (Ticks t))) rs
+            → Right (shield_at image).engaged (records_of (keeps_of image (Ticks t)) ++ rs)
+        go true d r = rw d (right_kept setup calls t p d, rw (margin_kept setup calls t p d) (rw d at r))
         go false d r = rw d (rw d at r)
 
-  along : (before calls : List Call) → let image = imageAfter (start setup) before in Right (shieldAt image).engaged (ticksKept image calls)
-  unfolding keepsAlong recordsOf
+  along : (before calls : List Call) → let image = image_after (start setup) before in Right (shield_at image).engaged (ticks_kept image calls)
+  unfolding keeps_along records_of
   along before [] = tt
   along before (c ∷ calls) =
-      let image = imageAfter (start setup) before in
-      rw (next-kept image c calls)
-      (one_right before c (ticksKept (leftBy image c) calls)
-      (subst (λ (later : List ℕ). Right (shieldAt later).engaged (ticksKept later calls)) (after_one (start setup) before c) (along (before ++ c ∷ []) calls)))
+      let image = image_after (start setup) before in
+      rw (next_kept image c calls)
+      (one_right before c (ticks_kept (left_by image c) calls)
+      (subst (λ (later : List ℕ). Right (shield_at later).engaged (ticks_kept later calls)) (after_one_lem (start setup) before c) (along (before ++ c ∷ []) calls)))
 
   -- ---- set-up's thresholds are what the check mends
 
-  thresholds : (enterOf setup ≡ (mendThresholds (float setup SETUP-ENTER) (float setup SETUP-EXIT)).enter) × (exit_of setup ≡ (mendThresholds (float setup SETUP-ENTER) (float setup SETUP-EXIT)).exit)
-  unfolding start setUp setupAt newShield fixed_at
+  thresholds : (enter_of setup ≡ (mend_thresholds (float setup SETUP_ENTER) (float setup SETUP_EXIT)).enter) × (exit_of setup ≡ (mend_thresholds (float setup SETUP_ENTER) (float setup SETUP_EXIT)).exit)
+  unfolding start set_up setup_at new_shield fixed_at
   thresholds =
-      let e = decode-encode (setUp (setupAt setup)) (set-up-fits setup) in
+      let e = decode_encode (set_up (setup_at setup)) (set_up_fits setup) in
       (ap (λ (s : State). s.fixed.enter) e, ap (λ (s : State). s.fixed.exit) e)
 
   -- "Any log of every tick of one run from our own set-up, given with that set-up's enter, exit and profile, is accepted": plain and route ticks in any order, with
   -- exchanges and refused calls between, in both profiles. Any bytes whose records are these, however they came to be: grown in one buffer, moved to a longer one, copied.
-  module _ (log : List ℕ) (calls : List Call) (e : records log ≡ ticksKept (start setup) calls) where
-    pub any-log-right : verdictOn log (word setup SETUP-PROFILE) (float setup SETUP-ENTER) (float setup SETUP-EXIT) ≡ AllRight
-    unfolding verdictOn imageAfter
-    any-log-right =
-        let by = profileOf (word setup SETUP-PROFILE) in
-        let t = mendThresholds (float setup SETUP-ENTER) (float setup SETUP-EXIT) in
-        let rs = ticksKept (start setup) calls in
-        ap (λ (l : List (List ℕ)). verdictOf by t.enter t.exit l) e
-        ∙ ap (λ (x : Float). verdictOf by x t.exit rs) (sym thresholds.0)
-        ∙ ap (λ (x : Float). verdictOf by (enterOf setup) x rs) (sym thresholds.1)
-        ∙ carried-right by (enterOf setup) (exit_of setup) (thresholds-in-order setup) rs (subst (λ (b : Bool). Right b rs) (start-engaged setup) (along [] calls))
+  module _ (log : List ℕ) (calls : List Call) (e : records log ≡ ticks_kept (start setup) calls) where
+    pub any_log_right : verdict_on log (word setup SETUP_PROFILE) (float setup SETUP_ENTER) (float setup SETUP_EXIT) ≡ AllRight
+    unfolding verdict_on image_after
+    any_log_right =
+        let by = profile_of (word setup SETUP_PROFILE) in
+        let t = mend_thresholds (float setup SETUP_ENTER) (float setup SETUP_EXIT) in
+        let rs = ticks_kept (start setup) calls in
+        ap (λ (l : List (List ℕ)). verdict_of by t.enter t.exit l) e
+        ∙ ap (λ (x : Float). verdict_of by x t.exit rs) (sym thresholds.0)
+        ∙ ap (λ (x : Float). verdict_of by (enter_of setup) x rs) (sym thresholds.1)
+        ∙ carried_right by (enter_of setup) (exit_of setup) (thresholds_in_order setup) rs (subst (λ (b : Bool). Right b rs) (start_engaged setup) (along [] calls))
 
     -- and by the call's bytes
-    pub any-log-accepted : isLog log ≡ true → (into : List ℕ) → length into ≡ 4
-        → checkCall log (word setup SETUP-PROFILE) (float setup SETUP-ENTER) (float setup SETUP-EXIT) into ≡ left Done (bytes_of (0xffff_ffff ∷ []))
-    any-log-accepted l into h = taken log (word setup SETUP-PROFILE) (float setup SETUP-ENTER) (float setup SETUP-EXIT) into h l p ∙ rw any-log-right
+    pub any_log_accepted : is_log log ≡ true → (into : List ℕ) → length into ≡ 4
+        → check_call log (word setup SETUP_PROFILE) (float setup SETUP_ENTER) (float setup SETUP_EXIT) into ≡ left Done (bytes_of (0xffff_ffff ∷ []))
+    any_log_accepted l into h = taken log (word setup SETUP_PROFILE) (float setup SETUP_ENTER) (float setup SETUP_EXIT) into h l p ∙ rw any_log_right
 
   -- so the log that our append makes in one buffer, if it refuses no accepted tick
-  pub own-log-accepted : (beyond : List ℕ) (calls : List Call) → NoneRefused (atFirst beyond) (keepsAlong (start setup) calls) → (into : List ℕ) → length into ≡ 4
-      → checkCall (ownLog setup beyond calls) (word setup SETUP-PROFILE) (float setup SETUP-ENTER) (float setup SETUP-EXIT) into ≡ left Done (bytes_of (0xffff_ffff ∷ []))
-  own-log-accepted beyond calls k =
-      let gs = keepsAlong (start setup) calls in
-      any-log-accepted (ownLog setup beyond calls) calls (records-kept beyond gs ∙ kept-all (atFirst beyond) gs k) (never-refused beyond gs)
+  pub own_log_accepted : (beyond : List ℕ) (calls : List Call) → NoneRefused (at_first beyond) (keeps_along (start setup) calls) → (into : List ℕ) → length into ≡ 4
+      → check_call (own_log setup beyond calls) (word setup SETUP_PROFILE) (float setup SETUP_ENTER) (float setup SETUP_EXIT) into ≡ left Done (bytes_of (0xffff_ffff ∷ []))
+  own_log_accepted beyond calls k =
+      let gs = keeps_along (start setup) calls in
+      any_log_accepted (own_log setup beyond calls) calls (records_kept beyond gs ∙ kept_all (at_first beyond) gs k) (never_refused beyond gs)

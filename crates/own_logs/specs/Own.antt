@@ -1,24 +1,24 @@
 -- A log of our own: the record of every accepted tick of one run from set-up. Definitions only.
 use Rattle.std.specs.Prelude.{cond, List, [], ◌∷◌, ◌++◌, ℕ}
-use Rattle.outcome.specs.Outcomes.{isDone}
-use Rattle.log.specs.Runs.{logIn, ToAppend, afterAll, recordsOf, atFirst}
-use Rattle.runs.specs.Runs.{Call, Ticks, Exchanges, tickOf, flying, leftBy, start}
+use Rattle.outcome.specs.Outcomes.{is_done}
+use Rattle.flight_log.specs.Runs.{log_in, ToAppend, after_all, records_of, at_first}
+use Rattle.runs.specs.Runs.{Call, Ticks, Exchanges, tick_of, flying, left_by, start}
 
 -- what is appended after a call: of an accepted tick its input and its answer; a refused call and an exchange have none
-unfoldable pub keepsOf : List ℕ → Call → List ToAppend
+unfoldable pub keeps_of : List ℕ → Call → List ToAppend
 unfolding flying
-keepsOf image (Ticks t) = cond (isDone (tickOf image t).outcome) (record { input = t.input; answer = (tickOf image t).later.answer } ∷ []) []
-keepsOf image (Exchanges segment) = []
+keeps_of image (Ticks t) = cond (is_done (tick_of image t).outcome) (record { input = t.input; answer = (tick_of image t).later.answer } ∷ []) []
+keeps_of image (Exchanges segment) = []
 
-unfoldable pub keepsAlong : List ℕ → List Call → List ToAppend
-unfolding keepsOf leftBy
-keepsAlong image [] = []
-keepsAlong image (c ∷ calls) = keepsOf image c ++ keepsAlong (leftBy image c) calls
+unfoldable pub keeps_along : List ℕ → List Call → List ToAppend
+unfolding keeps_of left_by
+keeps_along image [] = []
+keeps_along image (c ∷ calls) = keeps_of image c ++ keeps_along (left_by image c) calls
 
 -- "every tick of one run": the records of a run's accepted ticks, in order
-abbrev pub ticksKept : List ℕ → List Call → List (List ℕ)
-ticksKept image calls = recordsOf (keepsAlong image calls)
+abbrev pub ticks_kept : List ℕ → List Call → List (List ℕ)
+ticks_kept image calls = records_of (keeps_along image calls)
 
 -- the log that our append makes of them in one buffer, whatever stands beyond it there
-abbrev pub ownLog : List ℕ → List ℕ → List Call → List ℕ
-ownLog setup beyond calls = logIn (afterAll (atFirst beyond) (keepsAlong (start setup) calls))
+abbrev pub own_log : List ℕ → List ℕ → List Call → List ℕ
+own_log setup beyond calls = log_in (after_all (at_first beyond) (keeps_along (start setup) calls))

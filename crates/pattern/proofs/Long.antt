@@ -1,68 +1,68 @@
 -- Every leg that is read has a leg's bytes. Assumes nothing.
 use Rattle.laws.proofs.Prelude.{◌≡◌, sym, ap, subst, inl, inr, List, [], ◌∷◌, ◌++◌, map, append-nil, ℕ, zero, suc, ◌+◌, ◌≤◌, ◌<◌, le_of_suc-le-suc, arith, eqb, length, get_or, take, drop, length-drop}
-use Rattle.laws.proofs.Prelude.{length-take-le, take_all, le-or-lt}
-use Rattle.image.specs.Layout.{LEG-BYTES}
-use Rattle.outcome.proofs.Tables.{by-test}
-use Rattle.pattern.specs.{declared.form.Head.{Head, TheVariants.{Neither, Leg, Repeat}}, Tree.{times, flownLegs}}
-use Rattle.pattern.specs.{Read.{Read, broken, is, head_of, size_of, repeated, item_of, before, items_of, read}, Walk.legIn}
-use Rattle.pattern.proofs.{Heads.{Room, head-room}, Trees.flown-append}
+use Rattle.laws.proofs.Prelude.{length-take-le, take_all, le_or_lt}
+use Rattle.image.specs.Layout.{LEG_BYTES}
+use Rattle.outcome.proofs.Tables.{by_test_lem}
+use Rattle.pattern.specs.{declared.form.Head.{Head, TheVariants.{Neither, Leg, Repeat}}, Tree.{times, flown_legs}}
+use Rattle.pattern.specs.{Read.{Read, broken, is, head_of, size_of, repeated, item_of, before, items_of, read}, Walk.leg_in}
+use Rattle.pattern.proofs.{Heads.{Room, head_room}, Trees.flown_append}
 
 abbrev pub AllLong : List (List ℕ) → Type 0
 AllLong [] = Unit
-AllLong (l ∷ ls) = (length l ≡ LEG-BYTES) × AllLong ls
+AllLong (l ∷ ls) = (length l ≡ LEG_BYTES) × AllLong ls
 
-pub long-append : (ls ms : List (List ℕ)) → AllLong ls → AllLong ms → AllLong (ls ++ ms)
-long-append [] ms a b = b
-long-append (l ∷ ls) ms a b = (a.0, long-append ls ms a.1 b)
+pub long_append : (ls ms : List (List ℕ)) → AllLong ls → AllLong ms → AllLong (ls ++ ms)
+long_append [] ms a b = b
+long_append (l ∷ ls) ms a b = (a.0, long_append ls ms a.1 b)
 
-pub long-times : (n : ℕ) (ls : List (List ℕ)) → AllLong ls → AllLong (times n ls)
+pub long_times : (n : ℕ) (ls : List (List ℕ)) → AllLong ls → AllLong (times n ls)
 unfolding times
-long-times zero ls a = tt
-long-times (suc n) ls a = long-append ls (times n ls) a (long-times n ls a)
+long_times zero ls a = tt
+long_times (suc n) ls a = long_append ls (times n ls) a (long_times n ls a)
 
 abbrev pub Long : Read → Type 0
 Long broken = Unit
-Long (is p) = AllLong (flownLegs p)
+Long (is p) = AllLong (flown_legs p)
 
-long-before : (r s : Read) → Long r → Long s → Long (before r s)
+long_before : (r s : Read) → Long r → Long s → Long (before r s)
 unfolding before
-long-before broken s a b = tt
-long-before (is p) broken a b = tt
-long-before (is p) (is q) a b = subst AllLong (sym (flown-append p q)) (long-append (flownLegs p) (flownLegs q) a b)
+long_before broken s a b = tt
+long_before (is p) broken a b = tt
+long_before (is p) (is q) a b = subst AllLong (sym (flown_append p q)) (long_append (flown_legs p) (flown_legs q) a b)
 
-long-repeated : (n : ℕ) (r : Read) → Long r → Long (repeated n r)
-unfolding repeated flownLegs
-long-repeated n broken a = tt
-long-repeated n (is p) a = subst AllLong (sym (append-nil (times n (flownLegs p)))) (long-times n (flownLegs p) a)
+long_repeated : (n : ℕ) (r : Read) → Long r → Long (repeated n r)
+unfolding repeated flown_legs
+long_repeated n broken a = tt
+long_repeated n (is p) a = subst AllLong (sym (append-nil (times n (flown_legs p)))) (long_times n (flown_legs p) a)
 
 module _ (inside : List ℕ → Read) (f : (b : List ℕ) → Long (inside b)) where
-  long-item : (b : List ℕ) (h : Head) → Room (length b) h → Long (item_of inside b h)
-  unfolding item_of flownLegs
-  long-item b Neither r = tt
-  long-item b Leg r = (length-take-le LEG-BYTES (drop 1 b) (omega (arith, r, length-drop 1 b)), tt)
-  long-item b (Repeat n len) r = long-repeated n (inside (take len (drop 4 b))) (f (take len (drop 4 b)))
+  long_item : (b : List ℕ) (h : Head) → Room (length b) h → Long (item_of inside b h)
+  unfolding item_of flown_legs
+  long_item b Neither r = tt
+  long_item b Leg r = (length-take-le LEG_BYTES (drop 1 b) (omega (arith, r, length-drop 1 b)), tt)
+  long_item b (Repeat n len) r = long_repeated n (inside (take len (drop 4 b))) (f (take len (drop 4 b)))
 
-  long-items : (n : ℕ) (b : List ℕ) → Long (items_of inside n b)
-  unfolding items_of flownLegs
-  long-items zero b = tt
-  long-items (suc n) b =
+  long_items : (n : ℕ) (b : List ℕ) → Long (items_of inside n b)
+  unfolding items_of flown_legs
+  long_items zero b = tt
+  long_items (suc n) b =
       let item = item_of inside b (head_of b) in
       let more = items_of inside n (drop (size_of (head_of b)) b) in
-      by-test Long (eqb (length b) 0) (λ _. tt) (λ _. long-before item more (long-item b (head_of b) (head-room b)) (long-items n (drop (size_of (head_of b)) b)))
+      by_test_lem Long (eqb (length b) 0) (λ _. tt) (λ _. long_before item more (long_item b (head_of b) (head_room b)) (long_items n (drop (size_of (head_of b)) b)))
 
-pub long-read : (depth : ℕ) (b : List ℕ) → Long (read depth b)
+pub long_read : (depth : ℕ) (b : List ℕ) → Long (read depth b)
 unfolding read
-long-read zero b = long-items (λ _. broken) (λ _. tt) (length b) b
-long-read (suc depth) b = long-items (read depth) (long-read depth) (length b) b
+long_read zero b = long_items (λ _. broken) (λ _. tt) (length b) b
+long_read (suc depth) b = long_items (read depth) (long_read depth) (length b) b
 
 -- so each stands within the bytes
-within : (b : List ℕ) (place : ℕ) → length (legIn b place) ≡ LEG-BYTES → place + LEG-BYTES ≤ length b
-within b place e = elim (le-or-lt LEG-BYTES (length (drop place b))) [
+within : (b : List ℕ) (place : ℕ) → length (leg_in b place) ≡ LEG_BYTES → place + LEG_BYTES ≤ length b
+within b place e = elim (le_or_lt LEG_BYTES (length (drop place b))) [
   | inl h ↦ omega (arith, length-drop place b)
-  | inr h ↦ let f = ap length (take_all LEG-BYTES (drop place b) (omega arith)) in omega (arith, f, length-drop place b)
+  | inr h ↦ let f = ap length (take_all LEG_BYTES (drop place b) (omega arith)) in omega (arith, f, length-drop place b)
 ]
 
-pub long-places : (b places : List ℕ) → AllLong (map (legIn b) places) → (i : ℕ) → i < length places → get_or places i 0 + LEG-BYTES ≤ length b
-long-places b [] a i h = absurd (omega arith)
-long-places b (p ∷ ps) a zero h = within b p a.0
-long-places b (p ∷ ps) a (suc i) h = long-places b ps a.1 i (le_of_suc-le-suc h)
+pub long_places : (b places : List ℕ) → AllLong (map (leg_in b) places) → (i : ℕ) → i < length places → get_or places i 0 + LEG_BYTES ≤ length b
+long_places b [] a i h = absurd (omega arith)
+long_places b (p ∷ ps) a zero h = within b p a.0
+long_places b (p ∷ ps) a (suc i) h = long_places b ps a.1 i (le_of_suc-le-suc h)

@@ -1,65 +1,65 @@
 -- "Its bytes": a pattern is read back from its bytes, and bytes that are read are written back. Assumes nothing.
 use Rattle.laws.proofs.Prelude.{◌≡◌, refl, sym, ap, subst, ◌∙◌, inl, inr, List, [], ◌∷◌, ◌++◌, ℕ, zero, suc, ◌+◌, ◌-◌, ◌*◌, ◌/◌, ◌%◌, ◌≤◌, ◌<◌, arith, le-ltb, ne_eqb, length, get_or, take, drop}
-use Rattle.laws.proofs.Prelude.{length-append, length-drop, take-append-drop, take_at, drop_at, get_or-take, get_or-drop, length-take-le, le-or-lt}
+use Rattle.laws.proofs.Prelude.{length-append, length-drop, take-append-drop, take_at, drop_at, get_or-take, get_or-drop, length-take-le, le_or_lt}
 use lib.{ListN.get_or-eq_default, Seq.{drop-cons, drop-drop}}
-use Rattle.image.specs.Layout.{LEG-BYTES}
-use Rattle.pattern.specs.{declared.form.Head.{Head, TheVariants.{Neither, Leg, Repeat}}, Tree.{Pattern, nothing, leg, repeat, patternBytes, WithinLimits}}
-use Rattle.pattern.specs.Read.{Read, broken, is, head_of, size_of, repeated, item_of, append, before, items_of, read, insideOf, itemWithin}
-use Rattle.pattern.proofs.{Heads.{a-leg, a-repeat, Room, head-room, Tags, head-tags, size-some}, Trees.{read_none, read_here, items-none, items-here}}
+use Rattle.image.specs.Layout.{LEG_BYTES}
+use Rattle.pattern.specs.{declared.form.Head.{Head, TheVariants.{Neither, Leg, Repeat}}, Tree.{Pattern, nothing, leg, repeat, pattern_bytes, WithinLimits}}
+use Rattle.pattern.specs.Read.{Read, broken, is, head_of, size_of, repeated, item_of, append, before, items_of, read, inside_of, item_within}
+use Rattle.pattern.proofs.{Heads.{a_leg, a_repeat, Room, head_room, Tags, head_tags, size_some}, Trees.{read_none, read_here, items_none, items_here}}
 
 -- ---- what was written is read: for every pattern at most so deep that has bytes
 
-module _ (depth : ℕ) (l : List ℕ) (more : Pattern) (long : length l ≡ LEG-BYTES) where
-  leg-starts : Leg ≡ head_of (patternBytes (leg l more))
-  unfolding patternBytes
-  leg-starts = a-leg (patternBytes (leg l more)) refl refl refl (le-ltb (length (patternBytes (leg l more))) 77 (omega (arith, length-append l (patternBytes more))))
+module _ (depth : ℕ) (l : List ℕ) (more : Pattern) (long : length l ≡ LEG_BYTES) where
+  leg_starts : Leg ≡ head_of (pattern_bytes (leg l more))
+  unfolding pattern_bytes
+  leg_starts = a_leg (pattern_bytes (leg l more)) refl refl refl (le-ltb (length (pattern_bytes (leg l more))) 77 (omega (arith, length-append l (pattern_bytes more))))
 
-  leg-back : read depth (patternBytes more) ≡ is more → read depth (patternBytes (leg l more)) ≡ is (leg l more)
-  unfolding patternBytes item_of size_of before append
-  leg-back r =
-      let s = patternBytes (leg l more) in
-      let item : itemWithin depth s ≡ is (leg l nothing) =
-      ap (item_of (insideOf depth) s) (sym leg-starts) ∙ ap (λ (x : List ℕ). is (leg x nothing)) (take_at l (patternBytes more) LEG-BYTES long) in
-      let after : drop (size_of (head_of s)) s ≡ patternBytes more =
-      ap (λ (h : Head). drop (size_of h) s) (sym leg-starts) ∙ drop_at (0 ∷ l) (patternBytes more) (1 + LEG-BYTES) (omega (arith, long)) in
-      read_here depth s (omega (arith, length-append l (patternBytes more))) ∙ rw (item, after, r)
+  leg_back : read depth (pattern_bytes more) ≡ is more → read depth (pattern_bytes (leg l more)) ≡ is (leg l more)
+  unfolding pattern_bytes item_of size_of before append
+  leg_back r =
+      let s = pattern_bytes (leg l more) in
+      let item : item_within depth s ≡ is (leg l nothing) =
+      ap (item_of (inside_of depth) s) (sym leg_starts) ∙ ap (λ (x : List ℕ). is (leg x nothing)) (take_at l (pattern_bytes more) LEG_BYTES long) in
+      let after : drop (size_of (head_of s)) s ≡ pattern_bytes more =
+      ap (λ (h : Head). drop (size_of h) s) (sym leg_starts) ∙ drop_at (0 ∷ l) (pattern_bytes more) (1 + LEG_BYTES) (omega (arith, long)) in
+      read_here depth s (omega (arith, length-append l (pattern_bytes more))) ∙ rw (item, after, r)
 
 module _ (depth n : ℕ) (inner more : Pattern) (some : 1 ≤ n) (few : n ≤ 9) where
-  repeat-starts : Repeat n (length (patternBytes inner)) ≡ head_of (patternBytes (repeat n inner more))
-  unfolding patternBytes
-  repeat-starts =
-      let len = length (patternBytes inner) in let s = patternBytes (repeat n inner more) in
+  repeat_starts : Repeat n (length (pattern_bytes inner)) ≡ head_of (pattern_bytes (repeat n inner more))
+  unfolding pattern_bytes
+  repeat_starts =
+      let len = length (pattern_bytes inner) in let s = pattern_bytes (repeat n inner more) in
       let e : len ≡ len % 256 + 256 * (len / 256) = omega arith in
-      let all = length-append (patternBytes inner) (patternBytes more) in
+      let all = length-append (pattern_bytes inner) (pattern_bytes more) in
       ap (Repeat n) e
-      ∙ a-repeat s refl refl refl refl (le-ltb (length s) 4 (omega arith)) refl (ne_eqb n 0 (λ z. omega arith)) (le-ltb 9 n few) refl refl
+      ∙ a_repeat s refl refl refl refl (le-ltb (length s) 4 (omega arith)) refl (ne_eqb n 0 (λ z. omega arith)) (le-ltb 9 n few) refl refl
       (le-ltb (length s - 4) (len % 256 + 256 * (len / 256)) (omega (arith, e, all)))
 
-  repeat-back : read depth (patternBytes inner) ≡ is inner → read (suc depth) (patternBytes more) ≡ is more
-      → read (suc depth) (patternBytes (repeat n inner more)) ≡ is (repeat n inner more)
-  unfolding patternBytes item_of size_of insideOf repeated before append
-  repeat-back i r =
-      let len = length (patternBytes inner) in let s = patternBytes (repeat n inner more) in
-      let item : itemWithin (suc depth) s ≡ is (repeat n inner nothing) =
-      ap (item_of (insideOf (suc depth)) s) (sym repeat-starts)
-      ∙ ap (λ (x : List ℕ). repeated n (read depth x)) (take_at (patternBytes inner) (patternBytes more) len refl) ∙ ap (repeated n) i in
-      let front : List ℕ = 1 ∷ n ∷ len % 256 ∷ len / 256 ∷ patternBytes inner in
-      let after : drop (size_of (head_of s)) s ≡ patternBytes more =
-      ap (λ (h : Head). drop (size_of h) s) (sym repeat-starts) ∙ drop_at front (patternBytes more) (4 + len) (omega arith) in
+  repeat_back : read depth (pattern_bytes inner) ≡ is inner → read (suc depth) (pattern_bytes more) ≡ is more
+      → read (suc depth) (pattern_bytes (repeat n inner more)) ≡ is (repeat n inner more)
+  unfolding pattern_bytes item_of size_of inside_of repeated before append
+  repeat_back i r =
+      let len = length (pattern_bytes inner) in let s = pattern_bytes (repeat n inner more) in
+      let item : item_within (suc depth) s ≡ is (repeat n inner nothing) =
+      ap (item_of (inside_of (suc depth)) s) (sym repeat_starts)
+      ∙ ap (λ (x : List ℕ). repeated n (read depth x)) (take_at (pattern_bytes inner) (pattern_bytes more) len refl) ∙ ap (repeated n) i in
+      let front : List ℕ = 1 ∷ n ∷ len % 256 ∷ len / 256 ∷ pattern_bytes inner in
+      let after : drop (size_of (head_of s)) s ≡ pattern_bytes more =
+      ap (λ (h : Head). drop (size_of h) s) (sym repeat_starts) ∙ drop_at front (pattern_bytes more) (4 + len) (omega arith) in
       read_here (suc depth) s (omega arith) ∙ rw (item, after, r)
 
-pub reads-back : (depth : ℕ) (p : Pattern) → WithinLimits depth p → read depth (patternBytes p) ≡ is p
-unfolding WithinLimits patternBytes
-reads-back depth nothing f = read_none depth [] refl
-reads-back depth (leg l more) f = leg-back depth l more f.0 (reads-back depth more f.1)
-reads-back zero (repeat n inner more) f = absurd f
-reads-back (suc depth) (repeat n inner more) f =
-    repeat-back depth n inner more f.0 f.1 (reads-back depth inner f.3) (reads-back (suc depth) more f.4)
+pub reads_back : (depth : ℕ) (p : Pattern) → WithinLimits depth p → read depth (pattern_bytes p) ≡ is p
+unfolding WithinLimits pattern_bytes
+reads_back depth nothing f = read_none depth [] refl
+reads_back depth (leg l more) f = leg_back depth l more f.0 (reads_back depth more f.1)
+reads_back zero (repeat n inner more) f = absurd f
+reads_back (suc depth) (repeat n inner more) f =
+    repeat_back depth n inner more f.0 f.1 (reads_back depth inner f.3) (reads_back (suc depth) more f.4)
 
 -- so no two patterns share their bytes
-pub one-pattern : (depth : ℕ) (p q : Pattern) → WithinLimits depth p → WithinLimits depth q → patternBytes p ≡ patternBytes q → p ≡ q
-one-pattern depth p q f g e =
-    let h : is p ≡ is q = sym (reads-back depth p f) ∙ ap (read depth) e ∙ reads-back depth q g in
+pub one_pattern : (depth : ℕ) (p q : Pattern) → WithinLimits depth p → WithinLimits depth q → pattern_bytes p ≡ pattern_bytes q → p ≡ q
+one_pattern depth p q f g e =
+    let h : is p ≡ is q = sym (reads_back depth p f) ∙ ap (read depth) e ∙ reads_back depth q g in
     cc
 
 -- ---- what is read was written
@@ -77,7 +77,7 @@ at_most (suc k) [] = omega arith
 at_most (suc k) (x ∷ b) = omega (arith, at_most k b)
 
 bytes_take : (b : List ℕ) (k : ℕ) → Bytes b → Bytes (take k b)
-bytes_take b k h i = elim (le-or-lt k i) [
+bytes_take b k h i = elim (le_or_lt k i) [
   | inl l ↦ subst (λ (x : ℕ). x < 256) (sym (get_or-eq_default (take k b) 0 (omega (arith, l, at_most k b)))) (omega arith)
   | inr l ↦ subst (λ (x : ℕ). x < 256) (sym (get_or-take k b i 0 l)) (h i)
 ]
@@ -87,19 +87,19 @@ abbrev Inner : ℕ → Pattern → Type 0
 Inner zero p = ⊥
 Inner (suc depth) p = WithinLimits depth p
 
-fits-repeat : (depth n : ℕ) (inner more : Pattern) → 1 ≤ n → n ≤ 9 → length (patternBytes inner) ≤ 65535 → Inner depth inner → WithinLimits depth more → WithinLimits depth (repeat n inner more)
+fits_repeat : (depth n : ℕ) (inner more : Pattern) → 1 ≤ n → n ≤ 9 → length (pattern_bytes inner) ≤ 65535 → Inner depth inner → WithinLimits depth more → WithinLimits depth (repeat n inner more)
 unfolding WithinLimits
-fits-repeat zero n inner more h k l i f = absurd i
-fits-repeat (suc depth) n inner more h k l i f = (h, k, l, i, f)
+fits_repeat zero n inner more h k l i f = absurd i
+fits_repeat (suc depth) n inner more h k l i f = (h, k, l, i, f)
 
 pub record Written (depth : ℕ) (b : List ℕ) (p : Pattern) : Type 0 where
-  pub bytes : patternBytes p ≡ b
+  pub bytes : pattern_bytes p ≡ b
   pub fits : WithinLimits depth p
 
 record Both (r s : Read) (p : Pattern) : Type 0 where
   pub first : Pattern
   pub second : Pattern
-  pub first-is : r ≡ is first
+  pub first_is : r ≡ is first
   pub second_is : s ≡ is second
   pub together : p ≡ append first second
 
@@ -107,89 +107,89 @@ both : (r s : Read) (p : Pattern) → before r s ≡ is p → Both r s p
 unfolding before
 both broken s p e = let z : ◌≡◌ {A = ℕ} 0 1 = cc in absurd (omega arith)
 both (is q) broken p e = let z : ◌≡◌ {A = ℕ} 0 1 = cc in absurd (omega arith)
-both (is q) (is r) p e = record { first = q; second = r; first-is = refl; second_is = refl; together = cc }
+both (is q) (is r) p e = record { first = q; second = r; first_is = refl; second_is = refl; together = cc }
 
 record Body (n : ℕ) (r : Read) (p : Pattern) : Type 0 where
   pub inner : Pattern
-  pub inner-is : r ≡ is inner
+  pub inner_is : r ≡ is inner
   pub whole : p ≡ repeat n inner nothing
 
 body : (n : ℕ) (r : Read) (p : Pattern) → repeated n r ≡ is p → Body n r p
 unfolding repeated
 body n broken p e = let z : ◌≡◌ {A = ℕ} 0 1 = cc in absurd (omega arith)
-body n (is q) p e = record { inner = q; inner-is = refl; whole = cc }
+body n (is q) p e = record { inner = q; inner_is = refl; whole = cc }
 
-split-four : (b : List ℕ) → 4 ≤ length b → b ≡ get_or b 0 0 ∷ get_or b 1 0 ∷ get_or b 2 0 ∷ get_or b 3 0 ∷ drop 4 b
-split-four b h =
+split_four : (b : List ℕ) → 4 ≤ length b → b ≡ get_or b 0 0 ∷ get_or b 1 0 ∷ get_or b 2 0 ∷ get_or b 3 0 ∷ drop 4 b
+split_four b h =
     drop-cons b 0 0 (omega arith)
     ∙ ap (λ (l : List ℕ). get_or b 0 0 ∷ l)
     (drop-cons b 1 0 (omega arith) ∙ ap (λ (l : List ℕ). get_or b 1 0 ∷ l) (drop-cons b 2 0 (omega arith) ∙ ap (λ (l : List ℕ). get_or b 2 0 ∷ l) (drop-cons b 3 0 (omega arith))))
 
 none_right : (depth : ℕ) (b : List ℕ) (p : Pattern) → length b ≡ 0 → is nothing ≡ is p → Written depth b p
-unfolding patternBytes WithinLimits
+unfolding pattern_bytes WithinLimits
 none_right depth [] p h e = let f : p ≡ nothing = cc in rw f record { bytes = refl; fits = tt }
 none_right depth (x ∷ b) p h e = absurd (omega arith)
 
-leg-right : (depth : ℕ) (b : List ℕ) (more : Pattern) → 77 ≤ length b → get_or b 0 0 ≡ 0 → Written depth (drop (1 + LEG-BYTES) b) more
-    → Written depth b (append (leg (take LEG-BYTES (drop 1 b)) nothing) more)
-unfolding append patternBytes WithinLimits
-leg-right depth b more r t w =
-    let l = take LEG-BYTES (drop 1 b) in
+leg_right : (depth : ℕ) (b : List ℕ) (more : Pattern) → 77 ≤ length b → get_or b 0 0 ≡ 0 → Written depth (drop (1 + LEG_BYTES) b) more
+    → Written depth b (append (leg (take LEG_BYTES (drop 1 b)) nothing) more)
+unfolding append pattern_bytes WithinLimits
+leg_right depth b more r t w =
+    let l = take LEG_BYTES (drop 1 b) in
     record {
       bytes =
-          ap (λ (x : List ℕ). 0 ∷ l ++ x) (w.bytes ∙ sym (drop-drop LEG-BYTES 1 b)) ∙ ap (λ (x : List ℕ). 0 ∷ x) (take-append-drop LEG-BYTES (drop 1 b))
+          ap (λ (x : List ℕ). 0 ∷ l ++ x) (w.bytes ∙ sym (drop-drop LEG_BYTES 1 b)) ∙ ap (λ (x : List ℕ). 0 ∷ x) (take-append-drop LEG_BYTES (drop 1 b))
           ∙ ap (λ (x : ℕ). x ∷ drop 1 b) (sym t) ∙ sym (drop-cons b 0 0 (omega arith));
-      fits = (length-take-le LEG-BYTES (drop 1 b) (omega (arith, length-drop 1 b)), w.fits);
+      fits = (length-take-le LEG_BYTES (drop 1 b) (omega (arith, length-drop 1 b)), w.fits);
     }
 
-repeat-right : (depth : ℕ) (b : List ℕ) (n len : ℕ) (inner more : Pattern) → Bytes b → Room (length b) (Repeat n len) → Tags b (Repeat n len)
-    → patternBytes inner ≡ take len (drop 4 b) → Inner depth inner → Written depth (drop (4 + len) b) more
+repeat_right : (depth : ℕ) (b : List ℕ) (n len : ℕ) (inner more : Pattern) → Bytes b → Room (length b) (Repeat n len) → Tags b (Repeat n len)
+    → pattern_bytes inner ≡ take len (drop 4 b) → Inner depth inner → Written depth (drop (4 + len) b) more
     → Written depth b (append (repeat n inner nothing) more)
-unfolding append patternBytes
-repeat-right depth b n len inner more y r t i f w =
-    let l : length (patternBytes inner) ≡ len = ap length i ∙ length-take-le len (drop 4 b) (omega (arith, r.2, length-drop 4 b)) in
+unfolding append pattern_bytes
+repeat_right depth b n len inner more y r t i f w =
+    let l : length (pattern_bytes inner) ≡ len = ap length i ∙ length-take-le len (drop 4 b) (omega (arith, r.2, length-drop 4 b)) in
     let sum : get_or b 2 0 + 256 * get_or b 3 0 ≡ len = t.2 in
-    let lo : length (patternBytes inner) % 256 ≡ get_or b 2 0 = omega (arith, l, sum, y 2) in
-    let hi : length (patternBytes inner) / 256 ≡ get_or b 3 0 = omega (arith, l, sum, y 2) in
-    let rest : patternBytes inner ++ patternBytes more ≡ drop 4 b =
-    ap (λ (x : List ℕ). x ++ patternBytes more) i ∙ ap (λ (x : List ℕ). take len (drop 4 b) ++ x) (w.bytes ∙ sym (drop-drop len 4 b)) ∙ take-append-drop len (drop 4 b) in
+    let lo : length (pattern_bytes inner) % 256 ≡ get_or b 2 0 = omega (arith, l, sum, y 2) in
+    let hi : length (pattern_bytes inner) / 256 ≡ get_or b 3 0 = omega (arith, l, sum, y 2) in
+    let rest : pattern_bytes inner ++ pattern_bytes more ≡ drop 4 b =
+    ap (λ (x : List ℕ). x ++ pattern_bytes more) i ∙ ap (λ (x : List ℕ). take len (drop 4 b) ++ x) (w.bytes ∙ sym (drop-drop len 4 b)) ∙ take-append-drop len (drop 4 b) in
     record {
       bytes =
-          ap (λ (x : ℕ). 1 ∷ n ∷ x ∷ length (patternBytes inner) / 256 ∷ patternBytes inner ++ patternBytes more) lo
-          ∙ ap (λ (x : ℕ). 1 ∷ n ∷ get_or b 2 0 ∷ x ∷ patternBytes inner ++ patternBytes more) hi
+          ap (λ (x : ℕ). 1 ∷ n ∷ x ∷ length (pattern_bytes inner) / 256 ∷ pattern_bytes inner ++ pattern_bytes more) lo
+          ∙ ap (λ (x : ℕ). 1 ∷ n ∷ get_or b 2 0 ∷ x ∷ pattern_bytes inner ++ pattern_bytes more) hi
           ∙ ap (λ (x : List ℕ). 1 ∷ n ∷ get_or b 2 0 ∷ get_or b 3 0 ∷ x) rest
           ∙ ap (λ (x : ℕ). x ∷ n ∷ get_or b 2 0 ∷ get_or b 3 0 ∷ drop 4 b) (sym t.0)
           ∙ ap (λ (x : ℕ). get_or b 0 0 ∷ x ∷ get_or b 2 0 ∷ get_or b 3 0 ∷ drop 4 b) (sym t.1)
-          ∙ sym (split-four b (omega (arith, r.2)));
-      fits = fits-repeat depth n inner more r.0 r.1 (omega (arith, l, sum, y 2, y 3)) f w.fits;
+          ∙ sym (split_four b (omega (arith, r.2)));
+      fits = fits_repeat depth n inner more r.0 r.1 (omega (arith, l, sum, y 2, y 3)) f w.fits;
     }
 
-module _ (depth : ℕ) (inside : List ℕ → Read) (right : (c : List ℕ) (q : Pattern) → Bytes c → inside c ≡ is q → (patternBytes q ≡ c) × Inner depth q) where
+module _ (depth : ℕ) (inside : List ℕ → Read) (right : (c : List ℕ) (q : Pattern) → Bytes c → inside c ≡ is q → (pattern_bytes q ≡ c) × Inner depth q) where
   -- by what the bytes start with, where the rest is right
-  item-right : (b : List ℕ) (h : Head) (first second : Pattern) → Bytes b → Room (length b) h → Tags b h → item_of inside b h ≡ is first
+  item_right : (b : List ℕ) (h : Head) (first second : Pattern) → Bytes b → Room (length b) h → Tags b h → item_of inside b h ≡ is first
       → Written depth (drop (size_of h) b) second → Written depth b (append first second)
   unfolding item_of size_of
-  item-right b Neither first second y r t e w = let z : ◌≡◌ {A = ℕ} 0 1 = cc in absurd (omega arith)
-  item-right b Leg first second y r t e w = let f : first ≡ leg (take LEG-BYTES (drop 1 b)) nothing = cc in rw f (leg-right depth b second r t w)
-  item-right b (Repeat n len) first second y r t e w =
+  item_right b Neither first second y r t e w = let z : ◌≡◌ {A = ℕ} 0 1 = cc in absurd (omega arith)
+  item_right b Leg first second y r t e w = let f : first ≡ leg (take LEG_BYTES (drop 1 b)) nothing = cc in rw f (leg_right depth b second r t w)
+  item_right b (Repeat n len) first second y r t e w =
       let g = body n (inside (take len (drop 4 b))) first e in
-      let i = right (take len (drop 4 b)) g.inner (bytes_take (drop 4 b) len (bytes_drop b 4 y)) g.inner-is in
-      rw g.whole (repeat-right depth b n len g.inner second y r t i.0 i.1 w)
+      let i = right (take len (drop 4 b)) g.inner (bytes_take (drop 4 b) len (bytes_drop b 4 y)) g.inner_is in
+      rw g.whole (repeat_right depth b n len g.inner second y r t i.0 i.1 w)
 
-  items-right : (n : ℕ) (b : List ℕ) (p : Pattern) → length b ≤ n → Bytes b → items_of inside n b ≡ is p → Written depth b p
-  items-right zero b p h y e = none_right depth b p (omega arith) (sym (items-none inside zero b (omega arith)) ∙ e)
-  items-right (suc n) b p h y e = elim (le-or-lt (length b) 0) [
-    | inl l ↦ none_right depth b p (omega arith) (sym (items-none inside (suc n) b (omega arith)) ∙ e)
+  items_right : (n : ℕ) (b : List ℕ) (p : Pattern) → length b ≤ n → Bytes b → items_of inside n b ≡ is p → Written depth b p
+  items_right zero b p h y e = none_right depth b p (omega arith) (sym (items_none inside zero b (omega arith)) ∙ e)
+  items_right (suc n) b p h y e = elim (le_or_lt (length b) 0) [
+    | inl l ↦ none_right depth b p (omega arith) (sym (items_none inside (suc n) b (omega arith)) ∙ e)
     | inr l ↦
-        let size = size_of (head_of b) in let less = length-drop size b in let some = size-some (head_of b) in
-        let q = both (item_of inside b (head_of b)) (items_of inside n (drop size b)) p (sym (items-here inside n b l) ∙ e) in
+        let size = size_of (head_of b) in let less = length-drop size b in let some = size_some (head_of b) in
+        let q = both (item_of inside b (head_of b)) (items_of inside n (drop size b)) p (sym (items_here inside n b l) ∙ e) in
         rw q.together
-        (item-right b (head_of b) q.first q.second y (head-room b) (head-tags b) q.first-is
-        (items-right n (drop size b) q.second (omega (arith, less, some)) (bytes_drop b size y) q.second_is))
+        (item_right b (head_of b) q.first q.second y (head_room b) (head_tags b) q.first_is
+        (items_right n (drop size b) q.second (omega (arith, less, some)) (bytes_drop b size y) q.second_is))
   ]
 
-pub writes-back : (depth : ℕ) (b : List ℕ) (p : Pattern) → Bytes b → read depth b ≡ is p → Written depth b p
+pub writes_back : (depth : ℕ) (b : List ℕ) (p : Pattern) → Bytes b → read depth b ≡ is p → Written depth b p
 unfolding read
-writes-back zero b p y e = items-right zero (λ _. broken) (λ c q z f. let w : ◌≡◌ {A = ℕ} 0 1 = cc in absurd (omega arith)) (length b) b p (omega arith) y e
-writes-back (suc depth) b p y e =
-    items-right (suc depth) (read depth) (λ c q z f. let w = writes-back depth c q z f in (w.bytes, w.fits)) (length b) b p (omega arith) y e
+writes_back zero b p y e = items_right zero (λ _. broken) (λ c q z f. let w : ◌≡◌ {A = ℕ} 0 1 = cc in absurd (omega arith)) (length b) b p (omega arith) y e
+writes_back (suc depth) b p y e =
+    items_right (suc depth) (read depth) (λ c q z f. let w = writes_back depth c q z f in (w.bytes, w.fits)) (length b) b p (omega arith) y e

@@ -4,39 +4,39 @@ use Rattle.laws.proofs.Prelude.{length, get_or, set, take, drop, length-append, 
 use Rattle.laws.proofs.Prelude.{get_or-append-add}
 use native.Mathlib.Nat.{suc-mul}
 use lib.Seq.{set-set, set_comm}
-use Rattle.words.proofs.Written.{sets-append}
+use Rattle.words.proofs.Written.{sets_append}
 use Rattle.pattern.specs.Tree.{times}
 
 -- ---- a list so many times
 
-pub length-times : {A : Type 0} (n : ℕ) (l : List A) → length (times n l) ≡ n * length l
+pub length_times : {A : Type 0} (n : ℕ) (l : List A) → length (times n l) ≡ n * length l
 unfolding times
-length-times zero l = sym (zero-mul (length l))
-length-times (suc n) l = length-append l (times n l) ∙ ap (λ (k : ℕ). length l + k) (length-times n l) ∙ (add_comm (length l) (n * length l) ∙ sym (suc-mul n (length l)))
+length_times zero l = sym (zero-mul (length l))
+length_times (suc n) l = length-append l (times n l) ∙ ap (λ (k : ℕ). length l + k) (length_times n l) ∙ (add_comm (length l) (n * length l) ∙ sym (suc-mul n (length l)))
 
-pub map-times : {A B : Type 0} (f : A → B) (n : ℕ) (l : List A) → map f (times n l) ≡ times n (map f l)
+pub map_times : {A B : Type 0} (f : A → B) (n : ℕ) (l : List A) → map f (times n l) ≡ times n (map f l)
 unfolding times
-map-times f zero l = refl
-map-times {B = B} f (suc n) l = map-append f l (times n l) ∙ ap (λ (r : List B). map f l ++ r) (map-times f n l)
+map_times f zero l = refl
+map_times {B = B} f (suc n) l = map-append f l (times n l) ∙ ap (λ (r : List B). map f l ++ r) (map_times f n l)
 
 -- the round more may stand last
-times-last : {A : Type 0} (n : ℕ) (l : List A) → times (suc n) l ≡ times n l ++ l
+times_last : {A : Type 0} (n : ℕ) (l : List A) → times (suc n) l ≡ times n l ++ l
 unfolding times
-times-last zero l = append-nil l
-times-last {A = A} (suc n) l = ap (λ (r : List A). l ++ r) (times-last n l) ∙ sym (append_assoc l (times n l) l)
+times_last zero l = append-nil l
+times_last {A = A} (suc n) l = ap (λ (r : List A). l ++ r) (times_last n l) ∙ sym (append_assoc l (times n l) l)
 
 -- each element of a round is that of the round before
-pub round-before : (n : ℕ) (l : List ℕ) (i : ℕ) → length l + i < n * length l → get_or (times n l) (length l + i) 0 ≡ get_or (times n l) i 0
+pub round_before : (n : ℕ) (l : List ℕ) (i : ℕ) → length l + i < n * length l → get_or (times n l) (length l + i) 0 ≡ get_or (times n l) i 0
 unfolding times
-round-before zero l i h = absurd (omega (arith, h, zero-mul (length l)))
-round-before (suc n) l i h =
-    let few : i < length (times n l) = omega (arith, h, suc-mul n (length l), length-times n l) in
-    get_or-append-add l (times n l) i 0 ∙ sym (ap (λ (r : List ℕ). get_or r i 0) (times-last n l) ∙ List·getD-append (times n l) l 0 i few)
+round_before zero l i h = absurd (omega (arith, h, zero-mul (length l)))
+round_before (suc n) l i h =
+    let few : i < length (times n l) = omega (arith, h, suc-mul n (length l), length_times n l) in
+    get_or-append-add l (times n l) i 0 ∙ sym (ap (λ (r : List ℕ). get_or r i 0) (times_last n l) ∙ List·getD-append (times n l) l 0 i few)
 
 -- ---- a run in a buffer
 
-pub run-get : (b : List ℕ) (n : ℕ) (vs : List ℕ) (i : ℕ) → n + length vs ≤ length b → i < length vs → get_or (sets b n vs) (n + i) 0 ≡ get_or vs i 0
-run-get b n vs i h l =
+pub run_get : (b : List ℕ) (n : ℕ) (vs : List ℕ) (i : ℕ) → n + length vs ≤ length b → i < length vs → get_or (sets b n vs) (n + i) 0 ≡ get_or vs i 0
+run_get b n vs i h l =
     let front = take n b in
     let e : length front ≡ n = length-take-le n b (omega arith) in
     let m : n + i < length (front ++ vs) = omega (arith, e, length-append front vs) in
@@ -44,8 +44,8 @@ run-get b n vs i h l =
     ∙ List·getD-append (front ++ vs) (drop (n + length vs) b) 0 (n + i) m
     ∙ subst (λ (k : ℕ). get_or (front ++ vs) (k + i) 0 ≡ get_or vs i 0) e (get_or-append-add front vs i 0)
 
-pub run-slice : (b : List ℕ) (n : ℕ) (vs : List ℕ) → n + length vs ≤ length b → slice n (n + length vs) (sets b n vs) ≡ vs
-run-slice b n vs h =
+pub run_slice : (b : List ℕ) (n : ℕ) (vs : List ℕ) → n + length vs ≤ length b → slice n (n + length vs) (sets b n vs) ≡ vs
+run_slice b n vs h =
     let front = take n b in
     let e : length front ≡ n = length-take-le n b (omega arith) in
     let m : length (front ++ vs) ≡ n + length vs = omega (arith, e, length-append front vs) in
@@ -54,8 +54,8 @@ run-slice b n vs h =
     ∙ drop_at front vs n e
 
 -- what stands there already changes nothing
-pub own-run : (b : List ℕ) (n m : ℕ) → n ≤ m → m ≤ length b → sets b n (slice n m b) ≡ b
-own-run b n m h k =
+pub own_run : (b : List ℕ) (n m : ℕ) → n ≤ m → m ≤ length b → sets b n (slice n m b) ≡ b
+own_run b n m h k =
     let e : length (slice n m b) ≡ m - n = length-slice n m b k in let f : n + length (slice n m b) ≡ m = omega arith in
     sets-eq (slice n m b) b n (omega arith)
     ∙ rw (f, ← take-take n m b h, take-append-drop n (take m b)) (take-append-drop m b)
@@ -65,18 +65,18 @@ set_below [] b n i a h = refl
 set_below (v ∷ vs) b n i a h =
     set_below vs (set b n v) (suc n) i a (omega arith) ∙ ap (λ (c : List ℕ). sets c (suc n) vs) (set_comm b n i v a (λ e. omega arith))
 
-run-twice : (vs b : List ℕ) (n : ℕ) → sets (sets b n vs) n vs ≡ sets b n vs
-run-twice [] b n = refl
-run-twice (v ∷ vs) b n =
+run_twice : (vs b : List ℕ) (n : ℕ) → sets (sets b n vs) n vs ≡ sets b n vs
+run_twice [] b n = refl
+run_twice (v ∷ vs) b n =
     ap (λ (c : List ℕ). sets c (suc n) vs) (set_below vs (set b n v) (suc n) n v (omega arith) ∙ ap (λ (c : List ℕ). sets c (suc n) vs) (set-set b n v v))
-    ∙ run-twice vs (set b n v) (suc n)
+    ∙ run_twice vs (set b n v) (suc n)
 
 -- rounds over the first of them
-pub rounds-over : (n : ℕ) (vs b : List ℕ) (i : ℕ) → 1 ≤ n → sets (sets b i vs) i (times n vs) ≡ sets b i (times n vs)
+pub rounds_over : (n : ℕ) (vs b : List ℕ) (i : ℕ) → 1 ≤ n → sets (sets b i vs) i (times n vs) ≡ sets b i (times n vs)
 unfolding times
-rounds-over zero vs b i h = absurd (omega arith)
-rounds-over (suc n) vs b i h =
-    sym (sets-append (sets b i vs) i vs (times n vs)) ∙ ap (λ (c : List ℕ). sets c (i + length vs) (times n vs)) (run-twice vs b i) ∙ sets-append b i vs (times n vs)
+rounds_over zero vs b i h = absurd (omega arith)
+rounds_over (suc n) vs b i h =
+    sym (sets_append (sets b i vs) i vs (times n vs)) ∙ ap (λ (c : List ℕ). sets c (i + length vs) (times n vs)) (run_twice vs b i) ∙ sets_append b i vs (times n vs)
 
 pub first_round : (n : ℕ) (l : List ℕ) → 1 ≤ n → take (length l) (times n l) ≡ l
 unfolding times

@@ -2,13 +2,13 @@
 use Rattle.std.specs.Prelude.{ℕ, ◌+◌, ◌*◌, Bool, true, false, not, ◌&&◌, List, [], ◌∷◌, ◌++◌, eqb, ltb, length}
 use Rattle.std.proofs.lemmas.List.Edits.{sets}
 use Rattle.words.specs.Words.{bytes_of}
-use Rattle.image.specs.Layout.{LEG-BYTES}
-use Rattle.image.specs.Parts.{legAt}
+use Rattle.image.specs.Layout.{LEG_BYTES}
+use Rattle.image.specs.Parts.{leg_at}
 use Rattle.outcome.specs.declared.Outcome.{Outcome}
 use Rattle.outcome.specs.declared.Outcome.TheVariants.{InputLength, BadPattern, LegCount, NoRoom, LegsApart}
-use Rattle.outcome.specs.Outcomes.{Table, first_of, differs, Left, leftUnless}
-use Rattle.route.specs.Form.{ROUTE-TRAILER-BYTES, MOST-LEGS, legsMeet}
-use Rattle.pattern.specs.Tree.{flownLegs}
+use Rattle.outcome.specs.Outcomes.{Table, first_of, differs, Left, left_unless}
+use Rattle.route.specs.Form.{ROUTE_TRAILER_BYTES, MOST_LEGS, legs_meet}
+use Rattle.pattern.specs.Tree.{flown_legs}
 use Rattle.pattern.specs.Read.{Read, broken, is, read}
 
 -- "repeats may stand inside repeats four deep"
@@ -21,48 +21,48 @@ unfoldable pub joined : List (List ℕ) → List ℕ
 joined [] = []
 joined (l ∷ ls) = l ++ joined ls
 
-abbrev pub routeLength : ℕ → ℕ
-routeLength n = LEG-BYTES * n + ROUTE-TRAILER-BYTES
+abbrev pub route_length : ℕ → ℕ
+route_length n = LEG_BYTES * n + ROUTE_TRAILER_BYTES
 
-unfoldable pub routeOf : List (List ℕ) → List ℕ
+unfoldable pub route_of : List (List ℕ) → List ℕ
 unfolding joined
-routeOf ls = joined ls ++ bytes_of (length ls ∷ LEG-BYTES * length ls ∷ [])
+route_of ls = joined ls ++ bytes_of (length ls ∷ LEG_BYTES * length ls ∷ [])
 
 -- "the legs must meet across repeats": each leg and the one that is flown after it
-unfoldable pub flownMeet : List (List ℕ) → Bool
-flownMeet [] = true
-flownMeet (l ∷ []) = true
-flownMeet (l ∷ m ∷ ls) = legsMeet (legAt l 0) (legAt m 0) && flownMeet (m ∷ ls)
+unfoldable pub flown_meet : List (List ℕ) → Bool
+flown_meet [] = true
+flown_meet (l ∷ []) = true
+flown_meet (l ∷ m ∷ ls) = legs_meet (leg_at l 0) (leg_at m 0) && flown_meet (m ∷ ls)
 
 -- ---- "Refusals: 12 a bad tag, count, depth or length, then 5 for no legs or more than 32, 9 if the route doesn't fit its buffer, 7", and before
 -- them 2, for a wrong buffer of the answer
 
-abbrev pub isBroken : Read → Bool
-isBroken broken = true
-isBroken (is p) = false
+abbrev pub is_broken : Read → Bool
+is_broken broken = true
+is_broken (is p) = false
 
-unfoldable pub legsRead : Read → List (List ℕ)
-legsRead broken = []
-legsRead (is p) = flownLegs p
+unfoldable pub legs_read : Read → List (List ℕ)
+legs_read broken = []
+legs_read (is p) = flown_legs p
 
 -- the legs that a pattern's bytes fly, in order
-abbrev pub legsOf : List ℕ → List (List ℕ)
-legsOf b = legsRead (read DEEPEST b)
+abbrev pub legs_of : List ℕ → List (List ℕ)
+legs_of b = legs_read (read DEEPEST b)
 
 -- of 1 to 32 legs
-abbrev pub routeTable : List (List ℕ) → ℕ → Table
-routeTable ls routeLen = (ltb routeLen (routeLength (length ls)), NoRoom) ∷ (not (flownMeet ls), LegsApart) ∷ []
+abbrev pub route_table : List (List ℕ) → ℕ → Table
+route_table ls routeLen = (ltb routeLen (route_length (length ls)), NoRoom) ∷ (not (flown_meet ls), LegsApart) ∷ []
 
-abbrev pub expandTable : List ℕ → ℕ → ℕ → Table
-expandTable b routeLen writtenLen =
+abbrev pub expand_table : List ℕ → ℕ → ℕ → Table
+expand_table b routeLen writtenLen =
     (differs writtenLen 4, InputLength)
-    ∷ (isBroken (read DEEPEST b), BadPattern)
-    ∷ (eqb (length (legsOf b)) 0, LegCount)
-    ∷ (ltb MOST-LEGS (length (legsOf b)), LegCount)
-    ∷ routeTable (legsOf b) routeLen
+    ∷ (is_broken (read DEEPEST b), BadPattern)
+    ∷ (eqb (length (legs_of b)) 0, LegCount)
+    ∷ (ltb MOST_LEGS (length (legs_of b)), LegCount)
+    ∷ route_table (legs_of b) routeLen
 
-unfoldable pub expandRefusal : List ℕ → ℕ → ℕ → Outcome
-expandRefusal b routeLen writtenLen = first_of (expandTable b routeLen writtenLen)
+unfoldable pub expand_refusal : List ℕ → ℕ → ℕ → Outcome
+expand_refusal b routeLen writtenLen = first_of (expand_table b routeLen writtenLen)
 
 -- ---- "The route takes the first bytes of its buffer, its length stands in the answer, and the bytes after it stay. A refused pattern writes nothing."
 
@@ -76,14 +76,14 @@ buffers route written = record { route = route; written = written }
 abbrev pub Expanded : Type 0
 Expanded = Left Outcome Buffers
 
-abbrev pub withRoute : List (List ℕ) → List ℕ → Buffers
-withRoute ls route = buffers (sets route 0 (routeOf ls)) (bytes_of (routeLength (length ls) ∷ []))
+abbrev pub with_route : List (List ℕ) → List ℕ → Buffers
+with_route ls route = buffers (sets route 0 (route_of ls)) (bytes_of (route_length (length ls) ∷ []))
 
-unfoldable pub expandCall : List ℕ → List ℕ → List ℕ → Expanded
-unfolding routeOf expandRefusal
-expandCall b route written = leftUnless (expandRefusal b (length route) (length written)) (withRoute (legsOf b) route) (buffers route written)
+unfoldable pub expand_call : List ℕ → List ℕ → List ℕ → Expanded
+unfolding route_of expand_refusal
+expand_call b route written = left_unless (expand_refusal b (length route) (length written)) (with_route (legs_of b) route) (buffers route written)
 
 -- the same once the legs are known and are 1 to 32
-unfoldable pub expandedCall : List (List ℕ) → List ℕ → List ℕ → Expanded
-unfolding routeOf
-expandedCall ls route written = leftUnless (first_of (routeTable ls (length route))) (withRoute ls route) (buffers route written)
+unfoldable pub expanded_call : List (List ℕ) → List ℕ → List ℕ → Expanded
+unfolding route_of
+expanded_call ls route written = left_unless (first_of (route_table ls (length route))) (with_route ls route) (buffers route written)

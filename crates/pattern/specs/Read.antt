@@ -1,6 +1,6 @@
 -- What the bytes of a pattern hold: they are broken, or they are a pattern. Definitions only.
 use Rattle.std.specs.Prelude.{ℕ, zero, suc, ◌+◌, ◌-◌, ◌*◌, cond, List, eqb, ltb, length, get_or, take, drop}
-use Rattle.image.specs.Layout.{LEG-BYTES}
+use Rattle.image.specs.Layout.{LEG_BYTES}
 use Rattle.pattern.specs.declared.form.Head.{Head}
 use Rattle.pattern.specs.declared.form.Head.TheVariants.{Neither, Leg, Repeat}
 use Rattle.pattern.specs.Tree.{Pattern, nothing, leg, repeat}
@@ -11,25 +11,25 @@ pub data Read : Type 0 where
 
 -- ---- "12 a bad tag, count, depth or length"
 
-abbrev pub innerLength : List ℕ → ℕ
-innerLength b = get_or b 2 0 + 256 * get_or b 3 0
+abbrev pub inner_length : List ℕ → ℕ
+inner_length b = get_or b 2 0 + 256 * get_or b 3 0
 
 -- what the bytes start with: a leg, a repeat with its count and the length of its inner bytes, or neither
 unfoldable pub head_of : List ℕ → Head
 head_of b =
-    cond (eqb (get_or b 0 0) 0) (cond (ltb (length b) (1 + LEG-BYTES)) Neither Leg)
+    cond (eqb (get_or b 0 0) 0) (cond (ltb (length b) (1 + LEG_BYTES)) Neither Leg)
     (cond (eqb (get_or b 0 0) 1)
     (cond (ltb (length b) 4) Neither
     (cond (eqb (get_or b 1 0) 0) Neither
     (cond (ltb 9 (get_or b 1 0)) Neither
-    (cond (ltb (length b - 4) (innerLength b)) Neither
-    (Repeat (get_or b 1 0) (innerLength b))))))
+    (cond (ltb (length b - 4) (inner_length b)) Neither
+    (Repeat (get_or b 1 0) (inner_length b))))))
     Neither)
 
 -- how many bytes an item takes
 unfoldable pub size_of : Head → ℕ
 size_of Neither = 1
-size_of Leg = 1 + LEG-BYTES
+size_of Leg = 1 + LEG_BYTES
 size_of (Repeat n len) = 4 + len
 
 unfoldable pub repeated : ℕ → Read → Read
@@ -40,7 +40,7 @@ repeated n (is p) = is (repeat n p nothing)
 unfoldable pub item_of : (List ℕ → Read) → List ℕ → Head → Read
 unfolding repeated
 item_of inside b Neither = broken
-item_of inside b Leg = is (leg (take LEG-BYTES (drop 1 b)) nothing)
+item_of inside b Leg = is (leg (take LEG_BYTES (drop 1 b)) nothing)
 item_of inside b (Repeat n len) = repeated n (inside (take len (drop 4 b)))
 
 -- one pattern's items, and then the other's
@@ -71,10 +71,10 @@ read (suc depth) b = items_of (read depth) (length b) b
 -- ---- what the walk speaks of
 
 -- what a repeat holds there: none may stand where the depth is used up
-unfoldable pub insideOf : ℕ → List ℕ → Read
+unfoldable pub inside_of : ℕ → List ℕ → Read
 unfolding read
-insideOf zero = λ _. broken
-insideOf (suc depth) = read depth
+inside_of zero = λ _. broken
+inside_of (suc depth) = read depth
 
-abbrev pub itemWithin : ℕ → List ℕ → Read
-itemWithin depth b = item_of (insideOf depth) b (head_of b)
+abbrev pub item_within : ℕ → List ℕ → Read
+item_within depth b = item_of (inside_of depth) b (head_of b)

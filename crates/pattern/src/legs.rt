@@ -3,10 +3,10 @@ ghost use Rattle.std.specs.Prelude.{◌≡◌, map, ◌∷◌, [], ◌+◌, ◌*
 ghost use Rattle.std.proofs.lemmas.List.Edits.{sets};
 ghost use Rattle.words.specs.Words.{Put};
 ghost use Rattle.outcome.specs.Outcomes.{left};
-ghost use Rattle.image.specs.Layout.{LEG-BYTES};
-ghost use Rattle.route.specs.Form.{ROUTE-TRAILER-BYTES, MOST-LEGS};
-ghost use Rattle.pattern.specs.Walk.{legIn, Places};
-ghost use Rattle.pattern.specs.Entry.{flownMeet, joined, buffers, expandedCall};
+ghost use Rattle.image.specs.Layout.{LEG_BYTES};
+ghost use Rattle.route.specs.Form.{ROUTE_TRAILER_BYTES, MOST_LEGS};
+ghost use Rattle.pattern.specs.Walk.{leg_in, Places};
+ghost use Rattle.pattern.specs.Entry.{flown_meet, joined, buffers, expanded_call};
 
 use image::{LEG_BYTES, LEG_WORDS};
 use outcome::Outcome;
@@ -15,8 +15,8 @@ use words::{put_bytes, put_word};
 
 // A part of the pattern: the bytes of a leg.
 fn leg_in(b: &[u8], place: usize) -> &[u8]
-    requires { place + LEG-BYTES ≤ length b.now }
-    ensures { result.now ≡ legIn b.now place }
+    requires { place + LEG_BYTES ≤ length b.now }
+    ensures { result.now ≡ leg_in b.now place }
 {
     let end = place + LEG_BYTES;
     &b[place..end]
@@ -25,7 +25,7 @@ fn leg_in(b: &[u8], place: usize) -> &[u8]
 // Whether each leg meets the one that is flown after it.
 fn all_meet(b: &[u8], places: &[usize], count: usize) -> bool
     requires { Places b.now places.now count }
-    ensures { result ≡ flownMeet (map (legIn b.now) (take count places.now)) }
+    ensures { result ≡ flown_meet (map (leg_in b.now) (take count places.now)) }
 {
     let mut i = 1;
     while i < count {
@@ -41,8 +41,8 @@ fn all_meet(b: &[u8], places: &[usize], count: usize) -> bool
 
 fn put_legs(b: &[u8], places: &[usize], count: usize, route: &mut [u8])
     requires places { Places b.now places.now count }
-    requires count_in_bounds { LEG-BYTES * count ≤ length route.old }
-    ensures { route.new ≡ sets route.old 0 (joined (map (legIn b.now) (take count places.now))) }
+    requires count_in_bounds { LEG_BYTES * count ≤ length route.old }
+    ensures { route.new ≡ sets route.old 0 (joined (map (leg_in b.now) (take count places.now))) }
 {
     let mut i = 0;
     while i < count {
@@ -53,8 +53,8 @@ fn put_legs(b: &[u8], places: &[usize], count: usize, route: &mut [u8])
 
 // The count, and how many bytes back the first leg starts.
 fn put_trailer(route: &mut [u8], count: usize)
-    requires { (LEG-BYTES * count + ROUTE-TRAILER-BYTES ≤ length route.old) × (count ≤ MOST-LEGS) }
-    ensures { Put route.old (19 * count) (count ∷ LEG-BYTES * count ∷ []) route.new }
+    requires { (LEG_BYTES * count + ROUTE_TRAILER_BYTES ≤ length route.old) × (count ≤ MOST_LEGS) }
+    ensures { Put route.old (19 * count) (count ∷ LEG_BYTES * count ∷ []) route.new }
 {
     let k = LEG_WORDS * count;
     put_word(route, k, count as u32);
@@ -70,8 +70,8 @@ pub(crate) fn put_route(
     written: &mut [u8],
 ) -> Outcome
     requires places { Places b.now places.now count }
-    requires count_bound { (count ≤ MOST-LEGS) × (length written.old ≡ 4) }
-    ensures { left result (buffers route.new written.new) ≡ expandedCall (map (legIn b.now) (take count places.now)) route.old written.old }
+    requires count_bound { (count ≤ MOST_LEGS) × (length written.old ≡ 4) }
+    ensures { left result (buffers route.new written.new) ≡ expanded_call (map (leg_in b.now) (take count places.now)) route.old written.old }
 {
     let length = LEG_BYTES * count + TRAILER_BYTES;
     if route.len() < length {

@@ -4,8 +4,8 @@ use Rattle.laws.proofs.Determined.{OneAnswer, no_second, both}
 use Rattle.probe.proofs.geo
 use Rattle.probe.proofs.numbers
 
-pub probe-gravity-ned-once : OneAnswer geo.probe_gravity_ned.ended geo.probe_gravity_ned.Reads.Post
-probe-gravity-ned-once κs a x y v w p q = (no_second p q, refl)
+pub probe_gravity_ned_once : OneAnswer geo.probe_gravity_ned.ended geo.probe_gravity_ned.Reads.Post
+probe_gravity_ned_once κs a x y v w p q = (no_second p q, refl)
 
-pub probe-sincos-once : OneAnswer numbers.probe_sincos.ended numbers.probe_sincos.Reads.Post
-probe-sincos-once κs a x y v w p q = (no_second p.0 q.0, both refl (both (no_second p.1 q.1) refl))
+pub probe_sincos_once : OneAnswer numbers.probe_sincos.ended numbers.probe_sincos.Reads.Post
+probe_sincos_once κs a x y v w p q = (no_second p.0 q.0, both refl (both (no_second p.1 q.1) refl))

@@ -15,14 +15,14 @@ use Rattle.probe.specs.declared.geo.RateAnswer.{RateAnswer}
 abbrev pub zero : Vec3
 zero = (0·0, 0·0, 0·0)
 
-abbrev pub axisAnswer : Direction → AxisAnswer
-axisAnswer (direction.Axis v) = record { given = true; axis = v }
-axisAnswer direction.Refused = record { given = false; axis = zero }
+abbrev pub axis_answer : Direction → AxisAnswer
+axis_answer (direction.Axis v) = record { given = true; axis = v }
+axis_answer direction.Refused = record { given = false; axis = zero }
 
-abbrev pub attitudeAnswer : Attitude → AttitudeAnswer
-attitudeAnswer (attitude.Matrix m) = record { given = true; matrix = m }
-attitudeAnswer attitude.Refused = record { given = false; matrix = (zero, zero, zero) }
+abbrev pub attitude_answer : Attitude → AttitudeAnswer
+attitude_answer (attitude.Matrix m) = record { given = true; matrix = m }
+attitude_answer attitude.Refused = record { given = false; matrix = (zero, zero, zero) }
 
-abbrev pub rateAnswer : Feedforward → RateAnswer
-rateAnswer (feedforward.Rate w) = record { given = true; rate = w }
-rateAnswer feedforward.Refused = record { given = false; rate = record { 0 = zero } }
+abbrev pub rate_answer : Feedforward → RateAnswer
+rate_answer (feedforward.Rate w) = record { given = true; rate = w }
+rate_answer feedforward.Refused = record { given = false; rate = record { 0 = zero } }

@@ -1,12 +1,12 @@
 // relay_geo.
 ghost use Rattle.std.specs.Prelude.{◌≡◌};
-ghost use Rattle.relay_geo.specs.Vectors.{GRAVITY-NED, cross, dot, norm, normalize, identity3, transpose3, matmul3, vee, sanitise3};
-ghost use Rattle.relay_geo.specs.Attitude.{quatToRotmat, desiredAttitude, thrustAxisNed, thrustAttitude, flatnessOmegaFf};
-ghost use Rattle.relay_geo.specs.Inner.{thrustOf, feedforwardOn};
-ghost use Rattle.relay_geo.specs.Controller.{FALCON-QUAD, psi, attitudeError, attitudeErrorReduced, momentReduced, moment, desiredRate, tick};
-ghost use Rattle.relay_geo.specs.Set.{newSet, margin, recoverable};
-ghost use Rattle.relay_geo.specs.Shield.{newShield, step, filter};
-ghost use Rattle.probe.specs.Answers.{axisAnswer, attitudeAnswer, rateAnswer};
+ghost use Rattle.relay_geo.specs.Vectors.{GRAVITY_NED, cross, dot, norm, normalize, identity3, transpose3, matmul3, vee, sanitise3};
+ghost use Rattle.relay_geo.specs.Attitude.{quat_to_rotmat, desired_attitude, thrust_axis_ned, thrust_attitude, flatness_omega_ff};
+ghost use Rattle.relay_geo.specs.Inner.{thrust_of, feedforward_on};
+ghost use Rattle.relay_geo.specs.Controller.{FALCON_QUAD, psi, attitude_error, attitude_error_reduced, moment_reduced, moment, desired_rate, tick};
+ghost use Rattle.relay_geo.specs.Set.{new_set, margin, recoverable};
+ghost use Rattle.relay_geo.specs.Shield.{new_shield, step, filter};
+ghost use Rattle.probe.specs.Answers.{axis_answer, attitude_answer, rate_answer};
 
 use relay_geo::{
     Attitude, Direction, Feedforward, GeoAtt, GeoGains, Mat3, Quat, RecoverableSet, Shielded,
@@ -38,7 +38,7 @@ pub struct RateAnswer {
 }
 
 fn axis_answer(d: Direction) -> AxisAnswer
-    ensures { result ≡ axisAnswer d }
+    ensures { result ≡ axis_answer d }
 {
     match d {
         Direction::Axis(v) => AxisAnswer {
@@ -53,7 +53,7 @@ fn axis_answer(d: Direction) -> AxisAnswer
 }
 
 fn attitude_answer(a: Attitude) -> AttitudeAnswer
-    ensures { result ≡ attitudeAnswer a }
+    ensures { result ≡ attitude_answer a }
 {
     match a {
         Attitude::Matrix(m) => AttitudeAnswer {
@@ -72,7 +72,7 @@ fn attitude_answer(a: Attitude) -> AttitudeAnswer
 }
 
 fn rate_answer(f: Feedforward) -> RateAnswer
-    ensures { result ≡ rateAnswer f }
+    ensures { result ≡ rate_answer f }
 {
     match f {
         Feedforward::Rate(w) => RateAnswer {
@@ -90,7 +90,7 @@ fn rate_answer(f: Feedforward) -> RateAnswer
 
 #[unsafe(no_mangle)]
 pub extern "C" fn probe_gravity_ned() -> Vec3
-    ensures { result ≡ GRAVITY-NED }
+    ensures { result ≡ GRAVITY_NED }
 {
     relay_geo::GRAVITY_NED
 }
@@ -118,7 +118,7 @@ pub extern "C" fn probe_norm(a: Vec3) -> f32
 
 #[unsafe(no_mangle)]
 pub extern "C" fn probe_normalize(a: Vec3) -> AxisAnswer
-    ensures { result ≡ axisAnswer (normalize a) }
+    ensures { result ≡ axis_answer (normalize a) }
 {
     axis_answer(relay_geo::normalize(a))
 }
@@ -162,28 +162,28 @@ pub extern "C" fn probe_sanitise3(v: Vec3) -> Vec3
 
 #[unsafe(no_mangle)]
 pub extern "C" fn probe_quat_to_rotmat(q: Quat) -> Mat3
-    ensures { result ≡ quatToRotmat q }
+    ensures { result ≡ quat_to_rotmat q }
 {
     relay_geo::quat_to_rotmat(q)
 }
 
 #[unsafe(no_mangle)]
 pub extern "C" fn probe_desired_attitude(b3_d: Vec3, yaw: f32) -> AttitudeAnswer
-    ensures { result ≡ attitudeAnswer (desiredAttitude b3_d yaw) }
+    ensures { result ≡ attitude_answer (desired_attitude b3_d yaw) }
 {
     attitude_answer(relay_geo::desired_attitude(b3_d, yaw))
 }
 
 #[unsafe(no_mangle)]
 pub extern "C" fn probe_thrust_axis_ned(a_cmd: Vec3) -> AxisAnswer
-    ensures { result ≡ axisAnswer (thrustAxisNed a_cmd) }
+    ensures { result ≡ axis_answer (thrust_axis_ned a_cmd) }
 {
     axis_answer(relay_geo::thrust_axis_ned(a_cmd))
 }
 
 #[unsafe(no_mangle)]
 pub extern "C" fn probe_thrust_attitude(a_cmd: Vec3, yaw: f32) -> AttitudeAnswer
-    ensures { result ≡ attitudeAnswer (thrustAttitude a_cmd yaw) }
+    ensures { result ≡ attitude_answer (thrust_attitude a_cmd yaw) }
 {
     attitude_answer(relay_geo::thrust_attitude(a_cmd, yaw))
 }
@@ -195,7 +195,7 @@ pub extern "C" fn probe_flatness_omega_ff(
     yaw: f32,
     yaw_rate: f32,
 ) -> RateAnswer
-    ensures { result ≡ rateAnswer (flatnessOmegaFf a_cmd j_cmd yaw yaw_rate) }
+    ensures { result ≡ rate_answer (flatness_omega_ff a_cmd j_cmd yaw yaw_rate) }
 {
     rate_answer(relay_geo::flatness_omega_ff(a_cmd, j_cmd, yaw, yaw_rate))
 }
@@ -208,7 +208,7 @@ pub extern "C" fn probe_feedforward_from(
     yaw: f32,
     yaw_rate: f32,
 ) -> RateAnswer
-    ensures { result ≡ rateAnswer (feedforwardOn (thrustOf a_cmd) j_cmd yaw_rate (thrustAttitude a_cmd yaw)) }
+    ensures { result ≡ rate_answer (feedforward_on (thrust_of a_cmd) j_cmd yaw_rate (thrust_attitude a_cmd yaw)) }
 {
     rate_answer(relay_geo::feedforward_on(
         relay_geo::thrust_of(a_cmd),
@@ -222,7 +222,7 @@ pub extern "C" fn probe_feedforward_from(
 
 #[unsafe(no_mangle)]
 pub extern "C" fn probe_geogains_falcon_quad() -> GeoGains
-    ensures { result ≡ FALCON-QUAD }
+    ensures { result ≡ FALCON_QUAD }
 {
     GeoGains::falcon_quad()
 }
@@ -243,14 +243,14 @@ pub extern "C" fn probe_geoatt_psi(r: Mat3, r_d: Mat3) -> f32
 
 #[unsafe(no_mangle)]
 pub extern "C" fn probe_geoatt_attitude_error(r: Mat3, r_d: Mat3) -> Vec3
-    ensures { result ≡ attitudeError r r_d }
+    ensures { result ≡ attitude_error r r_d }
 {
     GeoAtt::attitude_error(r, r_d)
 }
 
 #[unsafe(no_mangle)]
 pub extern "C" fn probe_geoatt_attitude_error_reduced(r: Mat3, b3_d: Vec3) -> Vec3
-    ensures { result ≡ attitudeErrorReduced r b3_d }
+    ensures { result ≡ attitude_error_reduced r b3_d }
 {
     GeoAtt::attitude_error_reduced(r, b3_d)
 }
@@ -262,7 +262,7 @@ pub extern "C" fn probe_geoatt_moment_reduced(
     omega: BodyRate,
     b3_d: Vec3,
 ) -> Torque
-    ensures { result ≡ momentReduced c.gains r omega b3_d }
+    ensures { result ≡ moment_reduced c.gains r omega b3_d }
 {
     c.moment_reduced(r, omega, b3_d)
 }
@@ -281,7 +281,7 @@ pub extern "C" fn probe_geoatt_desired_rate(
     a_cmd_ned: Vec3,
     yaw_d: f32,
 ) -> BodyRate
-    ensures { result ≡ desiredRate c.gains q_est a_cmd_ned yaw_d }
+    ensures { result ≡ desired_rate c.gains q_est a_cmd_ned yaw_d }
 {
     c.desired_rate(q_est, a_cmd_ned, yaw_d)
 }
@@ -303,7 +303,7 @@ pub extern "C" fn probe_geoatt_tick(
 
 #[unsafe(no_mangle)]
 pub extern "C" fn probe_recoverableset_new(k_r: f32, lambda_j: f32, psi_max: f32) -> RecoverableSet
-    ensures { result ≡ newSet k_r lambda_j psi_max }
+    ensures { result ≡ new_set k_r lambda_j psi_max }
 {
     RecoverableSet::new(k_r, lambda_j, psi_max)
 }
@@ -334,7 +334,7 @@ pub extern "C" fn probe_simplexshield_new(
     enter: f32,
     exit: f32,
 ) -> SimplexShield
-    ensures { result ≡ newShield set enter exit }
+    ensures { result ≡ new_shield set enter exit }
 {
     SimplexShield::new(set, enter, exit)
 }

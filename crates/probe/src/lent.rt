@@ -1,7 +1,7 @@
 // The routines over a lent state: the host hands in its own struct by a pointer, as the Rust's `&mut self` does.
 ghost use Rattle.std.specs.Prelude.{◌≡◌};
 ghost use Rattle.relay_geo.specs.Shield.{step};
-ghost use Rattle.relay_geo.specs.Lent.{pickedOf};
+ghost use Rattle.relay_geo.specs.Lent.{picked_of};
 ghost use Rattle.relay_traj.specs.Governor.{advance};
 
 use relay_geo::{Picked, SimplexShield};
@@ -15,7 +15,7 @@ pub extern "C" fn probe_simplexshield_step_lent(
     agile: BodyRate,
     fallback: BodyRate,
 ) -> Picked
-    ensures { (result ≡ pickedOf (step s.old margin agile fallback))
+    ensures { (result ≡ picked_of (step s.old margin agile fallback))
         × (s.new ≡ (step s.old margin agile fallback).shield) }
 {
     s.step_lent(margin, agile, fallback)

@@ -1,6 +1,6 @@
 // relay_math.
 ghost use Rattle.std.specs.Prelude.{◌≡◌};
-ghost use Rattle.relay_math.specs.F32.{is_finite, finiteOr, fabsf};
+ghost use Rattle.relay_math.specs.F32.{is_finite, finite_or, fabsf};
 ghost use Rattle.relay_math.specs.Sqrt.{sqrtf};
 ghost use Rattle.relay_math.specs.Steps.{sinf, cosf, sincos};
 
@@ -38,7 +38,7 @@ pub extern "C" fn probe_is_finite(x: f32) -> bool
 
 #[unsafe(no_mangle)]
 pub extern "C" fn probe_finite_or(x: f32, d: f32) -> f32
-    ensures { result ≡ finiteOr x d }
+    ensures { result ≡ finite_or x d }
 {
     relay_math::finite_or(x, d)
 }

@@ -1,9 +1,9 @@
 // relay_traj.
 ghost use Rattle.std.specs.Prelude.{◌≡◌};
-ghost use Rattle.relay_math.specs.F32.{finiteOr};
-ghost use Rattle.relay_traj.specs.Quintic.{quintic, eval, jerkCoeffs, peakAbsJerk};
-ghost use Rattle.relay_traj.specs.Segment.{segment, restToRest, duration, eval3, peakAbsJerk3};
-ghost use Rattle.relay_traj.specs.Governor.{clampTo, gateFactor, governor, gate, advance, reset};
+ghost use Rattle.relay_math.specs.F32.{finite_or};
+ghost use Rattle.relay_traj.specs.Quintic.{quintic, eval, jerk_coeffs, peak_abs_jerk};
+ghost use Rattle.relay_traj.specs.Segment.{segment, rest_to_rest, duration, eval3, peak_abs_jerk3};
+ghost use Rattle.relay_traj.specs.Governor.{clamp_to, gate_factor, governor, gate, advance, reset};
 
 use relay_math::Vec3;
 use relay_traj::{Advanced, JerkCoeffs, Quintic, RefGovernor, Sample, Sample3, Segment3};
@@ -12,7 +12,7 @@ use relay_traj::{Advanced, JerkCoeffs, Quintic, RefGovernor, Sample, Sample3, Se
 
 #[unsafe(no_mangle)]
 pub extern "C" fn probe_fin(x: f32, fallback: f32) -> f32
-    ensures { result ≡ finiteOr x fallback }
+    ensures { result ≡ finite_or x fallback }
 {
     relay_traj::fin(x, fallback)
 }
@@ -48,14 +48,14 @@ pub extern "C" fn probe_quintic_eval(q: Quintic, t: f32) -> Sample
 
 #[unsafe(no_mangle)]
 pub extern "C" fn probe_quintic_jerk_coeffs(q: Quintic) -> JerkCoeffs
-    ensures { result ≡ jerkCoeffs q }
+    ensures { result ≡ jerk_coeffs q }
 {
     q.jerk_coeffs()
 }
 
 #[unsafe(no_mangle)]
 pub extern "C" fn probe_quintic_peak_abs_jerk(q: Quintic) -> f32
-    ensures { result ≡ peakAbsJerk q }
+    ensures { result ≡ peak_abs_jerk q }
 {
     q.peak_abs_jerk()
 }
@@ -79,7 +79,7 @@ pub extern "C" fn probe_segment3_new(
 
 #[unsafe(no_mangle)]
 pub extern "C" fn probe_segment3_rest_to_rest(from: Vec3, to: Vec3, t: f32) -> Segment3
-    ensures { result ≡ restToRest from to t }
+    ensures { result ≡ rest_to_rest from to t }
 {
     Segment3::rest_to_rest(from, to, t)
 }
@@ -100,7 +100,7 @@ pub extern "C" fn probe_segment3_eval(s: Segment3, t: f32) -> Sample3
 
 #[unsafe(no_mangle)]
 pub extern "C" fn probe_segment3_peak_abs_jerk(s: Segment3) -> Vec3
-    ensures { result ≡ peakAbsJerk3 s }
+    ensures { result ≡ peak_abs_jerk3 s }
 {
     s.peak_abs_jerk()
 }
@@ -109,14 +109,14 @@ pub extern "C" fn probe_segment3_peak_abs_jerk(s: Segment3) -> Vec3
 
 #[unsafe(no_mangle)]
 pub extern "C" fn probe_clamp_to(x: f32, lo: f32) -> f32
-    ensures { result ≡ clampTo x lo }
+    ensures { result ≡ clamp_to x lo }
 {
     relay_traj::clamp_to(x, lo)
 }
 
 #[unsafe(no_mangle)]
 pub extern "C" fn probe_gate_factor(err: f32, lo: f32, hi: f32, g_min: f32) -> f32
-    ensures { result ≡ gateFactor err lo hi g_min }
+    ensures { result ≡ gate_factor err lo hi g_min }
 {
     relay_traj::gate_factor(err, lo, hi, g_min)
 }

@@ -6,39 +6,39 @@ use Rattle.relay_math.specs.declared.BodyRate.{BodyRate}
 use Rattle.relay_adrc.specs.declared.gains.AdrcGains.{AdrcGains}
 use Rattle.relay_adrc.specs.declared.rate.AdrcRate.{AdrcRate}
 use Rattle.relay_adrc.specs.declared.rate.RateTick.{RateTick}
-use Rattle.relay_adrc.specs.Gains.{withTau}
-use Rattle.relay_adrc.specs.Axis.{axisNew, axisTick, axisReset, axisSetDeliveredFraction}
+use Rattle.relay_adrc.specs.Gains.{with_tau}
+use Rattle.relay_adrc.specs.Axis.{axis_new, axis_tick, axis_reset, axis_set_delivered_fraction}
 
-abbrev pub rateNew : AdrcGains → AdrcGains → AdrcGains → AdrcRate
-rateNew roll pitch yaw = record { roll = axisNew roll; pitch = axisNew pitch; yaw = axisNew yaw }
+abbrev pub rate_new : AdrcGains → AdrcGains → AdrcGains → AdrcRate
+rate_new roll pitch yaw = record { roll = axis_new roll; pitch = axis_new pitch; yaw = axis_new yaw }
 
 -- 40.0, 12.0, 60.0, 0.0125 twice, and 30.0, 3.0, 18.0, 0.025
-abbrev pub falconQuad : AdrcRate
-falconQuad =
-    rateNew (withTau (f32 0x4220_0000) (f32 0x4140_0000) (f32 0x4270_0000) (f32 0x3c4c_cccd))
-    (withTau (f32 0x4220_0000) (f32 0x4140_0000) (f32 0x4270_0000) (f32 0x3c4c_cccd))
-    (withTau (f32 0x41f0_0000) 3·0 (f32 0x4190_0000) (f32 0x3ccc_cccd))
+abbrev pub falcon_quad : AdrcRate
+falcon_quad =
+    rate_new (with_tau (f32 0x4220_0000) (f32 0x4140_0000) (f32 0x4270_0000) (f32 0x3c4c_cccd))
+    (with_tau (f32 0x4220_0000) (f32 0x4140_0000) (f32 0x4270_0000) (f32 0x3c4c_cccd))
+    (with_tau (f32 0x41f0_0000) 3·0 (f32 0x4190_0000) (f32 0x3ccc_cccd))
 
-unfoldable pub rateTick : AdrcRate → BodyRate → BodyRate → Float → RateTick
-rateTick r omegaMeas omegaD dt =
-    let roll = axisTick r.roll omegaMeas.0.0 omegaD.0.0 dt in
-    let pitch = axisTick r.pitch omegaMeas.0.1 omegaD.0.1 dt in
-    let yaw = axisTick r.yaw omegaMeas.0.2 omegaD.0.2 dt in
+unfoldable pub rate_tick : AdrcRate → BodyRate → BodyRate → Float → RateTick
+rate_tick r omegaMeas omegaD dt =
+    let roll = axis_tick r.roll omegaMeas.0.0 omegaD.0.0 dt in
+    let pitch = axis_tick r.pitch omegaMeas.0.1 omegaD.0.1 dt in
+    let yaw = axis_tick r.yaw omegaMeas.0.2 omegaD.0.2 dt in
     record {
       rate = record { roll = roll.axis; pitch = pitch.axis; yaw = yaw.axis };
       torque = record { 0 = (roll.u, pitch.u, yaw.u) };
     }
 
-abbrev pub rateReset : AdrcRate → AdrcRate
-rateReset r = record { roll = axisReset r.roll; pitch = axisReset r.pitch; yaw = axisReset r.yaw }
+abbrev pub rate_reset : AdrcRate → AdrcRate
+rate_reset r = record { roll = axis_reset r.roll; pitch = axis_reset r.pitch; yaw = axis_reset r.yaw }
 
-abbrev pub rateSetDeliveredFraction : AdrcRate → Vec3 → AdrcRate
-rateSetDeliveredFraction r frac =
+abbrev pub rate_set_delivered_fraction : AdrcRate → Vec3 → AdrcRate
+rate_set_delivered_fraction r frac =
     record {
-      roll = axisSetDeliveredFraction r.roll frac.0;
-      pitch = axisSetDeliveredFraction r.pitch frac.1;
-      yaw = axisSetDeliveredFraction r.yaw frac.2;
+      roll = axis_set_delivered_fraction r.roll frac.0;
+      pitch = axis_set_delivered_fraction r.pitch frac.1;
+      yaw = axis_set_delivered_fraction r.yaw frac.2;
     }
 
-abbrev pub rateDisturbance : AdrcRate → Vec3
-rateDisturbance r = (r.roll.z2, r.pitch.z2, r.yaw.z2)
+abbrev pub rate_disturbance : AdrcRate → Vec3
+rate_disturbance r = (r.roll.z2, r.pitch.z2, r.yaw.z2)

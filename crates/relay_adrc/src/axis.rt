@@ -1,8 +1,8 @@
 // One axis of linear ADRC. An observer estimates the rate z1 and all that the nominal plant leaves out, z2; the control tracks the wanted rate and cancels z2.
 ghost use Rattle.std.specs.Prelude.{◌≡◌};
-ghost use Rattle.relay_math.specs.F32.{finiteOr};
-ghost use Rattle.relay_adrc.specs.Axis.{mendDt, positiveOr, mendB0, lag, deliveredFraction, axisNew, axisTick, axisReset, axisSetDeliveredFraction};
-ghost use Rattle.relay_adrc.specs.Inner.{axisObserve, axisAct};
+ghost use Rattle.relay_math.specs.F32.{finite_or};
+ghost use Rattle.relay_adrc.specs.Axis.{mend_dt, positive_or, mend_b0, lag, delivered_fraction, axis_new, axis_tick, axis_reset, axis_set_delivered_fraction};
+ghost use Rattle.relay_adrc.specs.Inner.{axis_observe, axis_act};
 
 use crate::gains::AdrcGains;
 
@@ -35,7 +35,7 @@ pub struct AxisTick {
 
 // The step that ADRC and the command filter take for a given dt.
 pub(crate) fn mend_dt(dt: f32) -> f32
-    ensures { result ≡ mendDt dt }
+    ensures { result ≡ mend_dt dt }
 {
     if relay_math::is_finite(dt) {
         relay_math::clamp(dt, 1e-4, 0.1)
@@ -46,7 +46,7 @@ pub(crate) fn mend_dt(dt: f32) -> f32
 
 // x if it is finite and above zero, else d.
 pub(crate) fn positive_or(x: f32, d: f32) -> f32
-    ensures { result ≡ positiveOr x d }
+    ensures { result ≡ positive_or x d }
 {
     if relay_math::finite_above(0.0, x) {
         x
@@ -57,7 +57,7 @@ pub(crate) fn positive_or(x: f32, d: f32) -> f32
 
 // The control divides by b0: one of size not above 1e-3, or non-finite, becomes 1.
 fn mend_b0(b0: f32) -> f32
-    ensures { result ≡ mendB0 b0 }
+    ensures { result ≡ mend_b0 b0 }
 {
     if relay_math::is_finite(b0) && relay_math::fabsf(b0) > 1e-3 {
         b0
@@ -79,7 +79,7 @@ fn lag(u_act: f32, u_delivered: f32, tau: f32, dt: f32) -> f32
 
 // The fraction kept for a reported one: within 0 to 1, and 1 where the report is non-finite.
 fn delivered_fraction(frac: f32) -> f32
-    ensures { result ≡ deliveredFraction frac }
+    ensures { result ≡ delivered_fraction frac }
 {
     if relay_math::is_finite(frac) {
         relay_math::clamp(frac, 0.0, 1.0)
@@ -89,14 +89,14 @@ fn delivered_fraction(frac: f32) -> f32
 }
 
 pub fn sanitise(x: f32, fallback: f32) -> f32
-    ensures { result ≡ finiteOr x fallback }
+    ensures { result ≡ finite_or x fallback }
 {
     relay_math::finite_or(x, fallback)
 }
 
 impl AdrcAxis {
     pub fn new(g: AdrcGains) -> Self
-        ensures { result ≡ axisNew g }
+        ensures { result ≡ axis_new g }
     {
         AdrcAxis {
             z1: 0.0,
@@ -116,7 +116,7 @@ impl AdrcAxis {
 
     // The half of a tick that looks back: the observer's step on what was measured.
     pub fn observe(self, omega_meas: f32, dt: f32) -> Observed
-        ensures { result ≡ axisObserve self omega_meas dt }
+        ensures { result ≡ axis_observe self omega_meas dt }
     {
         let g = self.g;
         let dt = mend_dt(dt);
@@ -143,7 +143,7 @@ impl AdrcAxis {
 
     // The half that acts: the command from what was observed and what is wanted.
     pub fn act(self, o: Observed, omega_d: f32) -> AxisTick
-        ensures { result ≡ axisAct self o omega_d }
+        ensures { result ≡ axis_act self o omega_d }
     {
         let g = self.g;
         let od = sanitise(omega_d, 0.0);
@@ -165,13 +165,13 @@ impl AdrcAxis {
 
     // In two halves, since the first needs nothing of what is wanted: a caller may take it early.
     pub fn tick(self, omega_meas: f32, omega_d: f32, dt: f32) -> AxisTick
-        ensures { result ≡ axisTick self omega_meas omega_d dt }
+        ensures { result ≡ axis_tick self omega_meas omega_d dt }
     {
         self.act(self.observe(omega_meas, dt), omega_d)
     }
 
     pub fn reset(self) -> Self
-        ensures { result ≡ axisReset self }
+        ensures { result ≡ axis_reset self }
     {
         let g = self.g;
         AdrcAxis::new(g)
@@ -179,7 +179,7 @@ impl AdrcAxis {
 
     // Set after one tick and used in the next, on the command of the first.
     pub fn set_delivered_fraction(self, frac: f32) -> Self
-        ensures { result ≡ axisSetDeliveredFraction self frac }
+        ensures { result ≡ axis_set_delivered_fraction self frac }
     {
         let g = self.g;
         AdrcAxis {

@@ -1,6 +1,6 @@
 // Second-order low-pass of one axis (RBJ's coefficients, Q = 1/√2), and of the gyro. The code is direct form I, though the Rust's comment has another.
 ghost use Rattle.std.specs.Prelude.{◌≡◌};
-ghost use Rattle.relay_adrc.specs.Biquad.{passesThrough, passthrough, lowpass, biquadFilter, gyroNew, gyroFilter};
+ghost use Rattle.relay_adrc.specs.Biquad.{passes_through, passthrough, lowpass, biquad_filter, gyro_new, gyro_filter};
 
 use relay_math::{BodyRate, Vec3};
 
@@ -32,7 +32,7 @@ pub struct Filtered {
 
 // Whether `lowpass` makes no filter of fc and fs. Set-up refuses by it (request Twelve).
 pub fn passes_through(fc: f32, fs: f32) -> bool
-    ensures { result ≡ passesThrough fc fs }
+    ensures { result ≡ passes_through fc fs }
 {
     !(fc > 0.0) || (!(fs > 0.0) || fc >= 0.5 * fs)
 }
@@ -82,7 +82,7 @@ impl Biquad {
 
     // One step. A non-finite input or output counts as 0.
     pub fn filter(self, x: f32) -> Filtered
-        ensures { result ≡ biquadFilter self x }
+        ensures { result ≡ biquad_filter self x }
     {
         let x = relay_math::finite_or(x, 0.0);
         let y = self.b0 * x + self.b1 * self.x1 + self.b2 * self.x2
@@ -123,7 +123,7 @@ pub struct GyroFiltered {
 
 impl GyroLpf {
     pub fn new(fc: f32, fs: f32) -> Self
-        ensures { result ≡ gyroNew fc fs }
+        ensures { result ≡ gyro_new fc fs }
     {
         let b = Biquad::lowpass(fc, fs);
         GyroLpf {
@@ -134,7 +134,7 @@ impl GyroLpf {
     }
 
     pub fn filter(self, gyro: BodyRate) -> GyroFiltered
-        ensures { result ≡ gyroFilter self gyro }
+        ensures { result ≡ gyro_filter self gyro }
     {
         let g = gyro.0;
         let roll = self.roll.filter(g.0);

@@ -1,7 +1,7 @@
 // The command filter: second order, critically damped, with the value and its rate held within limits.
 ghost use Rattle.std.specs.Prelude.{◌≡◌};
 ghost use Rattle.std.specs.Float.Ieee.{is_nan};
-ghost use Rattle.relay_adrc.specs.Filter.{clampSym, filterNew, filterStep, filterReset, filter3New, filter3Step, filter3Reset};
+ghost use Rattle.relay_adrc.specs.Filter.{clamp_sym, filter_new, filter_step, filter_reset, filter3_new, filter3_step, filter3_reset};
 
 use crate::axis::{mend_dt, positive_or};
 use relay_math::{BodyRate, Vec3};
@@ -14,7 +14,7 @@ fn is_nan(x: f32) -> bool
 
 // x within -m to m. A limit of +infinity passes x; a NaN or negative limit, and a non-finite x, give 0 (the Rust's comment says the bound).
 pub fn clamp_sym(x: f32, m: f32) -> f32
-    ensures { result ≡ clampSym x m }
+    ensures { result ≡ clamp_sym x m }
 {
     let x = relay_math::finite_or(x, 0.0);
     if is_nan(m) || m < 0.0 {
@@ -48,7 +48,7 @@ pub struct Stepped {
 
 impl CommandFilter {
     pub fn new(omega_n: f32, max_mag: f32, max_rate: f32) -> Self
-        ensures { result ≡ filterNew omega_n max_mag max_rate }
+        ensures { result ≡ filter_new omega_n max_mag max_rate }
     {
         CommandFilter {
             omega_n: positive_or(omega_n, 1.0),
@@ -61,7 +61,7 @@ impl CommandFilter {
 
     // One step, with the value and the rate held within their limits.
     pub fn step(self, u: f32, dt: f32) -> Stepped
-        ensures { result ≡ filterStep self u dt }
+        ensures { result ≡ filter_step self u dt }
     {
         let dt = mend_dt(dt);
         let u = relay_math::finite_or(u, 0.0);
@@ -97,7 +97,7 @@ impl CommandFilter {
     }
 
     pub fn reset(self) -> Self
-        ensures { result ≡ filterReset self }
+        ensures { result ≡ filter_reset self }
     {
         CommandFilter {
             omega_n: self.omega_n,
@@ -126,7 +126,7 @@ pub struct Stepped3 {
 
 impl CommandFilter3 {
     pub fn new(omega_n: f32, max_mag: f32, max_rate: f32) -> Self
-        ensures { result ≡ filter3New omega_n max_mag max_rate }
+        ensures { result ≡ filter3_new omega_n max_mag max_rate }
     {
         let f = CommandFilter::new(omega_n, max_mag, max_rate);
         CommandFilter3 {
@@ -138,7 +138,7 @@ impl CommandFilter3 {
 
     // A desired body rate, shaped axis by axis.
     pub fn step(self, u: BodyRate, dt: f32) -> Stepped3
-        ensures { result ≡ filter3Step self u dt }
+        ensures { result ≡ filter3_step self u dt }
     {
         let w = u.0;
         let roll = self.roll.step(w.0, dt);
@@ -158,7 +158,7 @@ impl CommandFilter3 {
     }
 
     pub fn reset(self) -> Self
-        ensures { result ≡ filter3Reset self }
+        ensures { result ≡ filter3_reset self }
     {
         CommandFilter3 {
             roll: self.roll.reset(),

@@ -1,6 +1,6 @@
 // Three axes of ADRC: roll, pitch, yaw. A measured and a wanted body rate go in, a torque comes out.
 ghost use Rattle.std.specs.Prelude.{◌≡◌};
-ghost use Rattle.relay_adrc.specs.Rate.{rateNew, falconQuad, rateTick, rateReset, rateSetDeliveredFraction, rateDisturbance};
+ghost use Rattle.relay_adrc.specs.Rate.{rate_new, falcon_quad, rate_tick, rate_reset, rate_set_delivered_fraction, rate_disturbance};
 
 use crate::axis::AdrcAxis;
 use crate::gains::AdrcGains;
@@ -23,7 +23,7 @@ pub struct RateTick {
 
 impl AdrcRate {
     pub fn new(roll: AdrcGains, pitch: AdrcGains, yaw: AdrcGains) -> Self
-        ensures { result ≡ rateNew roll pitch yaw }
+        ensures { result ≡ rate_new roll pitch yaw }
     {
         AdrcRate {
             roll: AdrcAxis::new(roll),
@@ -34,7 +34,7 @@ impl AdrcRate {
 
     // The quad's tuning: yaw has a slower controller, since its torque comes late from the rotors' drag.
     pub fn falcon_quad() -> Self
-        ensures { result ≡ falconQuad }
+        ensures { result ≡ falcon_quad }
     {
         AdrcRate::new(
             AdrcGains::with_tau(40.0, 12.0, 60.0, 0.0125),
@@ -44,7 +44,7 @@ impl AdrcRate {
     }
 
     pub fn tick(self, omega_meas: BodyRate, omega_d: BodyRate, dt: f32) -> RateTick
-        ensures { result ≡ rateTick self omega_meas omega_d dt }
+        ensures { result ≡ rate_tick self omega_meas omega_d dt }
     {
         let m = omega_meas.0;
         let d = omega_d.0;
@@ -65,7 +65,7 @@ impl AdrcRate {
     }
 
     pub fn reset(self) -> Self
-        ensures { result ≡ rateReset self }
+        ensures { result ≡ rate_reset self }
     {
         AdrcRate {
             roll: self.roll.reset(),
@@ -76,7 +76,7 @@ impl AdrcRate {
 
     // One fraction for each axis: an allocator that gives up yaw first delivers the others whole.
     pub fn set_delivered_fraction(self, frac: Vec3) -> Self
-        ensures { result ≡ rateSetDeliveredFraction self frac }
+        ensures { result ≡ rate_set_delivered_fraction self frac }
     {
         AdrcRate {
             roll: self.roll.set_delivered_fraction(frac.0),
@@ -86,7 +86,7 @@ impl AdrcRate {
     }
 
     pub fn disturbance(self) -> Vec3
-        ensures { result ≡ rateDisturbance self }
+        ensures { result ≡ rate_disturbance self }
     {
         Vec3(
             self.roll.disturbance(),

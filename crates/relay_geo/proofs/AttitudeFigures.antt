@@ -1,8 +1,8 @@
 -- Document 01's worked figures for attitudes, in steps, so that each root is computed once. Assumes nothing.
 use Rattle.laws.proofs.Prelude.{◌≡◌, refl, true, false, pos, of_bits, sub, add, mul, div, lt, le}
 use Rattle.relay_math.specs.{declared.Vec3.Vec3, F32.{0·0, 1·0, is_finite, grains}, Sqrt.sqrtf, Steps.{sinf, cosf}}
-use Rattle.relay_geo.specs.{declared.attitude.Attitude.TheVariants.{Matrix, Refused}, Vectors.{identity3, cross, dot, over, long, normalize}, Attitude.{heading, desiredAttitude}}
-use Rattle.relay_geo.proofs.Blank.{none, Blank3, blank-refused}
+use Rattle.relay_geo.specs.{declared.attitude.Attitude.TheVariants.{Matrix, Refused}, Vectors.{identity3, cross, dot, over, long, normalize}, Attitude.{heading, desired_attitude}}
+use Rattle.relay_geo.proofs.Blank.{none, Blank3, blank_refused}
 use Rattle.relay_geo.specs.declared.vectors.Direction.TheVariants as direction
 
 abbrev x : Vec3
@@ -14,30 +14,30 @@ y = (0·0, 1·0, 0·0)
 abbrev z : Vec3
 z = (0·0, 0·0, 1·0)
 
-root-one : sqrtf 1·0 ≡ 1·0
+root_one : sqrtf 1·0 ≡ 1·0
 unfolding sqrtf grains of_bits
-root-one = refl
+root_one = refl
 
-long-one : long 1·0 ≡ true
+long_one : long 1·0 ≡ true
 unfolding is_finite lt of_bits
-long-one = refl
+long_one = refl
 
 -- of length one, and kept by the division
 kept : (v : Vec3) → dot v v ≡ 1·0 → over v 1·0 ≡ v → normalize v ≡ direction.Axis v
 unfolding normalize
-kept v d k = rw (d, root-one, long-one, k)
+kept v d k = rw (d, root_one, long_one, k)
 
-unit-x : normalize x ≡ direction.Axis x
+unit_x : normalize x ≡ direction.Axis x
 unfolding dot add mul div of_bits
-unit-x = kept x refl refl
+unit_x = kept x refl refl
 
-unit-y : normalize y ≡ direction.Axis y
+unit_y : normalize y ≡ direction.Axis y
 unfolding dot add mul div of_bits
-unit-y = kept y refl refl
+unit_y = kept y refl refl
 
-unit-z : normalize z ≡ direction.Axis z
+unit_z : normalize z ≡ direction.Axis z
 unfolding dot add mul div of_bits
-unit-z = kept z refl refl
+unit_z = kept z refl refl
 
 north : heading 0·0 ≡ x
 unfolding heading sinf cosf lt le of_bits
@@ -56,11 +56,11 @@ unfolding cross sub mul of_bits
 parallel = record { x = none false (pos 0); y = none false (pos 0); z = none false (pos 0) }
 
 -- "Axis [0,0,1], yaw 0: identity."
-pub level : desiredAttitude (0·0, 0·0, 1·0) 0·0 ≡ Matrix identity3
-unfolding desiredAttitude
-level = rw (unit-z, north, across, unit-y, back)
+pub level : desired_attitude (0·0, 0·0, 1·0) 0·0 ≡ Matrix identity3
+unfolding desired_attitude
+level = rw (unit_z, north, across, unit_y, back)
 
 -- "Axis [1,0,0], yaw 0: refused."
-pub sideways : desiredAttitude (1·0, 0·0, 0·0) 0·0 ≡ Refused
-unfolding desiredAttitude
-sideways = rw (unit-x, north, blank-refused (cross x x) parallel)
+pub sideways : desired_attitude (1·0, 0·0, 0·0) 0·0 ≡ Refused
+unfolding desired_attitude
+sideways = rw (unit_x, north, blank_refused (cross x x) parallel)

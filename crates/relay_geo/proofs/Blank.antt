@@ -1,7 +1,7 @@
 -- A zero or a NaN: what is made of such numbers, or by a product with zero, is one again. Assumes nothing.
 use Rattle.laws.proofs.Prelude.{◌≡◌, refl, Bool, true, false, not, and-false, ℕ, ◌*◌, ◌^◌, zero-mul, mul-zero, arith, le-ltb, ℤ, pos, negsuc, Float, nan, inf, fin, binary32, up, down, unlike, round}
 use Rattle.laws.proofs.Prelude.{neg, sum, add, sub, mul, lt, of_bits}
-use Rattle.relay_math.{specs.{declared.Vec3.Vec3, F32.{◌⊕◌, ◌⊖◌, ◌⊗◌, is_finite}, Sqrt.sqrtf}, proofs.Sums.round-zero}
+use Rattle.relay_math.{specs.{declared.Vec3.Vec3, F32.{◌⊕◌, ◌⊖◌, ◌⊗◌, is_finite}, Sqrt.sqrtf}, proofs.Sums.round_zero}
 use Rattle.relay_geo.specs.{Vectors.{1e-9, cross, dot, norm, normalize}, declared.vectors.Direction.TheVariants.Refused}
 
 pub data Blank : Float → Type 0 where
@@ -9,7 +9,7 @@ pub data Blank : Float → Type 0 where
   none : (s : Bool) (e : ℤ) → Blank (fin s 0 e)
 
 rounded : (s : Bool) (c : ℕ) → Blank (round binary32 s 0 c)
-rounded s c = rw (round-zero s c) (none s (pos 0))
+rounded s c = rw (round_zero s c) (none s (pos 0))
 
 -- ---- products, sums, differences, the root
 
@@ -54,11 +54,11 @@ pub 1e-9-is : 1e-9 ≡ fin false 9007199 (negsuc 52)
 unfolding of_bits
 1e-9-is = refl
 
-not-above : {x : Float} → Blank x → lt 1e-9 x ≡ false
+not_above : {x : Float} → Blank x → lt 1e-9 x ≡ false
 unfolding lt
-not-above number = rw 1e-9-is
-not-above (none true e) = rw 1e-9-is
-not-above (none false e) = rw 1e-9-is (le-ltb (9007199 * 1 * down e) (0 * up e * 2 ^ 53) (omega arith))
+not_above number = rw 1e-9-is
+not_above (none true e) = rw 1e-9-is
+not_above (none false e) = rw 1e-9-is (le-ltb (9007199 * 1 * down e) (0 * up e * 2 ^ 53) (omega arith))
 
 -- the three numbers of a vector
 pub record Blank3 (v : Vec3) : Type 0 where
@@ -66,14 +66,14 @@ pub record Blank3 (v : Vec3) : Type 0 where
   pub y : Blank v.1
   pub z : Blank v.2
 
-pub norm-blank : (v : Vec3) → Blank3 v → Blank (norm v)
+pub norm_blank : (v : Vec3) → Blank3 v → Blank (norm v)
 unfolding dot
-norm-blank v b = root (total (total (product b.x b.x) (product b.y b.y)) (product b.z b.z))
+norm_blank v b = root (total (total (product b.x b.x) (product b.y b.y)) (product b.z b.z))
 
-pub cross-blank : (v : Vec3) → Blank3 (cross v (fin false 0 (pos 0), fin false 0 (pos 0), fin false 0 (pos 0)))
+pub cross_blank : (v : Vec3) → Blank3 (cross v (fin false 0 (pos 0), fin false 0 (pos 0), fin false 0 (pos 0)))
 unfolding cross
-cross-blank v = record { x = less (by_zero v.1) (by_zero v.2); y = less (by_zero v.2) (by_zero v.0); z = less (by_zero v.0) (by_zero v.1) }
+cross_blank v = record { x = less (by_zero v.1) (by_zero v.2); y = less (by_zero v.2) (by_zero v.0); z = less (by_zero v.0) (by_zero v.1) }
 
-pub blank-refused : (v : Vec3) → Blank3 v → normalize v ≡ Refused
+pub blank_refused : (v : Vec3) → Blank3 v → normalize v ≡ Refused
 unfolding normalize
-blank-refused v b = rw (not-above (norm-blank v b), and-false (is_finite (norm v)))
+blank_refused v b = rw (not_above (norm_blank v b), and-false (is_finite (norm v)))

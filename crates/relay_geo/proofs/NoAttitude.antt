@@ -1,60 +1,60 @@
 -- No desired attitude: in free fall, and at a heading that is no number, infinite or beyond the limit. Assumes nothing.
 use Rattle.laws.proofs.Prelude.{◌≡◌, refl, false, not, T, pos, Float, fin, of_bits, sub}
-use Rattle.relay_math.{specs.{declared.{Vec3.Vec3, BodyRate.BodyRate}, F32.{0·0, is_finite}, Exact.in_range}, proofs.FiniteOr.sin-cos-far}
+use Rattle.relay_math.{specs.{declared.{Vec3.Vec3, BodyRate.BodyRate}, F32.{0·0, is_finite}, Exact.in_range}, proofs.FiniteOr.sin_cos_far}
 use Rattle.relay_geo.specs.declared.{vectors.{Quat.Quat, Direction.Direction}, attitude.Attitude.TheVariants.Refused, controller.GeoGains.GeoGains}
-use Rattle.relay_geo.specs.{Vectors.{GRAVITY-NED, normalize, sanitise3}, Attitude.{heading, attitudeOf, desiredAttitude, alongAxis, thrustForce, thrustAxisNed, thrustAttitude}}
-use Rattle.relay_geo.specs.Controller.{against, desiredRate, tick}
-use Rattle.relay_geo.proofs.Blank.{none, cross-blank, blank-refused}
+use Rattle.relay_geo.specs.{Vectors.{GRAVITY_NED, normalize, sanitise3}, Attitude.{heading, attitude_of, desired_attitude, along_axis, thrust_force, thrust_axis_ned, thrust_attitude}}
+use Rattle.relay_geo.specs.Controller.{against, desired_rate, tick}
+use Rattle.relay_geo.proofs.Blank.{none, cross_blank, blank_refused}
 use Rattle.relay_geo.specs.declared.vectors.Direction.TheVariants as direction
 
 -- with no attitude `desired_rate` gives zeros and `tick` rate damping alone
-pub no-attitude-rate : (g : GeoGains) (q : Quat) (a : Vec3) (yaw : Float) → thrustAttitude (sanitise3 a) yaw ≡ Refused → desiredRate g q a yaw ≡ record { 0 = (0·0, 0·0, 0·0) }
-unfolding desiredRate
-no-attitude-rate g q a yaw n = rw n
+pub no_attitude_rate : (g : GeoGains) (q : Quat) (a : Vec3) (yaw : Float) → thrust_attitude (sanitise3 a) yaw ≡ Refused → desired_rate g q a yaw ≡ record { 0 = (0·0, 0·0, 0·0) }
+unfolding desired_rate
+no_attitude_rate g q a yaw n = rw n
 
-pub no-attitude-tick : (g : GeoGains) (q : Quat) (w : BodyRate) (a : Vec3) (yaw : Float)
-    → thrustAttitude (sanitise3 a) yaw ≡ Refused
+pub no_attitude_tick : (g : GeoGains) (q : Quat) (w : BodyRate) (a : Vec3) (yaw : Float)
+    → thrust_attitude (sanitise3 a) yaw ≡ Refused
     → tick g q w a yaw ≡ record { 0 = sanitise3 (against g.k_omega (sanitise3 w.0)) }
 unfolding tick
-no-attitude-tick g q w a yaw n = rw n
+no_attitude_tick g q w a yaw n = rw n
 
 -- "Acceleration [0,0,9.81]: damping only."
-free-fall : thrustAxisNed GRAVITY-NED ≡ direction.Refused
-unfolding thrustAxisNed thrustForce of_bits sub
-free-fall = blank-refused (thrustForce GRAVITY-NED) record { x = none false (pos 0); y = none false (pos 0); z = none false (pos 0) }
+free_fall : thrust_axis_ned GRAVITY_NED ≡ direction.Refused
+unfolding thrust_axis_ned thrust_force of_bits sub
+free_fall = blank_refused (thrust_force GRAVITY_NED) record { x = none false (pos 0); y = none false (pos 0); z = none false (pos 0) }
 
-clean : sanitise3 GRAVITY-NED ≡ GRAVITY-NED
+clean : sanitise3 GRAVITY_NED ≡ GRAVITY_NED
 unfolding is_finite of_bits
 clean = refl
 
-pub free-fall-damps : (g : GeoGains) (q : Quat) (w : BodyRate) (yaw : Float) → tick g q w GRAVITY-NED yaw ≡ record { 0 = sanitise3 (against g.k_omega (sanitise3 w.0)) }
-unfolding thrustAttitude
-free-fall-damps g q w yaw = no-attitude-tick g q w GRAVITY-NED yaw (rw (clean, free-fall))
+pub free_fall_damps : (g : GeoGains) (q : Quat) (w : BodyRate) (yaw : Float) → tick g q w GRAVITY_NED yaw ≡ record { 0 = sanitise3 (against g.k_omega (sanitise3 w.0)) }
+unfolding thrust_attitude
+free_fall_damps g q w yaw = no_attitude_tick g q w GRAVITY_NED yaw (rw (clean, free_fall))
 
 -- "A non-finite yaw makes the heading vector zero, so `desired_attitude` refuses", and so does one beyond the limit.
 module _ (yaw : Float) (far : T (not (in_range yaw))) where
-  zero-heading : heading yaw ≡ (fin false 0 (pos 0), fin false 0 (pos 0), fin false 0 (pos 0))
+  zero_heading : heading yaw ≡ (fin false 0 (pos 0), fin false 0 (pos 0), fin false 0 (pos 0))
   unfolding heading of_bits
-  zero-heading = let z = sin-cos-far yaw far in rw (z.0, z.1)
+  zero_heading = let z = sin_cos_far yaw far in rw (z.0, z.1)
 
-  no-columns : (d : Direction) → attitudeOf d yaw ≡ Refused
-  no-columns (direction.Axis b) = rw (zero-heading, blank-refused _ (cross-blank b))
-  no-columns direction.Refused = refl
+  no_columns : (d : Direction) → attitude_of d yaw ≡ Refused
+  no_columns (direction.Axis b) = rw (zero_heading, blank_refused _ (cross_blank b))
+  no_columns direction.Refused = refl
 
-  pub bad-heading-refused : (b : Vec3) → desiredAttitude b yaw ≡ Refused
-  unfolding desiredAttitude
-  bad-heading-refused b = no-columns (normalize b)
+  pub bad_heading_refused : (b : Vec3) → desired_attitude b yaw ≡ Refused
+  unfolding desired_attitude
+  bad_heading_refused b = no_columns (normalize b)
 
-  along : (d : Direction) → alongAxis d yaw ≡ Refused
-  along (direction.Axis b) = bad-heading-refused b
+  along : (d : Direction) → along_axis d yaw ≡ Refused
+  along (direction.Axis b) = bad_heading_refused b
   along direction.Refused = refl
 
-  pub bad-heading-none : (a : Vec3) → thrustAttitude a yaw ≡ Refused
-  unfolding thrustAttitude
-  bad-heading-none a = along (thrustAxisNed a)
+  pub bad_heading_none : (a : Vec3) → thrust_attitude a yaw ≡ Refused
+  unfolding thrust_attitude
+  bad_heading_none a = along (thrust_axis_ned a)
 
-  pub bad-heading-rate : (g : GeoGains) (q : Quat) (a : Vec3) → desiredRate g q a yaw ≡ record { 0 = (0·0, 0·0, 0·0) }
-  bad-heading-rate g q a = no-attitude-rate g q a yaw (bad-heading-none (sanitise3 a))
+  pub bad_heading_rate : (g : GeoGains) (q : Quat) (a : Vec3) → desired_rate g q a yaw ≡ record { 0 = (0·0, 0·0, 0·0) }
+  bad_heading_rate g q a = no_attitude_rate g q a yaw (bad_heading_none (sanitise3 a))
 
-  pub bad-heading-tick : (g : GeoGains) (q : Quat) (w : BodyRate) (a : Vec3) → tick g q w a yaw ≡ record { 0 = sanitise3 (against g.k_omega (sanitise3 w.0)) }
-  bad-heading-tick g q w a = no-attitude-tick g q w a yaw (bad-heading-none (sanitise3 a))
+  pub bad_heading_tick : (g : GeoGains) (q : Quat) (w : BodyRate) (a : Vec3) → tick g q w a yaw ≡ record { 0 = sanitise3 (against g.k_omega (sanitise3 w.0)) }
+  bad_heading_tick g q w a = no_attitude_tick g q w a yaw (bad_heading_none (sanitise3 a))

@@ -1,7 +1,7 @@
 -- Of each public function here: no second answer fits its promise. Assumes nothing.
 use Rattle.laws.proofs.Prelude.{◌≡◌, refl}
 use Rattle.laws.proofs.Determined.{Promise, OneAnswer, Says, no_second, both}
-use Rattle.relay_geo.specs.{Shield.step, Lent.pickedOf}
+use Rattle.relay_geo.specs.{Shield.step, Lent.picked_of}
 use Rattle.relay_geo.proofs.attitude
 use Rattle.relay_geo.proofs.controller
 use Rattle.relay_geo.proofs.set
@@ -9,119 +9,119 @@ use Rattle.relay_geo.proofs.shield
 use Rattle.relay_geo.specs.contracts.shield.SimplexShield.step_lent as lent
 use Rattle.relay_geo.proofs.vectors
 
-pub quat-to-rotmat-once : OneAnswer attitude.quat_to_rotmat.ended attitude.quat_to_rotmat.Reads.Post
-quat-to-rotmat-once κs a x y v w p q = (no_second p q, refl)
+pub quat_to_rotmat_once : OneAnswer attitude.quat_to_rotmat.ended attitude.quat_to_rotmat.Reads.Post
+quat_to_rotmat_once κs a x y v w p q = (no_second p q, refl)
 
-pub desired-attitude-once : OneAnswer attitude.desired_attitude.ended attitude.desired_attitude.Reads.Post
-desired-attitude-once κs a x y v w p q = (no_second p q, refl)
+pub desired_attitude_once : OneAnswer attitude.desired_attitude.ended attitude.desired_attitude.Reads.Post
+desired_attitude_once κs a x y v w p q = (no_second p q, refl)
 
-pub thrust-axis-ned-once : OneAnswer attitude.thrust_axis_ned.ended attitude.thrust_axis_ned.Reads.Post
-thrust-axis-ned-once κs a x y v w p q = (no_second p q, refl)
+pub thrust_axis_ned_once : OneAnswer attitude.thrust_axis_ned.ended attitude.thrust_axis_ned.Reads.Post
+thrust_axis_ned_once κs a x y v w p q = (no_second p q, refl)
 
-pub thrust-attitude-once : OneAnswer attitude.thrust_attitude.ended attitude.thrust_attitude.Reads.Post
-thrust-attitude-once κs a x y v w p q = (no_second p q, refl)
+pub thrust_attitude_once : OneAnswer attitude.thrust_attitude.ended attitude.thrust_attitude.Reads.Post
+thrust_attitude_once κs a x y v w p q = (no_second p q, refl)
 
-pub flatness-omega-ff-once : OneAnswer attitude.flatness_omega_ff.ended attitude.flatness_omega_ff.Reads.Post
-flatness-omega-ff-once κs a x y v w p q = (no_second p q, refl)
+pub flatness_omega_ff_once : OneAnswer attitude.flatness_omega_ff.ended attitude.flatness_omega_ff.Reads.Post
+flatness_omega_ff_once κs a x y v w p q = (no_second p q, refl)
 
-pub thrust-of-once : OneAnswer attitude.thrust_of.ended attitude.thrust_of.Reads.Post
-thrust-of-once κs a x y v w p q = (no_second p q, refl)
+pub thrust_of_once : OneAnswer attitude.thrust_of.ended attitude.thrust_of.Reads.Post
+thrust_of_once κs a x y v w p q = (no_second p q, refl)
 
-pub attitude-on-once : OneAnswer attitude.attitude_on.ended attitude.attitude_on.Reads.Post
-attitude-on-once κs a x y v w p q = (no_second p q, refl)
+pub attitude_on_once : OneAnswer attitude.attitude_on.ended attitude.attitude_on.Reads.Post
+attitude_on_once κs a x y v w p q = (no_second p q, refl)
 
-pub feedforward-on-once : OneAnswer attitude.feedforward_on.ended attitude.feedforward_on.Reads.Post
-feedforward-on-once κs a x y v w p q = (no_second p q, refl)
+pub feedforward_on_once : OneAnswer attitude.feedforward_on.ended attitude.feedforward_on.Reads.Post
+feedforward_on_once κs a x y v w p q = (no_second p q, refl)
 
-pub geo-gains-falcon-quad-once : OneAnswer controller.GeoGains.falcon_quad.ended controller.GeoGains.falcon_quad.Reads.Post
-geo-gains-falcon-quad-once κs a x y v w p q = (no_second p q, refl)
+pub geo_gains_falcon_quad_once : OneAnswer controller.GeoGains.falcon_quad.ended controller.GeoGains.falcon_quad.Reads.Post
+geo_gains_falcon_quad_once κs a x y v w p q = (no_second p q, refl)
 
-pub geo-att-new-once : OneAnswer controller.GeoAtt.new.ended controller.GeoAtt.new.Reads.Post
-geo-att-new-once κs a x y v w p q = (no_second p q, refl)
+pub geo_att_new_once : OneAnswer controller.GeoAtt.new.ended controller.GeoAtt.new.Reads.Post
+geo_att_new_once κs a x y v w p q = (no_second p q, refl)
 
-pub geo-att-psi-once : OneAnswer controller.GeoAtt.psi.ended controller.GeoAtt.psi.Reads.Post
-geo-att-psi-once κs a x y v w p q = (no_second p q, refl)
+pub geo_att_psi_once : OneAnswer controller.GeoAtt.psi.ended controller.GeoAtt.psi.Reads.Post
+geo_att_psi_once κs a x y v w p q = (no_second p q, refl)
 
-pub geo-att-attitude-error-once : OneAnswer controller.GeoAtt.attitude_error.ended controller.GeoAtt.attitude_error.Reads.Post
-geo-att-attitude-error-once κs a x y v w p q = (no_second p q, refl)
+pub geo_att_attitude_error_once : OneAnswer controller.GeoAtt.attitude_error.ended controller.GeoAtt.attitude_error.Reads.Post
+geo_att_attitude_error_once κs a x y v w p q = (no_second p q, refl)
 
-pub geo-att-attitude-error-reduced-once : OneAnswer controller.GeoAtt.attitude_error_reduced.ended controller.GeoAtt.attitude_error_reduced.Reads.Post
-geo-att-attitude-error-reduced-once κs a x y v w p q = (no_second p q, refl)
+pub geo_att_attitude_error_reduced_once : OneAnswer controller.GeoAtt.attitude_error_reduced.ended controller.GeoAtt.attitude_error_reduced.Reads.Post
+geo_att_attitude_error_reduced_once κs a x y v w p q = (no_second p q, refl)
 
-pub geo-att-moment-reduced-once : OneAnswer controller.GeoAtt.moment_reduced.ended controller.GeoAtt.moment_reduced.Reads.Post
-geo-att-moment-reduced-once κs a x y v w p q = (no_second p q, refl)
+pub geo_att_moment_reduced_once : OneAnswer controller.GeoAtt.moment_reduced.ended controller.GeoAtt.moment_reduced.Reads.Post
+geo_att_moment_reduced_once κs a x y v w p q = (no_second p q, refl)
 
-pub geo-att-moment-once : OneAnswer controller.GeoAtt.moment.ended controller.GeoAtt.moment.Reads.Post
-geo-att-moment-once κs a x y v w p q = (no_second p q, refl)
+pub geo_att_moment_once : OneAnswer controller.GeoAtt.moment.ended controller.GeoAtt.moment.Reads.Post
+geo_att_moment_once κs a x y v w p q = (no_second p q, refl)
 
-pub geo-att-rate-toward-once : OneAnswer controller.GeoAtt.rate_toward.ended controller.GeoAtt.rate_toward.Reads.Post
-geo-att-rate-toward-once κs a x y v w p q = (no_second p q, refl)
+pub geo_att_rate_toward_once : OneAnswer controller.GeoAtt.rate_toward.ended controller.GeoAtt.rate_toward.Reads.Post
+geo_att_rate_toward_once κs a x y v w p q = (no_second p q, refl)
 
-pub geo-att-desired-rate-once : OneAnswer controller.GeoAtt.desired_rate.ended controller.GeoAtt.desired_rate.Reads.Post
-geo-att-desired-rate-once κs a x y v w p q = (no_second p q, refl)
+pub geo_att_desired_rate_once : OneAnswer controller.GeoAtt.desired_rate.ended controller.GeoAtt.desired_rate.Reads.Post
+geo_att_desired_rate_once κs a x y v w p q = (no_second p q, refl)
 
-pub geo-att-tick-once : OneAnswer controller.GeoAtt.tick.ended controller.GeoAtt.tick.Reads.Post
-geo-att-tick-once κs a x y v w p q = (no_second p q, refl)
+pub geo_att_tick_once : OneAnswer controller.GeoAtt.tick.ended controller.GeoAtt.tick.Reads.Post
+geo_att_tick_once κs a x y v w p q = (no_second p q, refl)
 
-pub recoverable-set-new-once : OneAnswer set.RecoverableSet.new.ended set.RecoverableSet.new.Reads.Post
-recoverable-set-new-once κs a x y v w p q = (no_second p q, refl)
+pub recoverable_set_new_once : OneAnswer set.RecoverableSet.new.ended set.RecoverableSet.new.Reads.Post
+recoverable_set_new_once κs a x y v w p q = (no_second p q, refl)
 
-pub recoverable-set-margin-once : OneAnswer set.RecoverableSet.margin.ended set.RecoverableSet.margin.Reads.Post
-recoverable-set-margin-once κs a x y v w p q = (no_second p q, refl)
+pub recoverable_set_margin_once : OneAnswer set.RecoverableSet.margin.ended set.RecoverableSet.margin.Reads.Post
+recoverable_set_margin_once κs a x y v w p q = (no_second p q, refl)
 
-pub recoverable-set-recoverable-once : OneAnswer set.RecoverableSet.recoverable.ended set.RecoverableSet.recoverable.Reads.Post
-recoverable-set-recoverable-once κs a x y v w p q = (no_second p q, refl)
+pub recoverable_set_recoverable_once : OneAnswer set.RecoverableSet.recoverable.ended set.RecoverableSet.recoverable.Reads.Post
+recoverable_set_recoverable_once κs a x y v w p q = (no_second p q, refl)
 
-pub mend-once : OneAnswer shield.mend.ended shield.mend.Reads.Post
-mend-once κs a x y v w p q = (no_second p q, refl)
+pub mend_once : OneAnswer shield.mend.ended shield.mend.Reads.Post
+mend_once κs a x y v w p q = (no_second p q, refl)
 
-pub simplex-shield-new-once : OneAnswer shield.SimplexShield.new.ended shield.SimplexShield.new.Reads.Post
-simplex-shield-new-once κs a x y v w p q = (no_second p q, refl)
+pub simplex_shield_new_once : OneAnswer shield.SimplexShield.new.ended shield.SimplexShield.new.Reads.Post
+simplex_shield_new_once κs a x y v w p q = (no_second p q, refl)
 
-pub simplex-shield-fallback-engaged-once : OneAnswer shield.SimplexShield.fallback_engaged.ended shield.SimplexShield.fallback_engaged.Reads.Post
-simplex-shield-fallback-engaged-once κs a x y v w p q = (no_second p q, refl)
+pub simplex_shield_fallback_engaged_once : OneAnswer shield.SimplexShield.fallback_engaged.ended shield.SimplexShield.fallback_engaged.Reads.Post
+simplex_shield_fallback_engaged_once κs a x y v w p q = (no_second p q, refl)
 
-pub simplex-shield-filter-once : OneAnswer shield.SimplexShield.filter.ended shield.SimplexShield.filter.Reads.Post
-simplex-shield-filter-once κs a x y v w p q = (no_second p q, refl)
+pub simplex_shield_filter_once : OneAnswer shield.SimplexShield.filter.ended shield.SimplexShield.filter.Reads.Post
+simplex_shield_filter_once κs a x y v w p q = (no_second p q, refl)
 
-pub simplex-shield-step-once : OneAnswer shield.SimplexShield.step.ended shield.SimplexShield.step.Reads.Post
-simplex-shield-step-once κs a x y v w p q = (no_second p q, refl)
+pub simplex_shield_step_once : OneAnswer shield.SimplexShield.step.ended shield.SimplexShield.step.Reads.Post
+simplex_shield_step_once κs a x y v w p q = (no_second p q, refl)
 
-pub cross-once : OneAnswer vectors.cross.ended vectors.cross.Reads.Post
-cross-once κs a x y v w p q = (no_second p q, refl)
+pub cross_once : OneAnswer vectors.cross.ended vectors.cross.Reads.Post
+cross_once κs a x y v w p q = (no_second p q, refl)
 
-pub dot-once : OneAnswer vectors.dot.ended vectors.dot.Reads.Post
-dot-once κs a x y v w p q = (no_second p q, refl)
+pub dot_once : OneAnswer vectors.dot.ended vectors.dot.Reads.Post
+dot_once κs a x y v w p q = (no_second p q, refl)
 
-pub norm-once : OneAnswer vectors.norm.ended vectors.norm.Reads.Post
-norm-once κs a x y v w p q = (no_second p q, refl)
+pub norm_once : OneAnswer vectors.norm.ended vectors.norm.Reads.Post
+norm_once κs a x y v w p q = (no_second p q, refl)
 
-pub normalize-once : OneAnswer vectors.normalize.ended vectors.normalize.Reads.Post
-normalize-once κs a x y v w p q = (no_second p q, refl)
+pub normalize_once : OneAnswer vectors.normalize.ended vectors.normalize.Reads.Post
+normalize_once κs a x y v w p q = (no_second p q, refl)
 
-pub identity3-once : OneAnswer vectors.identity3.ended vectors.identity3.Reads.Post
-identity3-once κs a x y v w p q = (no_second p q, refl)
+pub identity3_once : OneAnswer vectors.identity3.ended vectors.identity3.Reads.Post
+identity3_once κs a x y v w p q = (no_second p q, refl)
 
-pub transpose3-once : OneAnswer vectors.transpose3.ended vectors.transpose3.Reads.Post
-transpose3-once κs a x y v w p q = (no_second p q, refl)
+pub transpose3_once : OneAnswer vectors.transpose3.ended vectors.transpose3.Reads.Post
+transpose3_once κs a x y v w p q = (no_second p q, refl)
 
-pub matmul3-once : OneAnswer vectors.matmul3.ended vectors.matmul3.Reads.Post
-matmul3-once κs a x y v w p q = (no_second p q, refl)
+pub matmul3_once : OneAnswer vectors.matmul3.ended vectors.matmul3.Reads.Post
+matmul3_once κs a x y v w p q = (no_second p q, refl)
 
-pub vee-once : OneAnswer vectors.vee.ended vectors.vee.Reads.Post
-vee-once κs a x y v w p q = (no_second p q, refl)
+pub vee_once : OneAnswer vectors.vee.ended vectors.vee.Reads.Post
+vee_once κs a x y v w p q = (no_second p q, refl)
 
-pub sanitise3-once : OneAnswer vectors.sanitise3.ended vectors.sanitise3.Reads.Post
-sanitise3-once κs a x y v w p q = (no_second p q, refl)
+pub sanitise3_once : OneAnswer vectors.sanitise3.ended vectors.sanitise3.Reads.Post
+sanitise3_once κs a x y v w p q = (no_second p q, refl)
 
 -- `step_lent` is walked by hand: what it promises, and that its own clause is that.
 abbrev Stepped : Promise lent.ended
 Stepped κs a r e =
     let next = step a.0.now a.1.0 a.1.1.0 a.1.1.1.0 in
-    (r ≡ pickedOf next) × (e.0.now ≡ next.shield)
+    (r ≡ picked_of next) × (e.0.now ≡ next.shield)
 
-pub step-lent-says : Says lent.ended (λ M 𝓤. lent.clauses 𝓤) Stepped
-step-lent-says M 𝓤 𝓛 mem run κs a g r e = refl
+pub step_lent_says : Says lent.ended (λ M 𝓤. lent.clauses 𝓤) Stepped
+step_lent_says M 𝓤 𝓛 mem run κs a g r e = refl
 
-pub step-lent-once : OneAnswer lent.ended Stepped
-step-lent-once κs a x y v w p q = (no_second p.0 q.0, both (no_second p.1 q.1) refl)
+pub step_lent_once : OneAnswer lent.ended Stepped
+step_lent_once κs a x y v w p q = (no_second p.0 q.0, both (no_second p.1 q.1) refl)

@@ -1,27 +1,27 @@
 -- Floats that are each other's negative: x - y and y - x, and their halves. Assumes nothing.
 use Rattle.laws.proofs.Prelude.{ℕ, zero, suc, ◌+◌, ◌-◌, ◌*◌, ◌/◌, ◌%◌, ◌^◌, compare, ◌≡◌, refl, Bool, true, false, not, Bool·beq, cond, ◌&&◌, ◌||◌, add_comm, zero-mul, mul_comm, arith, ltb-true}
 use Rattle.laws.proofs.Prelude.{ltb-false, ℤ, pos, T, ltb, Float, nan, inf, fin, binary32, up, down, unlike, nearest, size, odd, units, round, sum, neg, add, sub, mul, eq, is_nan, of_bits}
-use Rattle.relay_math.{specs.F32.{◌⊖◌, ◌⊗◌, 0·5, is_finite}, proofs.{Sums.round-zero, Order.eq-refl-of, Zeros.{IsZero, none, times}}}
+use Rattle.relay_math.{specs.F32.{◌⊖◌, ◌⊗◌, 0·5, is_finite}, proofs.{Sums.round_zero, Order.eq_refl_of, Zeros.{IsZero, none, times}}}
 
 -- ---- a product has the same bits either way round
 
-unlike-comm : (s t : Bool) → unlike s t ≡ unlike t s
-unlike-comm true true = refl
-unlike-comm true false = refl
-unlike-comm false true = refl
-unlike-comm false false = refl
+unlike_comm : (s t : Bool) → unlike s t ≡ unlike t s
+unlike_comm true true = refl
+unlike_comm true false = refl
+unlike_comm false true = refl
+unlike_comm false false = refl
 
-pub times-comm : (x y : Float) → x ⊗ y ≡ y ⊗ x
+pub times_comm : (x y : Float) → x ⊗ y ≡ y ⊗ x
 unfolding mul
-times-comm nan nan = refl
-times-comm nan (inf t) = refl
-times-comm nan (fin t n d) = refl
-times-comm (inf s) nan = refl
-times-comm (inf s) (inf t) = rw (unlike-comm s t)
-times-comm (inf s) (fin t n d) = rw (unlike-comm s t)
-times-comm (fin s m e) nan = refl
-times-comm (fin s m e) (inf t) = rw (unlike-comm s t)
-times-comm (fin s m e) (fin t n d) = rw (unlike-comm s t, mul_comm (m * up e) (n * up d), mul_comm (down e) (down d))
+times_comm nan nan = refl
+times_comm nan (inf t) = refl
+times_comm nan (fin t n d) = refl
+times_comm (inf s) nan = refl
+times_comm (inf s) (inf t) = rw (unlike_comm s t)
+times_comm (inf s) (fin t n d) = rw (unlike_comm s t)
+times_comm (fin s m e) nan = refl
+times_comm (fin s m e) (inf t) = rw (unlike_comm s t)
+times_comm (fin s m e) (fin t n d) = rw (unlike_comm s t, mul_comm (m * up e) (n * up d), mul_comm (down e) (down d))
 
 -- ---- each other's negative, as numbers: two zeros are, whatever their signs
 
@@ -30,17 +30,17 @@ pub data Opposite : Float → Float → Type 0 where
   finite : (s : Bool) (m : ℕ) (e : ℤ) → Opposite (fin s m e) (fin (not s) m e)
   zeros : {x y : Float} → IsZero x → IsZero y → Opposite x y
 
-or-true : (b : Bool) → T (b || true)
-or-true true = tt
-or-true false = tt
+or_true : (b : Bool) → T (b || true)
+or_true true = tt
+or_true false = tt
 
 pub equal : {x y : Float} → Opposite x y → T (eq x (neg y))
 unfolding eq neg is_nan
 equal (infinite true) = tt
 equal (infinite false) = tt
-equal (finite true m e) = eq-refl-of (fin true m e) tt
-equal (finite false m e) = eq-refl-of (fin false m e) tt
-equal (zeros (none s e) (none t d)) = rw (zero-mul (up e), zero-mul (up d), zero-mul (down e), zero-mul (down d)) (or-true (Bool·beq s (not t)))
+equal (finite true m e) = eq_refl_of (fin true m e) tt
+equal (finite false m e) = eq_refl_of (fin false m e) tt
+equal (zeros (none s e) (none t d)) = rw (zero-mul (up e), zero-mul (up d), zero-mul (down e), zero-mul (down d)) (or_true (Bool·beq s (not t)))
 
 pub rounds : (s : Bool) (a c : ℕ) → Opposite (round binary32 s a c) (round binary32 (not s) a c)
 unfolding round units odd
@@ -55,7 +55,7 @@ rounds s a c =
     go false q k = infinite s
 
 nothing : (a b c : ℕ) → a ≡ 0 → b ≡ 0 → Opposite (round binary32 false a c) (round binary32 false b c)
-nothing a b c p q = rw (p, q, round-zero false c) (zeros (none false (pos 0)) (none false (pos 0)))
+nothing a b c p q = rw (p, q, round_zero false c) (zeros (none false (pos 0)) (none false (pos 0)))
 
 -- ±a / c ∓ b / c against ±b / c ∓ a / c
 apart : (s : Bool) (a b c : ℕ) → Opposite (sum binary32 s a (not s) b c) (sum binary32 s b (not s) a c)

@@ -1,27 +1,27 @@
 -- The shield's set-up: thresholds in order for every f32 given. Assumes nothing.
 use Rattle.laws.proofs.Prelude.{ℕ, zero, suc, ◌*◌, ◌^◌, ◌<◌, ◌≤◌, ◌≡◌, refl, sym, ap, ◌∙◌, subst, inl, inr, Bool, true, false, cond, le_trans, le_of_eq, zero-lt-suc, mul-one, mul_assoc}
 use Rattle.laws.proofs.Prelude.{mul_right_comm, mul-le-mul_right, le_of_mul-le-mul_right, mul-pos, pow-suc, arith, ltb-true, lt-ltb, ℤ, T, pow_pos, Float, nan, inf, fin, binary32, up, down, fits}
-use Rattle.laws.proofs.Prelude.{round, mul, lt, le, of_bits, no, both, le-or-lt}
+use Rattle.laws.proofs.Prelude.{round, mul, lt, le, of_bits, no, both, le_or_lt}
 use mathlib.Core.Bool.{true≢false}
 use lib.Ieee.{Fits.{up_pos, down_pos, cond-fits}, Exact.{HasValue, round_exact}, Order.round_mono}
-use Rattle.relay_math.{specs.F32.{◌⊗◌, f32, 0·0, 0·1, 2·0, is_finite, finiteAbove}, proofs.Grains.{Placed, placed}}
-use Rattle.relay_geo.specs.{declared.set.RecoverableSet.RecoverableSet, Shield.{mendEnter, mendThresholds, newShield}}
+use Rattle.relay_math.{specs.F32.{◌⊗◌, f32, 0·0, 0·1, 2·0, is_finite, finite_above}, proofs.Grains.{Placed, placed}}
+use Rattle.relay_geo.specs.{declared.set.RecoverableSet.RecoverableSet, Shield.{mend_enter, mend_thresholds, new_shield}}
 
 -- ---- twice an f32 that is finite and above zero lies above it: doubling is exact, or overflows to +infinity
 
-times-two : (x u p d : ℕ) → x * u ≡ p * d → x * 2 * u ≡ p * 2 * (d * 1)
-times-two x u p d h = let k : x * u * 2 ≡ p * d * 2 = ap (λ (z : ℕ). z * 2) h in omega arith
+times_two : (x u p d : ℕ) → x * u ≡ p * d → x * 2 * u ≡ p * 2 * (d * 1)
+times_two x u p d h = let k : x * u * 2 ≡ p * d * 2 = ap (λ (z : ℕ). z * 2) h in omega arith
 
 -- in units of 2 ^ -149, where m * 2 ^ e is m * 2 ^ j, twice that is m * 2 ^ (j + 1)
 doubled : (m j : ℕ) (e : ℤ) → m * up e * 2 ^ 149 ≡ m * 2 ^ j * down e → m * up e * 2 * 2 ^ 149 ≡ m * 2 ^ suc j * (down e * 1)
-doubled m j e h = times-two (m * up e) (2 ^ 149) (m * 2 ^ j) (down e) h ∙ ap (λ (x : ℕ). x * (down e * 1)) (mul_assoc m (2 ^ j) 2 ∙ ap (λ (x : ℕ). m * x) (sym (pow-suc 2 j)))
+doubled m j e h = times_two (m * up e) (2 ^ 149) (m * 2 ^ j) (down e) h ∙ ap (λ (x : ℕ). x * (down e * 1)) (mul_assoc m (2 ^ j) 2 ∙ ap (λ (x : ℕ). m * x) (sym (pow-suc 2 j)))
 
-above-twice : (m : ℕ) (e : ℤ) (y : Float) → 0 < m → HasValue y false (m * up e * 2) (down e * 1) → lt (fin false m e) y ≡ true
+above_twice : (m : ℕ) (e : ℤ) (y : Float) → 0 < m → HasValue y false (m * up e * 2) (down e * 1) → lt (fin false m e) y ≡ true
 unfolding lt
-above-twice m e nan M v = absurd v
-above-twice m e (inf s) M v = absurd v
-above-twice m e (fin true n d) M v = absurd (true≢false v.0)
-above-twice m e (fin false n d) M v =
+above_twice m e nan M v = absurd v
+above_twice m e (inf s) M v = absurd v
+above_twice m e (fin true n d) M v = absurd (true≢false v.0)
+above_twice m e (fin false n d) M v =
     let p : 0 < m * up e * down d = mul-pos (mul-pos M (up_pos e)) (down_pos d) in
     let w : n * up d * down e ≡ m * up e * down d * 2 = ap (λ (x : ℕ). n * up d * x) (sym (mul-one (down e))) ∙ v.1 ∙ mul_right_comm (m * up e) 2 (down d) in
     lt-ltb (m * up e * down d) (n * up d * down e) (omega arith)
@@ -51,19 +51,19 @@ overflows m j e h o =
     at_top _ (subst (λ (x : Float). T (le x (round binary32 false (m * up e * 2) (down e * 1)))) top
     (round_mono binary32 (2 ^ 128) 1 (m * up e * 2) (down e * 1) (pow_pos 0) D (le_of_mul-le-mul_right c (pow_pos 149))))
 
-finite-doubled : (m : ℕ) (e : ℤ) → 0 < m → Placed m e → lt (fin false m e) (round binary32 false (m * up e * 2) (down e * 1)) ≡ true
-finite-doubled m e M (j, s, h, u) = elim (le-or-lt (2 ^ 277) (m * 2 ^ suc j)) [
+finite_doubled : (m : ℕ) (e : ℤ) → 0 < m → Placed m e → lt (fin false m e) (round binary32 false (m * up e * 2) (down e * 1)) ≡ true
+finite_doubled m e M (j, s, h, u) = elim (le_or_lt (2 ^ 277) (m * 2 ^ suc j)) [
   | inl o ↦ rw (overflows m j e h o) (below_top m e)
-  | inr l ↦ above-twice m e _ M (round_exact binary32 false (m * up e * 2) (down e * 1) m (suc j) (mul-pos (down_pos e) (pow_pos 0)) s l (doubled m j e h))
+  | inr l ↦ above_twice m e _ M (round_exact binary32 false (m * up e * 2) (down e * 1) m (suc j) (mul-pos (down_pos e) (pow_pos 0)) s l (doubled m j e h))
 ]
 
-pub twice-above : (x : Float) → T (fits binary32 x) → finiteAbove 0·0 x ≡ true → lt x (x ⊗ 2·0) ≡ true
+pub twice_above : (x : Float) → T (fits binary32 x) → finite_above 0·0 x ≡ true → lt x (x ⊗ 2·0) ≡ true
 unfolding lt mul of_bits is_finite
-twice-above nan f t = no t
-twice-above (inf s) f t = no t
-twice-above (fin true m e) f t = no t
-twice-above (fin false zero e) f t = absurd (let l = ltb-true (0 * down e) (0 * up e * 1) t in omega arith)
-twice-above (fin false (suc m) e) f t = finite-doubled (suc m) e (zero-lt-suc m) (placed false (suc m) e f)
+twice_above nan f t = no t
+twice_above (inf s) f t = no t
+twice_above (fin true m e) f t = no t
+twice_above (fin false zero e) f t = absurd (let l = ltb-true (0 * down e) (0 * up e * 1) t in omega arith)
+twice_above (fin false (suc m) e) f t = finite_doubled (suc m) e (zero-lt-suc m) (placed false (suc m) e f)
 
 -- ---- document 01: "enter is kept if finite and above 0, else 0.1; exit if finite and above enter, else twice enter (+infinity is possible ..)"
 
@@ -86,47 +86,47 @@ settled p x y = go (p x) refl
     go true e = rw e
     go false e = either (p y)
 
-fallback-enter : finiteAbove 0·0 0·1 ≡ true
+fallback_enter : finite_above 0·0 0·1 ≡ true
 unfolding is_finite lt of_bits
-fallback-enter = refl
+fallback_enter = refl
 
 -- enter is finite and above 0, whatever was given
-pub enter-finite-positive : (enter exit : Float) → finiteAbove 0·0 (mendThresholds enter exit).enter ≡ true
-unfolding mendThresholds
-enter-finite-positive enter exit = passes (finiteAbove 0·0) (finiteAbove 0·0) enter 0·1 (λ e. e) fallback-enter
+pub enter_finite_positive : (enter exit : Float) → finite_above 0·0 (mend_thresholds enter exit).enter ≡ true
+unfolding mend_thresholds
+enter_finite_positive enter exit = passes (finite_above 0·0) (finite_above 0·0) enter 0·1 (λ e. e) fallback_enter
 
-enter-fits : (enter : Float) → T (fits binary32 enter) → T (fits binary32 (mendEnter enter))
+enter_fits : (enter : Float) → T (fits binary32 enter) → T (fits binary32 (mend_enter enter))
 unfolding fits of_bits
-enter-fits enter f = cond-fits binary32 (finiteAbove 0·0 enter) enter 0·1 f tt
+enter_fits enter f = cond-fits binary32 (finite_above 0·0 enter) enter 0·1 f tt
 
 -- exit is above enter, for every f32 given as enter, subnormals and overflow to +infinity included
-pub enter-below-exit : (enter exit : Float) → T (fits binary32 enter) → lt (mendThresholds enter exit).enter (mendThresholds enter exit).exit ≡ true
-unfolding mendThresholds
-enter-below-exit enter exit f =
-    let en : Float = mendEnter enter in
-    passes (finiteAbove en) (lt en) exit (en ⊗ 2·0) (λ h. (both (is_finite exit) (lt en exit) h).1) (twice-above en (enter-fits enter f) (enter-finite-positive enter exit))
+pub enter_below_exit : (enter exit : Float) → T (fits binary32 enter) → lt (mend_thresholds enter exit).enter (mend_thresholds enter exit).exit ≡ true
+unfolding mend_thresholds
+enter_below_exit enter exit f =
+    let en : Float = mend_enter enter in
+    passes (finite_above en) (lt en) exit (en ⊗ 2·0) (λ h. (both (is_finite exit) (lt en exit) h).1) (twice_above en (enter_fits enter f) (enter_finite_positive enter exit))
 
 -- mending mended thresholds changes nothing
-pub mend-idempotent : (enter exit : Float) → mendThresholds (mendThresholds enter exit).enter (mendThresholds enter exit).exit ≡ mendThresholds enter exit
-unfolding mendThresholds
-mend-idempotent enter exit =
-    let en : Float = mendEnter enter in
-    rw (settled (finiteAbove 0·0) enter 0·1, settled (finiteAbove en) exit (en ⊗ 2·0))
+pub mend_idempotent : (enter exit : Float) → mend_thresholds (mend_thresholds enter exit).enter (mend_thresholds enter exit).exit ≡ mend_thresholds enter exit
+unfolding mend_thresholds
+mend_idempotent enter exit =
+    let en : Float = mend_enter enter in
+    rw (settled (finite_above 0·0) enter 0·1, settled (finite_above en) exit (en ⊗ 2·0))
 
 -- "It starts engaged."
-pub starts-engaged : (set : RecoverableSet) (enter exit : Float) → (newShield set enter exit).engaged ≡ true
-unfolding newShield
-starts-engaged set enter exit = refl
+pub starts_engaged : (set : RecoverableSet) (enter exit : Float) → (new_shield set enter exit).engaged ≡ true
+unfolding new_shield
+starts_engaged set enter exit = refl
 
 -- so a fresh shield meets what the latch's theorem asks
-pub fresh-in-order : (set : RecoverableSet) (enter exit : Float) → T (fits binary32 enter) → lt (newShield set enter exit).enter (newShield set enter exit).exit ≡ true
-unfolding newShield
-fresh-in-order set enter exit f = enter-below-exit enter exit f
+pub fresh_in_order : (set : RecoverableSet) (enter exit : Float) → T (fits binary32 enter) → lt (new_shield set enter exit).enter (new_shield set enter exit).exit ≡ true
+unfolding new_shield
+fresh_in_order set enter exit f = enter_below_exit enter exit f
 
 -- the smallest enter, one that overflows, and infinities given
-pub edges : (mendThresholds (f32 1) nan ≡ record { enter = f32 1; exit = f32 2 })
-    × (mendThresholds (f32 0x7f00_0000) 0·0 ≡ record { enter = f32 0x7f00_0000; exit = inf false })
-    × (mendThresholds 2·0 (inf false) ≡ record { enter = 2·0; exit = f32 0x4080_0000 })
-    × (mendThresholds (inf false) 2·0 ≡ record { enter = 0·1; exit = 2·0 })
-unfolding mendThresholds is_finite lt mul of_bits
+pub edges : (mend_thresholds (f32 1) nan ≡ record { enter = f32 1; exit = f32 2 })
+    × (mend_thresholds (f32 0x7f00_0000) 0·0 ≡ record { enter = f32 0x7f00_0000; exit = inf false })
+    × (mend_thresholds 2·0 (inf false) ≡ record { enter = 2·0; exit = f32 0x4080_0000 })
+    × (mend_thresholds (inf false) 2·0 ≡ record { enter = 0·1; exit = 2·0 })
+unfolding mend_thresholds is_finite lt mul of_bits
 edges = (refl, refl, refl, refl)

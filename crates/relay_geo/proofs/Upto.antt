@@ -5,7 +5,7 @@ use Rattle.laws.proofs.Prelude.{inf, fin, binary32, up, down, unlike, round, sum
 use mathlib.Core.Bool.{true≢false}
 use native.Mathlib.Nat.{add-le-add, mul-mul-mul_comm}
 use lib.{Dec.eqb→eq, Ieee.{Exact.{HasValue, round_exact}, Fits.{down_pos, and_l}, Order.round_mono}}
-use Rattle.relay_math.{specs.F32.{◌⊕◌, ◌⊖◌, ◌⊗◌, is_finite}, proofs.{Signs.size-pos, Sums.round-zero, Zeros.none}}
+use Rattle.relay_math.{specs.F32.{◌⊕◌, ◌⊖◌, ◌⊗◌, is_finite}, proofs.{Signs.size_pos, Sums.round_zero, Zeros.none}}
 use Rattle.laws.proofs.Tests.{ordered}
 use Rattle.relay_geo.proofs.Opposites.{Opposite, infinite, finite, zeros, rounds}
 
@@ -15,16 +15,16 @@ Upto k nan = ⊥
 Upto k (inf s) = ⊥
 Upto k (fin s m e) = m * up e ≤ k * down e
 
-pub upto-finite : (k : ℕ) (x : Float) → Upto k x → T (is_finite x)
+pub upto_finite : (k : ℕ) (x : Float) → Upto k x → T (is_finite x)
 unfolding is_finite
-upto-finite k nan h = absurd h
-upto-finite k (inf s) h = absurd h
-upto-finite k (fin s m e) h = tt
+upto_finite k nan h = absurd h
+upto_finite k (inf s) h = absurd h
+upto_finite k (fin s m e) h = tt
 
-upto-opposite : (k : ℕ) {x y : Float} → Opposite x y → Upto k x → Upto k y
-upto-opposite k (infinite s) h = absurd h
-upto-opposite k (finite s m e) h = h
-upto-opposite k (zeros p (none t d)) h = omega arith
+upto_opposite : (k : ℕ) {x y : Float} → Opposite x y → Upto k x → Upto k y
+upto_opposite k (infinite s) h = absurd h
+upto_opposite k (finite s m e) h = h
+upto_opposite k (zeros p (none t d)) h = omega arith
 
 pub le_is : (m : ℕ) (e : ℤ) (n : ℕ) (d : ℤ) → T (le (fin false m e) (fin false n d)) → m * up e * down d ≤ n * up d * down e
 unfolding le lt eq
@@ -40,7 +40,7 @@ between k nan (fin false n d) v p q = absurd q
 between k (inf true) (fin false n d) v p q = absurd p
 between k (inf false) (fin false n d) v p q = absurd q
 between k (fin true zero e) (fin false n d) v p q = omega arith
-between k (fin true (suc m) e) (fin false n d) v p q = absurd (omega (arith, size-pos m e, eqb→eq (0 * down e) (suc m * up e * 1) (and_l (eqb (0 * down e) (suc m * up e * 1)) (eqb (0 * down e) 0) p)))
+between k (fin true (suc m) e) (fin false n d) v p q = absurd (omega (arith, size_pos m e, eqb→eq (0 * down e) (suc m * up e * 1) (and_l (eqb (0 * down e) (suc m * up e * 1)) (eqb (0 * down e) 0) p)))
 between k (fin false m e) (fin false n d) v p q =
     le_of_mul-le-mul_right (le_trans (le_is m e n d q) (le_of_eq (ap (λ (y : ℕ). y * down e) (sym (mul-one (n * up d)) ∙ v.1) ∙ mul_right_comm k (down d) (down e)))) (down_pos d)
 
@@ -49,47 +49,47 @@ module _ (k : ℕ) (K : k < 2 ^ 24) where
   whole : HasValue (round binary32 false k 1) false k 1
   whole = round_exact binary32 false k 1 k 149 (lit< tt) K (lt_of_lt_of_le (shl_lt 24 149 K) (pow_mono {i = 173} {j = 277} (lit≤ tt))) (sym (mul-one (k * 2 ^ 149)))
 
-  positive-upto : (a c : ℕ) → 0 < c → a ≤ k * c → Upto k (round binary32 false a c)
-  positive-upto a c C h =
-      between k (round binary32 false a c) (round binary32 false k 1) whole (rw (round-zero false 1) at (round_mono binary32 0 1 a c (lit< tt) C (omega arith)))
+  positive_upto : (a c : ℕ) → 0 < c → a ≤ k * c → Upto k (round binary32 false a c)
+  positive_upto a c C h =
+      between k (round binary32 false a c) (round binary32 false k 1) whole (rw (round_zero false 1) at (round_mono binary32 0 1 a c (lit< tt) C (omega arith)))
       (round_mono binary32 a c k 1 C (lit< tt) (omega (arith, h)))
 
-  round-upto : (s : Bool) (a c : ℕ) → 0 < c → a ≤ k * c → Upto k (round binary32 s a c)
-  round-upto false a c C h = positive-upto a c C h
-  round-upto true a c C h = upto-opposite k (rounds false a c) (positive-upto a c C h)
+  round_upto : (s : Bool) (a c : ℕ) → 0 < c → a ≤ k * c → Upto k (round binary32 s a c)
+  round_upto false a c C h = positive_upto a c C h
+  round_upto true a c C h = upto_opposite k (rounds false a c) (positive_upto a c C h)
 
   either : (b : Bool) (x y : Float) → Upto k x → Upto k y → Upto k (cond b x y)
   either true x y p q = p
   either false x y p q = q
 
-  sum-upto : (s t : Bool) (a b c : ℕ) → 0 < c → a + b ≤ k * c → Upto k (sum binary32 s a t b c)
+  sum_upto : (s t : Bool) (a b c : ℕ) → 0 < c → a + b ≤ k * c → Upto k (sum binary32 s a t b c)
   unfolding sum
-  sum-upto s t a b c C h =
-      either (Bool·beq s t) _ _ (round-upto s (a + b) c C h) (either (ltb a b) _ _ (round-upto t (b - a) c C (omega (arith, h))) (round-upto (s && ltb b a) (a - b) c C (omega (arith, h))))
+  sum_upto s t a b c C h =
+      either (Bool·beq s t) _ _ (round_upto s (a + b) c C h) (either (ltb a b) _ _ (round_upto t (b - a) c C (omega (arith, h))) (round_upto (s && ltb b a) (a - b) c C (omega (arith, h))))
 
-pub times-upto : (j k : ℕ) → j * k < 2 ^ 24 → (x y : Float) → Upto j x → Upto k y → Upto (j * k) (x ⊗ y)
+pub times_upto : (j k : ℕ) → j * k < 2 ^ 24 → (x y : Float) → Upto j x → Upto k y → Upto (j * k) (x ⊗ y)
 unfolding mul
-times-upto j k K nan y p q = absurd p
-times-upto j k K (inf s) y p q = absurd p
-times-upto j k K (fin s m e) nan p q = absurd q
-times-upto j k K (fin s m e) (inf t) p q = absurd q
-times-upto j k K (fin s m e) (fin t n d) p q =
-    round-upto (j * k) K (unlike s t) (m * up e * (n * up d)) (down e * down d) (mul-pos (down_pos e) (down_pos d)) (le_trans (mul-le-mul p q) (le_of_eq (mul-mul-mul_comm j (down e) k (down d))))
+times_upto j k K nan y p q = absurd p
+times_upto j k K (inf s) y p q = absurd p
+times_upto j k K (fin s m e) nan p q = absurd q
+times_upto j k K (fin s m e) (inf t) p q = absurd q
+times_upto j k K (fin s m e) (fin t n d) p q =
+    round_upto (j * k) K (unlike s t) (m * up e * (n * up d)) (down e * down d) (mul-pos (down_pos e) (down_pos d)) (le_trans (mul-le-mul p q) (le_of_eq (mul-mul-mul_comm j (down e) k (down d))))
 
-pub plus-upto : (j k : ℕ) → j + k < 2 ^ 24 → (x y : Float) → Upto j x → Upto k y → Upto (j + k) (x ⊕ y)
+pub plus_upto : (j k : ℕ) → j + k < 2 ^ 24 → (x y : Float) → Upto j x → Upto k y → Upto (j + k) (x ⊕ y)
 unfolding add
-plus-upto j k K nan y p q = absurd p
-plus-upto j k K (inf s) y p q = absurd p
-plus-upto j k K (fin s m e) nan p q = absurd q
-plus-upto j k K (fin s m e) (inf t) p q = absurd q
-plus-upto j k K (fin s m e) (fin t n d) p q =
+plus_upto j k K nan y p q = absurd p
+plus_upto j k K (inf s) y p q = absurd p
+plus_upto j k K (fin s m e) nan p q = absurd q
+plus_upto j k K (fin s m e) (inf t) p q = absurd q
+plus_upto j k K (fin s m e) (fin t n d) p q =
     let a : m * up e * down d ≤ j * (down e * down d) = rw (← mul_assoc j (down e) (down d)) (mul-le-mul_right (down d) p) in
     let b : n * up d * down e ≤ k * (down e * down d) = rw (mul_comm (down e) (down d), ← mul_assoc k (down d) (down e)) (mul-le-mul_right (down e) q) in
-    sum-upto (j + k) K s t (m * up e * down d) (n * up d * down e) (down e * down d) (mul-pos (down_pos e) (down_pos d)) (rw (add-mul j k (down e * down d)) (add-le-add a b))
+    sum_upto (j + k) K s t (m * up e * down d) (n * up d * down e) (down e * down d) (mul-pos (down_pos e) (down_pos d)) (rw (add-mul j k (down e * down d)) (add-le-add a b))
 
-pub minus-upto : (j k : ℕ) → j + k < 2 ^ 24 → (x y : Float) → Upto j x → Upto k y → Upto (j + k) (x ⊖ y)
+pub minus_upto : (j k : ℕ) → j + k < 2 ^ 24 → (x y : Float) → Upto j x → Upto k y → Upto (j + k) (x ⊖ y)
 unfolding sub neg
-minus-upto j k K x y p q = plus-upto j k K x (neg y) p (turned y q)
+minus_upto j k K x y p q = plus_upto j k K x (neg y) p (turned y q)
   where
     turned : (y : Float) → Upto k y → Upto k (neg y)
     turned nan h = h

@@ -13,10 +13,10 @@ use Rattle.relay_geo.specs.declared.attitude.Attitude.{Attitude}
 use Rattle.relay_geo.specs.declared.attitude.Attitude.TheVariants.{Matrix, Refused}
 use Rattle.relay_geo.specs.declared.attitude.Feedforward.{Feedforward}
 use Rattle.relay_geo.specs.declared.attitude.Feedforward.TheVariants as rate
-use Rattle.relay_geo.specs.Vectors.{GRAVITY-NED, cross, norm, over, normalize, sanitise3, transposedTimes}
+use Rattle.relay_geo.specs.Vectors.{GRAVITY_NED, cross, norm, over, normalize, sanitise3, transposed_times}
 
-unfoldable pub quatToRotmat : Quat → Mat3
-quatToRotmat q =
+unfoldable pub quat_to_rotmat : Quat → Mat3
+quat_to_rotmat q =
     let w = q.0 in
     let x = q.1 in
     let y = q.2 in
@@ -32,69 +32,69 @@ unfoldable pub heading : Float → Vec3
 heading yaw = (cosf yaw, sinf yaw, 0·0)
 
 -- the matrix of the columns b1, b2, b3
-abbrev pub ofColumns : Vec3 → Vec3 → Vec3 → Mat3
-ofColumns b1 b2 b3 = ((b1.0, b2.0, b3.0), (b1.1, b2.1, b3.1), (b1.2, b2.2, b3.2))
+abbrev pub of_columns : Vec3 → Vec3 → Vec3 → Mat3
+of_columns b1 b2 b3 = ((b1.0, b2.0, b3.0), (b1.1, b2.1, b3.1), (b1.2, b2.2, b3.2))
 
 -- b2 is across b3 and the heading, b1 across both, with no attitude where there is no b2
-abbrev pub columnsOf : Vec3 → Direction → Attitude
-columnsOf b3 (direction.Axis b2) = Matrix (ofColumns (cross b2 b3) b2 b3)
-columnsOf b3 direction.Refused = Refused
+abbrev pub columns_of : Vec3 → Direction → Attitude
+columns_of b3 (direction.Axis b2) = Matrix (of_columns (cross b2 b3) b2 b3)
+columns_of b3 direction.Refused = Refused
 
 -- no attitude where there is no axis b3
-abbrev pub attitudeOf : Direction → Float → Attitude
-attitudeOf (direction.Axis b3) yaw = columnsOf b3 (normalize (cross b3 (heading yaw)))
-attitudeOf direction.Refused yaw = Refused
+abbrev pub attitude_of : Direction → Float → Attitude
+attitude_of (direction.Axis b3) yaw = columns_of b3 (normalize (cross b3 (heading yaw)))
+attitude_of direction.Refused yaw = Refused
 
-unfoldable pub desiredAttitude : Vec3 → Float → Attitude
-desiredAttitude b3 yaw = attitudeOf (normalize b3) yaw
+unfoldable pub desired_attitude : Vec3 → Float → Attitude
+desired_attitude b3 yaw = attitude_of (normalize b3) yaw
 
 -- g - a
-unfoldable pub thrustForce : Vec3 → Vec3
-thrustForce a = (GRAVITY-NED.0 ⊖ a.0, GRAVITY-NED.1 ⊖ a.1, GRAVITY-NED.2 ⊖ a.2)
+unfoldable pub thrust_force : Vec3 → Vec3
+thrust_force a = (GRAVITY_NED.0 ⊖ a.0, GRAVITY_NED.1 ⊖ a.1, GRAVITY_NED.2 ⊖ a.2)
 
-unfoldable pub thrustAxisNed : Vec3 → Direction
-thrustAxisNed a = normalize (thrustForce a)
+unfoldable pub thrust_axis_ned : Vec3 → Direction
+thrust_axis_ned a = normalize (thrust_force a)
 
-abbrev pub alongAxis : Direction → Float → Attitude
-alongAxis (direction.Axis b3) yaw = desiredAttitude b3 yaw
-alongAxis direction.Refused yaw = Refused
+abbrev pub along_axis : Direction → Float → Attitude
+along_axis (direction.Axis b3) yaw = desired_attitude b3 yaw
+along_axis direction.Refused yaw = Refused
 
-unfoldable pub thrustAttitude : Vec3 → Float → Attitude
-thrustAttitude a yaw = alongAxis (thrustAxisNed a) yaw
+unfoldable pub thrust_attitude : Vec3 → Float → Attitude
+thrust_attitude a yaw = along_axis (thrust_axis_ned a) yaw
 
 -- ---- the feedforward
 
-abbrev pub tooWeak : Float → Bool
-tooWeak c = not (is_finite c) || le c 1e-3
+abbrev pub too_weak : Float → Bool
+too_weak c = not (is_finite c) || le c 1e-3
 
 -- -(b3 × j) / c in the body's axes at r, and the heading's rate about the third
-unfoldable pub bodyRate : Float → Vec3 → Vec3 → Float → Mat3 → BodyRate
-bodyRate c b3 j yawRate r =
+unfoldable pub body_rate : Float → Vec3 → Vec3 → Float → Mat3 → BodyRate
+body_rate c b3 j yawRate r =
     let x = cross b3 j in
-    let w = transposedTimes r (neg x.0 ⊘ c, neg x.1 ⊘ c, neg x.2 ⊘ c) in
+    let w = transposed_times r (neg x.0 ⊘ c, neg x.1 ⊘ c, neg x.2 ⊘ c) in
     record { 0 = sanitise3 (w.0, w.1, w.2 ⊕ yawRate) }
 
-abbrev pub rateFrom : Float → Vec3 → Vec3 → Float → Attitude → Feedforward
-rateFrom c b3 j yawRate (Matrix r) = rate.Rate (bodyRate c b3 j yawRate r)
-rateFrom c b3 j yawRate Refused = rate.Refused
+abbrev pub rate_from : Float → Vec3 → Vec3 → Float → Attitude → Feedforward
+rate_from c b3 j yawRate (Matrix r) = rate.Rate (body_rate c b3 j yawRate r)
+rate_from c b3 j yawRate Refused = rate.Refused
 
 -- the attitude is that of b3 and the heading
-unfoldable pub flatnessOmegaFf : Vec3 → Vec3 → Float → Float → Feedforward
-flatnessOmegaFf a j yaw yawRate =
-    let t = thrustForce a in
+unfoldable pub flatness_omega_ff : Vec3 → Vec3 → Float → Float → Feedforward
+flatness_omega_ff a j yaw yawRate =
+    let t = thrust_force a in
     let c = norm t in
     let b3 = over t c in
-    cond (tooWeak c) rate.Refused (rateFrom c b3 j yawRate (desiredAttitude b3 yaw))
+    cond (too_weak c) rate.Refused (rate_from c b3 j yawRate (desired_attitude b3 yaw))
 
 -- ---- for what is proved of them
 
-abbrev pub givesMatrix : Attitude → Bool
-givesMatrix (Matrix r) = true
-givesMatrix Refused = false
+abbrev pub gives_matrix : Attitude → Bool
+gives_matrix (Matrix r) = true
+gives_matrix Refused = false
 
-abbrev pub givesRate : Feedforward → Bool
-givesRate (rate.Rate w) = true
-givesRate rate.Refused = false
+abbrev pub gives_rate : Feedforward → Bool
+gives_rate (rate.Rate w) = true
+gives_rate rate.Refused = false
 
 -- four zeros, each of either sign
 pub record ZeroQuat (q : Quat) : Type 0 where

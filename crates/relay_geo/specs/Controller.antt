@@ -10,11 +10,11 @@ use Rattle.relay_geo.specs.declared.vectors.Quat.{Quat}
 use Rattle.relay_geo.specs.declared.attitude.Attitude.{Attitude}
 use Rattle.relay_geo.specs.declared.attitude.Attitude.TheVariants.{Matrix, Refused}
 use Rattle.relay_geo.specs.declared.controller.GeoGains.{GeoGains}
-use Rattle.relay_geo.specs.Vectors.{cross, column0, column1, column2, prod3, transposedTimes, sanitise3}
-use Rattle.relay_geo.specs.Attitude.{quatToRotmat, thrustAttitude}
+use Rattle.relay_geo.specs.Vectors.{cross, column0, column1, column2, prod3, transposed_times, sanitise3}
+use Rattle.relay_geo.specs.Attitude.{quat_to_rotmat, thrust_attitude}
 
-abbrev pub FALCON-QUAD : GeoGains
-FALCON-QUAD =
+abbrev pub FALCON_QUAD : GeoGains
+FALCON_QUAD =
     record {
       k_r = (f32 0x3f19_999a, f32 0x3f19_999a, f32 0x3e19_999a);
       k_omega = (f32 0x3df5_c28f, f32 0x3df5_c28f, f32 0x3eb3_3333);
@@ -33,16 +33,16 @@ psi r rd =
 abbrev pub difference : Mat3 → Mat3 → (Mat3 → Vec3) → (Mat3 → Vec3) → Float
 difference r rd i j = prod3 (i rd) (j r) ⊖ prod3 (i r) (j rd)
 
-unfoldable pub attitudeError : Mat3 → Mat3 → Vec3
-attitudeError r rd =
+unfoldable pub attitude_error : Mat3 → Mat3 → Vec3
+attitude_error r rd =
     let d = difference r rd in (
       0·5 ⊗ (d column2 column1 ⊖ d column1 column2),
       0·5 ⊗ (d column0 column2 ⊖ d column2 column0),
       0·5 ⊗ (d column1 column0 ⊖ d column0 column1),
     )
 
-abbrev pub attitudeErrorReduced : Mat3 → Vec3 → Vec3
-attitudeErrorReduced r b3 = let v = transposedTimes r b3 in (2·0 ⊗ v.1, neg 2·0 ⊗ v.0, 0·0)
+abbrev pub attitude_error_reduced : Mat3 → Vec3 → Vec3
+attitude_error_reduced r b3 = let v = transposed_times r b3 in (2·0 ⊗ v.1, neg 2·0 ⊗ v.0, 0·0)
 
 -- ---- torques and rates
 
@@ -61,27 +61,27 @@ opposed kr e ko w gyro = (
 )
 
 -- no yaw torque
-unfoldable pub momentReduced : GeoGains → Mat3 → BodyRate → Vec3 → Torque
-momentReduced g r omega b3 =
+unfoldable pub moment_reduced : GeoGains → Mat3 → BodyRate → Vec3 → Torque
+moment_reduced g r omega b3 =
     let w = omega.0 in
-    let m = opposed g.k_r (attitudeErrorReduced r b3) g.k_omega w (gyroscopic g.j w) in
+    let m = opposed g.k_r (attitude_error_reduced r b3) g.k_omega w (gyroscopic g.j w) in
     record { 0 = (m.0, m.1, 0·0) }
 
 unfoldable pub moment : GeoGains → Mat3 → BodyRate → Mat3 → Torque
 moment g r omega rd =
     let w = omega.0 in
-    record { 0 = opposed g.k_r (attitudeError r rd) g.k_omega w (gyroscopic g.j w) }
+    record { 0 = opposed g.k_r (attitude_error r rd) g.k_omega w (gyroscopic g.j w) }
 
-abbrev pub rateToward : GeoGains → Mat3 → Attitude → BodyRate
-rateToward g r (Matrix rd) = record { 0 = sanitise3 (against g.k_r (attitudeError r rd)) }
-rateToward g r Refused = record { 0 = (0·0, 0·0, 0·0) }
+abbrev pub rate_toward : GeoGains → Mat3 → Attitude → BodyRate
+rate_toward g r (Matrix rd) = record { 0 = sanitise3 (against g.k_r (attitude_error r rd)) }
+rate_toward g r Refused = record { 0 = (0·0, 0·0, 0·0) }
 
-unfoldable pub desiredRate : GeoGains → Quat → Vec3 → Float → BodyRate
-desiredRate g q a yaw = rateToward g (quatToRotmat q) (thrustAttitude (sanitise3 a) yaw)
+unfoldable pub desired_rate : GeoGains → Quat → Vec3 → Float → BodyRate
+desired_rate g q a yaw = rate_toward g (quat_to_rotmat q) (thrust_attitude (sanitise3 a) yaw)
 
-abbrev pub torqueToward : GeoGains → Mat3 → BodyRate → Attitude → Torque
-torqueToward g r omega (Matrix rd) = record { 0 = sanitise3 (moment g r omega rd).0 }
-torqueToward g r omega Refused = record { 0 = sanitise3 (against g.k_omega omega.0) }
+abbrev pub torque_toward : GeoGains → Mat3 → BodyRate → Attitude → Torque
+torque_toward g r omega (Matrix rd) = record { 0 = sanitise3 (moment g r omega rd).0 }
+torque_toward g r omega Refused = record { 0 = sanitise3 (against g.k_omega omega.0) }
 
 unfoldable pub tick : GeoGains → Quat → BodyRate → Vec3 → Float → Torque
-tick g q omega a yaw = torqueToward g (quatToRotmat q) record { 0 = sanitise3 omega.0 } (thrustAttitude (sanitise3 a) yaw)
+tick g q omega a yaw = torque_toward g (quat_to_rotmat q) record { 0 = sanitise3 omega.0 } (thrust_attitude (sanitise3 a) yaw)

@@ -5,18 +5,18 @@ use Rattle.relay_geo.specs.declared.attitude.Attitude.{Attitude}
 use Rattle.relay_geo.specs.declared.attitude.Feedforward.{Feedforward}
 use Rattle.relay_geo.specs.declared.attitude.Feedforward.TheVariants as rate
 use Rattle.relay_geo.specs.declared.attitude.Thrust.{Thrust}
-use Rattle.relay_geo.specs.Vectors.{norm, over, directionOf}
-use Rattle.relay_geo.specs.Attitude.{thrustForce, alongAxis, tooWeak, rateFrom}
+use Rattle.relay_geo.specs.Vectors.{norm, over, direction_of}
+use Rattle.relay_geo.specs.Attitude.{thrust_force, along_axis, too_weak, rate_from}
 
 -- ---- the thrust's force and its norm, for a caller that wants the attitude and the feedforward of one acceleration
 
-unfoldable pub thrustOf : Vec3 → Thrust
-thrustOf a = let t = thrustForce a in record { force = t; norm = norm t }
+unfoldable pub thrust_of : Vec3 → Thrust
+thrust_of a = let t = thrust_force a in record { force = t; norm = norm t }
 
-unfoldable pub attitudeOn : Thrust → Float → Attitude
-attitudeOn t yaw = alongAxis (directionOf t.force t.norm) yaw
+unfoldable pub attitude_on : Thrust → Float → Attitude
+attitude_on t yaw = along_axis (direction_of t.force t.norm) yaw
 
-unfoldable pub feedforwardOn : Thrust → Vec3 → Float → Attitude → Feedforward
-feedforwardOn t j yawRate attitude =
+unfoldable pub feedforward_on : Thrust → Vec3 → Float → Attitude → Feedforward
+feedforward_on t j yawRate attitude =
     let c = t.norm in
-    cond (tooWeak c) rate.Refused (rateFrom c (over t.force c) j yawRate attitude)
+    cond (too_weak c) rate.Refused (rate_from c (over t.force c) j yawRate attitude)

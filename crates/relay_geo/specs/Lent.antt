@@ -2,5 +2,5 @@
 use Rattle.relay_geo.specs.declared.shield.Shielded.{Shielded}
 use Rattle.relay_geo.specs.declared.lent.Picked.{Picked}
 
-abbrev pub pickedOf : Shielded → Picked
-pickedOf s = record { command = s.command; fallback = s.fallback }
+abbrev pub picked_of : Shielded → Picked
+picked_of s = record { command = s.command; fallback = s.fallback }

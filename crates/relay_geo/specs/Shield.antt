@@ -1,6 +1,6 @@
 -- The simplex shield (000). Definitions only.
 use Rattle.std.specs.Prelude.{Bool, true, cond, Float}
-use Rattle.relay_math.specs.F32.{◌⊗◌, 0·0, 0·1, 2·0, finiteAbove}
+use Rattle.relay_math.specs.F32.{◌⊗◌, 0·0, 0·1, 2·0, finite_above}
 use Rattle.relay_math.specs.declared.BodyRate.{BodyRate}
 use Rattle.relay_geo.specs.declared.set.RecoverableSet.{RecoverableSet}
 use Rattle.relay_geo.specs.declared.shield.Thresholds.{Thresholds}
@@ -10,21 +10,21 @@ use Rattle.relay_geo.specs.Vectors.{sanitise3}
 use Rattle.relay_geo.specs.Set.{margin}
 use Rattle.latch.specs.Latch.{latch}
 
-abbrev pub mendEnter : Float → Float
-mendEnter enter = cond (finiteAbove 0·0 enter) enter 0·1
+abbrev pub mend_enter : Float → Float
+mend_enter enter = cond (finite_above 0·0 enter) enter 0·1
 
-abbrev pub mendExit : Float → Float → Float
-mendExit enter exit = cond (finiteAbove enter exit) exit (enter ⊗ 2·0)
+abbrev pub mend_exit : Float → Float → Float
+mend_exit enter exit = cond (finite_above enter exit) exit (enter ⊗ 2·0)
 
-unfoldable pub mendThresholds : Float → Float → Thresholds
-mendThresholds enter exit =
-    let enter = mendEnter enter in
-    record { enter = enter; exit = mendExit enter exit }
+unfoldable pub mend_thresholds : Float → Float → Thresholds
+mend_thresholds enter exit =
+    let enter = mend_enter enter in
+    record { enter = enter; exit = mend_exit enter exit }
 
-unfoldable pub newShield : RecoverableSet → Float → Float → SimplexShield
-unfolding mendThresholds
-newShield set enter exit =
-    let t = mendThresholds enter exit in
+unfoldable pub new_shield : RecoverableSet → Float → Float → SimplexShield
+unfolding mend_thresholds
+new_shield set enter exit =
+    let t = mend_thresholds enter exit in
     record { set = set; engaged = true; enter = t.enter; exit = t.exit }
 
 -- the chosen command, its non-finite numbers made +0

@@ -1,7 +1,7 @@
 -- Vectors and 3x3 matrices, line by line as the Rust has them. Definitions only.
 use Rattle.std.specs.Prelude.{Bool, true, false, cond, T, Float}
 use Rattle.relay_math.specs.declared.Vec3.{Vec3}
-use Rattle.relay_math.specs.F32.{f32, ◌⊕◌, ◌⊖◌, ◌⊗◌, ◌⊘◌, 0·0, 0·5, 1·0, is_finite, finiteOr, finiteAbove}
+use Rattle.relay_math.specs.F32.{f32, ◌⊕◌, ◌⊖◌, ◌⊗◌, ◌⊘◌, 0·0, 0·5, 1·0, is_finite, finite_or, finite_above}
 use Rattle.relay_math.specs.Sqrt.{sqrtf}
 use Rattle.relay_geo.specs.declared.vectors.Mat3.{Mat3}
 use Rattle.relay_geo.specs.declared.vectors.Direction.{Direction}
@@ -13,8 +13,8 @@ abbrev pub 1e-9 : Float
 abbrev pub 9·81 : Float
 9·81 = f32 0x411c_f5c3
 
-abbrev pub GRAVITY-NED : Vec3
-GRAVITY-NED = (0·0, 0·0, 9·81)
+abbrev pub GRAVITY_NED : Vec3
+GRAVITY_NED = (0·0, 0·0, 9·81)
 
 unfoldable pub cross : Vec3 → Vec3 → Vec3
 cross a b = (a.1 ⊗ b.2 ⊖ a.2 ⊗ b.1, a.2 ⊗ b.0 ⊖ a.0 ⊗ b.2, a.0 ⊗ b.1 ⊖ a.1 ⊗ b.0)
@@ -27,15 +27,15 @@ norm a = sqrtf (dot a a)
 
 -- the norm is finite and above 1e-9
 abbrev pub long : Float → Bool
-long n = finiteAbove 1e-9 n
+long n = finite_above 1e-9 n
 
 -- a / n
 abbrev pub over : Vec3 → Float → Vec3
 over a n = (a.0 ⊘ n, a.1 ⊘ n, a.2 ⊘ n)
 
 -- the direction of a, n being its norm
-abbrev pub directionOf : Vec3 → Float → Direction
-directionOf a n = cond (long n) (Axis (over a n)) Refused
+abbrev pub direction_of : Vec3 → Float → Direction
+direction_of a n = cond (long n) (Axis (over a n)) Refused
 
 unfoldable pub normalize : Vec3 → Direction
 normalize a = let n = norm a in cond (long n) (Axis (over a n)) Refused
@@ -59,28 +59,28 @@ transpose3 m = (column0 m, column1 m, column2 m)
 unfoldable pub prod3 : Vec3 → Vec3 → Float
 prod3 a b = 0·0 ⊕ a.0 ⊗ b.0 ⊕ a.1 ⊗ b.1 ⊕ a.2 ⊗ b.2
 
-abbrev pub rowTimes : Vec3 → Mat3 → Vec3
-rowTimes a b = (prod3 a (column0 b), prod3 a (column1 b), prod3 a (column2 b))
+abbrev pub row_times : Vec3 → Mat3 → Vec3
+row_times a b = (prod3 a (column0 b), prod3 a (column1 b), prod3 a (column2 b))
 
 unfoldable pub matmul3 : Mat3 → Mat3 → Mat3
-matmul3 a b = (rowTimes a.0 b, rowTimes a.1 b, rowTimes a.2 b)
+matmul3 a b = (row_times a.0 b, row_times a.1 b, row_times a.2 b)
 
 -- the transposed m times v, which does not start from 0.0
-unfoldable pub transposedTimes : Mat3 → Vec3 → Vec3
+unfoldable pub transposed_times : Mat3 → Vec3 → Vec3
 unfolding dot
-transposedTimes m v = (dot (column0 m) v, dot (column1 m) v, dot (column2 m) v)
+transposed_times m v = (dot (column0 m) v, dot (column1 m) v, dot (column2 m) v)
 
 abbrev pub vee : Mat3 → Vec3
 vee m = (0·5 ⊗ (m.2.1 ⊖ m.1.2), 0·5 ⊗ (m.0.2 ⊖ m.2.0), 0·5 ⊗ (m.1.0 ⊖ m.0.1))
 
 abbrev pub sanitise3 : Vec3 → Vec3
-sanitise3 v = (finiteOr v.0 0·0, finiteOr v.1 0·0, finiteOr v.2 0·0)
+sanitise3 v = (finite_or v.0 0·0, finite_or v.1 0·0, finite_or v.2 0·0)
 
 -- ---- for what is proved of them
 
-abbrev pub givesAxis : Direction → Bool
-givesAxis (Axis b) = true
-givesAxis Refused = false
+abbrev pub gives_axis : Direction → Bool
+gives_axis (Axis b) = true
+gives_axis Refused = false
 
 -- three finite numbers
 pub record Finite3 (v : Vec3) : Type 0 where

@@ -1,7 +1,7 @@
 // Attitudes: from a quaternion, and from the thrust axis and the heading, with no Euler angles on the way.
 ghost use Rattle.std.specs.Prelude.{◌≡◌};
-ghost use Rattle.relay_geo.specs.Attitude.{quatToRotmat, heading, desiredAttitude, thrustForce, thrustAxisNed, thrustAttitude, tooWeak, rateFrom, flatnessOmegaFf};
-ghost use Rattle.relay_geo.specs.Inner.{thrustOf, attitudeOn, feedforwardOn};
+ghost use Rattle.relay_geo.specs.Attitude.{quat_to_rotmat, heading, desired_attitude, thrust_force, thrust_axis_ned, thrust_attitude, too_weak, rate_from, flatness_omega_ff};
+ghost use Rattle.relay_geo.specs.Inner.{thrust_of, attitude_on, feedforward_on};
 
 use super::vectors::{
     Direction, GRAVITY_NED, Mat3, Quat, cross, direction_of, dot, normalize, sanitise3,
@@ -33,7 +33,7 @@ pub struct Thrust {
 
 // Body to NED, from a unit quaternion (Hamilton, w first). One that is no unit is not mended: the zero quaternion gives the identity.
 pub fn quat_to_rotmat(q: Quat) -> Mat3
-    ensures { result ≡ quatToRotmat q }
+    ensures { result ≡ quat_to_rotmat q }
 {
     let w = q.0;
     let x = q.1;
@@ -69,7 +69,7 @@ fn heading(yaw: f32) -> Vec3
 // The desired attitude: its columns are the desired body axes in NED, the third the given body-down (thrust) axis brought to length 1. It is
 // refused where that axis or the heading gives no direction, or the cross product of the two is not above 1e-9 in norm (they are parallel).
 pub fn desired_attitude(b3_d: Vec3, yaw: f32) -> Attitude
-    ensures { result ≡ desiredAttitude b3_d yaw }
+    ensures { result ≡ desired_attitude b3_d yaw }
 {
     let Direction::Axis(b3) = normalize(b3_d) else {
         return Attitude::Refused;
@@ -88,7 +88,7 @@ pub fn desired_attitude(b3_d: Vec3, yaw: f32) -> Attitude
 
 // g - a: thrust acts along -body_z (up), so body-z (down) lies along it.
 fn thrust_force(a_cmd: Vec3) -> Vec3
-    ensures { result ≡ thrustForce a_cmd }
+    ensures { result ≡ thrust_force a_cmd }
 {
     Vec3(
         GRAVITY_NED.0 - a_cmd.0,
@@ -99,14 +99,14 @@ fn thrust_force(a_cmd: Vec3) -> Vec3
 
 // The desired body-down (thrust) axis in NED for a commanded NED acceleration. Free fall has none.
 pub fn thrust_axis_ned(a_cmd: Vec3) -> Direction
-    ensures { result ≡ thrustAxisNed a_cmd }
+    ensures { result ≡ thrust_axis_ned a_cmd }
 {
     normalize(thrust_force(a_cmd))
 }
 
 // The desired attitude for a commanded acceleration and a heading: the Rust's `thrust_axis_ned(a).and_then(|b3| desired_attitude(b3, yaw))`.
 pub fn thrust_attitude(a_cmd: Vec3, yaw: f32) -> Attitude
-    ensures { result ≡ thrustAttitude a_cmd yaw }
+    ensures { result ≡ thrust_attitude a_cmd yaw }
 {
     match thrust_axis_ned(a_cmd) {
         Direction::Axis(b3) => desired_attitude(b3, yaw),
@@ -116,14 +116,14 @@ pub fn thrust_attitude(a_cmd: Vec3, yaw: f32) -> Attitude
 
 // The thrust is too weak to have an axis that turns.
 fn too_weak(c: f32) -> bool
-    ensures { result ≡ tooWeak c }
+    ensures { result ≡ too_weak c }
 {
     !is_finite(c) || c <= 1e-3
 }
 
 // The body rate that turns the thrust axis b3 with the jerk, and yaws with the heading, in the body's axes at the attitude r_d.
 fn rate_from(c: f32, b3: Vec3, j_cmd: Vec3, yaw_rate: f32, r_d: Attitude) -> Feedforward
-    ensures { result ≡ rateFrom c b3 j_cmd yaw_rate r_d }
+    ensures { result ≡ rate_from c b3 j_cmd yaw_rate r_d }
 {
     let Attitude::Matrix(r_d) = r_d else {
         return Feedforward::Refused;
@@ -136,7 +136,7 @@ fn rate_from(c: f32, b3: Vec3, j_cmd: Vec3, yaw_rate: f32, r_d: Attitude) -> Fee
 
 // The thrust of an acceleration. Its norm is written out: so the compiled root stays a call on a number, and no vector goes through memory to it.
 pub fn thrust_of(a_cmd: Vec3) -> Thrust
-    ensures { result ≡ thrustOf a_cmd }
+    ensures { result ≡ thrust_of a_cmd }
 {
     let tf = thrust_force(a_cmd);
     Thrust {
@@ -145,9 +145,9 @@ pub fn thrust_of(a_cmd: Vec3) -> Thrust
     }
 }
 
-// `thrust_attitude` of the acceleration whose thrust this is (`shared-attitude` of proofs/Accepts.antt).
+// `thrust_attitude` of the acceleration whose thrust this is (`shared_attitude` of proofs/Accepts.antt).
 pub fn attitude_on(t: Thrust, yaw: f32) -> Attitude
-    ensures { result ≡ attitudeOn t yaw }
+    ensures { result ≡ attitude_on t yaw }
 {
     let tf = t.force;
     match direction_of(tf, t.norm) {
@@ -157,9 +157,9 @@ pub fn attitude_on(t: Thrust, yaw: f32) -> Attitude
 }
 
 // The feedforward of this thrust for a caller that has the attitude already: of an acceleration's thrust, with its `thrust_attitude`, it is that of
-// `flatness_omega_ff` (`feedforward-shares` of proofs/Accepts.antt).
+// `flatness_omega_ff` (`feedforward_shares` of proofs/Accepts.antt).
 pub fn feedforward_on(t: Thrust, j_cmd: Vec3, yaw_rate: f32, r_d: Attitude) -> Feedforward
-    ensures { result ≡ feedforwardOn t j_cmd yaw_rate r_d }
+    ensures { result ≡ feedforward_on t j_cmd yaw_rate r_d }
 {
     let tf = t.force;
     let c = t.norm;
@@ -173,7 +173,7 @@ pub fn feedforward_on(t: Thrust, j_cmd: Vec3, yaw_rate: f32, r_d: Attitude) -> F
 // The body rate that a flat trajectory demands, from its acceleration, jerk, heading and heading's rate. The Rust's comment has the
 // other sign; its code, and this, have -(b3 x j) / c. The Rust builds the attitude of b3; that of the thrust is the same where the thrust is not too weak.
 pub fn flatness_omega_ff(a_cmd: Vec3, j_cmd: Vec3, yaw: f32, yaw_rate: f32) -> Feedforward
-    ensures { result ≡ flatnessOmegaFf a_cmd j_cmd yaw yaw_rate }
+    ensures { result ≡ flatness_omega_ff a_cmd j_cmd yaw yaw_rate }
 {
     let t = thrust_of(a_cmd);
     feedforward_on(t, j_cmd, yaw_rate, attitude_on(t, yaw))

@@ -1,6 +1,6 @@
 // The geometric attitude controller (Lee, Leok, McClamroch 2010), for a desired body rate of zero.
 ghost use Rattle.std.specs.Prelude.{◌≡◌};
-ghost use Rattle.relay_geo.specs.Controller.{FALCON-QUAD, psi, attitudeError, attitudeErrorReduced, gyroscopic, against, opposed, momentReduced, moment, rateToward, torqueToward, desiredRate, tick};
+ghost use Rattle.relay_geo.specs.Controller.{FALCON_QUAD, psi, attitude_error, attitude_error_reduced, gyroscopic, against, opposed, moment_reduced, moment, rate_toward, torque_toward, desired_rate, tick};
 
 use super::attitude::{Attitude, quat_to_rotmat, thrust_attitude};
 use super::vectors::{Mat3, Quat, cross, sanitise3, transposed_times};
@@ -26,7 +26,7 @@ impl GeoGains {
 
     // `FALCON_QUAD`, with a promise that fixes the bits.
     pub fn falcon_quad() -> GeoGains
-        ensures { result ≡ FALCON-QUAD }
+        ensures { result ≡ FALCON_QUAD }
     {
         GeoGains::FALCON_QUAD
     }
@@ -85,7 +85,7 @@ impl GeoAtt {
     // The attitude error in the body's axes. It is the full vee, twice Lee's: the half is in the gain k_r. `pij` is as above and `qij` the same
     // entry of R^T R_d. Each sum starts from 0.0, so none is a negative zero; the halved difference stays, since twice an entry can overflow.
     pub fn attitude_error(r: Mat3, r_d: Mat3) -> Vec3
-        ensures { result ≡ attitudeError r r_d }
+        ensures { result ≡ attitude_error r r_d }
     {
         let p21 = 0.0 + r_d.0.2 * r.0.1 + r_d.1.2 * r.1.1 + r_d.2.2 * r.2.1;
         let q21 = 0.0 + r.0.2 * r_d.0.1 + r.1.2 * r_d.1.1 + r.2.2 * r_d.2.1;
@@ -108,7 +108,7 @@ impl GeoAtt {
 
     // The error of the thrust axis alone, for a rotor out: yaw is let go. It is zero at b3_d, and upside down too.
     pub fn attitude_error_reduced(r: Mat3, b3_d: Vec3) -> Vec3
-        ensures { result ≡ attitudeErrorReduced r b3_d }
+        ensures { result ≡ attitude_error_reduced r b3_d }
     {
         let v = transposed_times(r, b3_d);
         Vec3(2.0 * v.1, -2.0 * v.0, 0.0)
@@ -116,7 +116,7 @@ impl GeoAtt {
 
     // The torque for a rotor out: no yaw torque.
     pub fn moment_reduced(self, r: Mat3, omega: BodyRate, b3_d: Vec3) -> Torque
-        ensures { result ≡ momentReduced self.gains r omega b3_d }
+        ensures { result ≡ moment_reduced self.gains r omega b3_d }
     {
         let e = GeoAtt::attitude_error_reduced(r, b3_d);
         let g = self.gains;
@@ -137,7 +137,7 @@ impl GeoAtt {
 
     // The rate toward an attitude that is there already: zeros where there is none.
     pub fn rate_toward(self, r: Mat3, r_d: Attitude) -> BodyRate
-        ensures { result ≡ rateToward self.gains r r_d }
+        ensures { result ≡ rate_toward self.gains r r_d }
     {
         match r_d {
             Attitude::Matrix(r_d) => {
@@ -151,7 +151,7 @@ impl GeoAtt {
 
     // The outer loop for a robust inner loop to follow: a desired body rate, and not a torque.
     pub fn desired_rate(self, q_est: Quat, a_cmd_ned: Vec3, yaw_d: f32) -> BodyRate
-        ensures { result ≡ desiredRate self.gains q_est a_cmd_ned yaw_d }
+        ensures { result ≡ desired_rate self.gains q_est a_cmd_ned yaw_d }
     {
         let r = quat_to_rotmat(q_est);
         let r_d = thrust_attitude(sanitise3(a_cmd_ned), yaw_d);
@@ -160,7 +160,7 @@ impl GeoAtt {
 
     // The torque toward an attitude that is there already: rate damping alone where there is none.
     fn torque_toward(self, r: Mat3, omega: BodyRate, r_d: Attitude) -> Torque
-        ensures { result ≡ torqueToward self.gains r omega r_d }
+        ensures { result ≡ torque_toward self.gains r omega r_d }
     {
         match r_d {
             Attitude::Matrix(r_d) => {

@@ -1,7 +1,7 @@
 // `step` once more, over a shield that the caller lends, as the Rust's `&mut self` has it: thin over the one by value, which does the work.
 ghost use Rattle.std.specs.Prelude.{◌≡◌};
 ghost use Rattle.relay_geo.specs.Shield.{step};
-ghost use Rattle.relay_geo.specs.Lent.{pickedOf};
+ghost use Rattle.relay_geo.specs.Lent.{picked_of};
 
 use crate::shield::SimplexShield;
 use relay_math::BodyRate;
@@ -16,7 +16,7 @@ pub struct Picked {
 
 impl SimplexShield {
     pub fn step_lent(&mut self, margin: f32, agile: BodyRate, fallback: BodyRate) -> Picked
-        ensures { (result ≡ pickedOf (step self.old margin agile fallback))
+        ensures { (result ≡ picked_of (step self.old margin agile fallback))
             × (self.new ≡ (step self.old margin agile fallback).shield) }
     {
         let next = (*self).step(margin, agile, fallback);

@@ -1,6 +1,6 @@
 // The recoverable set of the geometric controller: the states from which Lee 2010 (Prop. 1) shows that it brings both errors to zero.
 ghost use Rattle.std.specs.Prelude.{◌≡◌};
-ghost use Rattle.relay_geo.specs.Set.{minusInfinity, unknown, smaller, newSet, margin, recoverable};
+ghost use Rattle.relay_geo.specs.Set.{minus_infinity, unknown, smaller, new_set, margin, recoverable};
 
 use relay_math::{finite_or, is_finite};
 
@@ -13,7 +13,7 @@ pub struct RecoverableSet {
 }
 
 fn minus_infinity() -> f32
-    ensures { result ≡ minusInfinity }
+    ensures { result ≡ minus_infinity }
 {
     f32::from_bits(0xff80_0000)
 }
@@ -47,7 +47,7 @@ fn smaller(psi_margin: f32, rate_margin: f32) -> f32
 
 impl RecoverableSet {
     pub fn new(k_r: f32, lambda_j: f32, psi_max: f32) -> Self
-        ensures { result ≡ newSet k_r lambda_j psi_max }
+        ensures { result ≡ new_set k_r lambda_j psi_max }
     {
         Self {
             k_r: k_r,

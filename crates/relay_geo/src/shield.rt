@@ -1,6 +1,6 @@
 // The simplex shield: the planner's command flies only while the margin is safely inside the recoverable set, else the fallback does.
 ghost use Rattle.std.specs.Prelude.{◌≡◌, cond};
-ghost use Rattle.relay_geo.specs.Shield.{mendEnter, mendExit, mendThresholds, newShield, picked, step, filter};
+ghost use Rattle.relay_geo.specs.Shield.{mend_enter, mend_exit, mend_thresholds, new_shield, picked, step, filter};
 
 use crate::set::RecoverableSet;
 use crate::vectors::sanitise3;
@@ -34,13 +34,13 @@ pub struct Shielded {
 }
 
 fn mend_enter(enter: f32) -> f32
-    ensures { result ≡ mendEnter enter }
+    ensures { result ≡ mend_enter enter }
 {
     if finite_above(0.0, enter) { enter } else { 0.1 }
 }
 
 fn mend_exit(enter: f32, exit: f32) -> f32
-    ensures { result ≡ mendExit enter exit }
+    ensures { result ≡ mend_exit enter exit }
 {
     if finite_above(enter, exit) {
         exit
@@ -51,7 +51,7 @@ fn mend_exit(enter: f32, exit: f32) -> f32
 
 // Thresholds in a safe order, whatever is given.
 pub fn mend(enter: f32, exit: f32) -> Thresholds
-    ensures { result ≡ mendThresholds enter exit }
+    ensures { result ≡ mend_thresholds enter exit }
 {
     let enter = mend_enter(enter);
     Thresholds {
@@ -77,7 +77,7 @@ fn pick(engaged: bool, agile: BodyRate, fallback: BodyRate) -> BodyRate
 impl SimplexShield {
     // A fresh shield is engaged: the planner has to earn control.
     pub fn new(set: RecoverableSet, enter: f32, exit: f32) -> Self
-        ensures { result ≡ newShield set enter exit }
+        ensures { result ≡ new_shield set enter exit }
     {
         let t = mend(enter, exit);
         Self {

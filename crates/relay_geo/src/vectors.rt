@@ -1,6 +1,6 @@
 // Vectors and 3x3 matrices.
 ghost use Rattle.std.specs.Prelude.{◌≡◌};
-ghost use Rattle.relay_geo.specs.Vectors.{cross, dot, norm, directionOf, normalize, identity3, transpose3, prod3, matmul3, transposedTimes, vee, sanitise3};
+ghost use Rattle.relay_geo.specs.Vectors.{cross, dot, norm, direction_of, normalize, identity3, transpose3, prod3, matmul3, transposed_times, vee, sanitise3};
 
 use relay_math::{Vec3, finite_above, finite_or, sqrtf_near_one};
 
@@ -49,7 +49,7 @@ pub fn norm(a: Vec3) -> f32
 
 // The direction of a vector whose length n is there already.
 pub(crate) fn direction_of(a: Vec3, n: f32) -> Direction
-    ensures { result ≡ directionOf a n }
+    ensures { result ≡ direction_of a n }
 {
     if finite_above(1e-9, n) {
         Direction::Axis(Vec3(a.0 / n, a.1 / n, a.2 / n))
@@ -104,7 +104,7 @@ pub fn matmul3(a: Mat3, b: Mat3) -> Mat3
 
 // The transposed m times v, where the Rust writes the three sums out: they don't start from 0.0, so a negative zero can come out.
 pub(crate) fn transposed_times(m: Mat3, v: Vec3) -> Vec3
-    ensures { result ≡ transposedTimes m v }
+    ensures { result ≡ transposed_times m v }
 {
     Vec3(
         m.0.0 * v.0 + m.1.0 * v.1 + m.2.0 * v.2,

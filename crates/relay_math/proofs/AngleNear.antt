@@ -4,8 +4,8 @@ use Rattle.laws.proofs.Prelude.{lit≤, pow_mono, Float, nan, inf, fin, up, down
 use Rattle.std.proofs.Common.{le-add_right}
 use native.Mathlib.Nat.{le_of_mul-le-mul_left}
 use lib.Ieee.Exact.{HasValue}
-use Rattle.relay_math.specs.{Exact.{gap, Value, negated, negated_if, Near, sinAt, cosAt, sineBy, cosineBy}, Steps.{cutSquare, sinPoly, cosPoly, toFloat, signed, turned}}
-use Rattle.relay_math.proofs.{Signs.of-value, Horner.{Nest, Close, carry}, Round.rounded, Fixed.{One, Half, Err, sin-most, cos-most, sin-fixed, cos-fixed}}
+use Rattle.relay_math.specs.{Exact.{gap, Value, negated, negated_if, Near, sin_at, cos_at, sine_by, cosine_by}, Steps.{cut_square, sin_poly, cos_poly, to_float, signed, turned}}
+use Rattle.relay_math.proofs.{Signs.of_value, Horner.{Nest, Close, carry}, Round.rounded, Fixed.{One, Half, Err, sin_most, cos_most, sin_fixed, cos_fixed}}
 
 -- A / C = G / L, and G / L is within E / L of (P - N) / D
 apart : (A C G L D N P E : ℕ) → 0 < L → A * L ≡ G * C → 8388608 * E ≤ L → G * D + L * N ≤ L * P + E * D → L * P ≤ G * D + L * N + E * D
@@ -24,7 +24,7 @@ value_of x = record { plus = x.p; minus = x.n; over = x.w }
 
 pub near_of : (y : Float) (G E : ℕ) (x : Nest) → HasValue y false G (2 ^ 149) → 8388608 * E ≤ 2 ^ 149 → Close (2 ^ 149) E G x → Near 23 y (value_of x)
 near_of y G E x h k c =
-    of-value (λ (y : Float). Near 23 y (value_of x)) false G (2 ^ 149)
+    of_value (λ (y : Float). Near 23 y (value_of x)) false G (2 ^ 149)
     (λ m e v. apart (m * up e) (down e) G (2 ^ 149) x.w x.n x.p E (lit< tt) v.1 k c.hi c.lo) y h
 
 -- a wider bound
@@ -38,21 +38,21 @@ wider k (fin false m e) v h = le_trans (mul-le-mul_right _ (pow_mono (le-add_rig
 mirrored : (A C p n w : ℕ) → gap (0 * w + p * C) (n * C + A * w) ≡ gap (A * w + n * C) (p * C + 0 * w)
 mirrored A C p n w = omega arith
 
-near-neg : (y : Float) (v : Value) → Near 23 y v → Near 23 (neg y) (negated v)
+near_neg : (y : Float) (v : Value) → Near 23 y v → Near 23 (neg y) (negated v)
 unfolding neg
-near-neg (fin true m e) v h = rw (← mirrored (m * up e) (down e) v.minus v.plus v.over) h
-near-neg (fin false m e) v h = rw (mirrored (m * up e) (down e) v.plus v.minus v.over) h
+near_neg (fin true m e) v h = rw (← mirrored (m * up e) (down e) v.minus v.plus v.over) h
+near_neg (fin false m e) v h = rw (mirrored (m * up e) (down e) v.plus v.minus v.over) h
 
-near-signed : (s : Bool) (y : Float) (v : Value) → Near 23 y v → Near 23 (signed s y) (negated_if s v)
-near-signed true y v h = near-neg y v h
-near-signed false y v h = h
+near_signed : (s : Bool) (y : Float) (v : Value) → Near 23 y v → Near 23 (signed s y) (negated_if s v)
+near_signed true y v h = near_neg y v h
+near_signed false y v h = h
 
 -- ---- quadrants
 abbrev value_at : Bool → ℕ → Bool → ℕ → Value
-value_at s n b R = let even = eqb (n % 2) 0 in negated_if (unlike (unlike s (leb 2 n)) (even && b)) (cond even (sinAt false R) (cosAt R))
+value_at s n b R = let even = eqb (n % 2) 0 in negated_if (unlike (unlike s (leb 2 n)) (even && b)) (cond even (sin_at false R) (cos_at R))
 
 abbrev Exact : ℕ → ℕ → Bool → Bool → Type 0
-Exact R n s b = (value_at s n b R ≡ sineBy (cond s (3 * n % 4) n) (unlike s b) R) × (value_at false ((n + 1) % 4) b R ≡ cosineBy (cond s (3 * n % 4) n) (unlike s b) R)
+Exact R n s b = (value_at s n b R ≡ sine_by (cond s (3 * n % 4) n) (unlike s b) R) × (value_at false ((n + 1) % 4) b R ≡ cosine_by (cond s (3 * n % 4) n) (unlike s b) R)
 
 each : (P : Bool → Bool → Type 0) → P true true → P true false → P false true → P false false → (s b : Bool) → P s b
 each P tt tf ft ff true true = tt
@@ -61,38 +61,38 @@ each P tt tf ft ff false true = ft
 each P tt tf ft ff false false = ff
 
 exact : (R n : ℕ) → n < 4 → (s b : Bool) → Exact R n s b
-unfolding sineBy cosineBy
+unfolding sine_by cosine_by
 exact R zero l = each (Exact R 0) (refl, refl) (refl, refl) (refl, refl) (refl, refl)
 exact R (suc zero) l = each (Exact R 1) (refl, refl) (refl, refl) (refl, refl) (refl, refl)
 exact R (suc (suc zero)) l = each (Exact R 2) (refl, refl) (refl, refl) (refl, refl) (refl, refl)
 exact R (suc (suc (suc zero))) l = each (Exact R 3) (refl, refl) (refl, refl) (refl, refl) (refl, refl)
 exact R (suc (suc (suc (suc n)))) l = absurd (omega arith)
 
-module _ (S C : Float) (R : ℕ) (sin : Near 23 S (sinAt false R)) (cos : Near 23 C (cosAt R)) where
-  turned-near : (s : Bool) (n : ℕ) (b : Bool) → Near 23 (turned s n b S C) (value_at s n b R)
+module _ (S C : Float) (R : ℕ) (sin : Near 23 S (sin_at false R)) (cos : Near 23 C (cos_at R)) where
+  turned_near : (s : Bool) (n : ℕ) (b : Bool) → Near 23 (turned s n b S C) (value_at s n b R)
   unfolding turned
-  turned-near s n b = let even = eqb (n % 2) 0 in near-signed (unlike (unlike s (leb 2 n)) (even && b)) (cond even S C) (cond even (sinAt false R) (cosAt R)) (go even)
+  turned_near s n b = let even = eqb (n % 2) 0 in near_signed (unlike (unlike s (leb 2 n)) (even && b)) (cond even S C) (cond even (sin_at false R) (cos_at R)) (go even)
     where
-      go : (t : Bool) → Near 23 (cond t S C) (cond t (sinAt false R) (cosAt R))
+      go : (t : Bool) → Near 23 (cond t S C) (cond t (sin_at false R) (cos_at R))
       go true = sin
       go false = cos
 
-  pub quarters : (s b : Bool) (n : ℕ) → n < 4 → Near 23 (turned s n b S C) (sineBy (cond s (3 * n % 4) n) (unlike s b) R) × Near 23 (turned false ((n + 1) % 4) b S C)
-      (cosineBy (cond s (3 * n % 4) n) (unlike s b) R)
+  pub quarters : (s b : Bool) (n : ℕ) → n < 4 → Near 23 (turned s n b S C) (sine_by (cond s (3 * n % 4) n) (unlike s b) R) × Near 23 (turned false ((n + 1) % 4) b S C)
+      (cosine_by (cond s (3 * n % 4) n) (unlike s b) R)
   quarters s b n l =
       let e = exact R n l s b in
-      (subst (Near 23 (turned s n b S C)) e.0 (turned-near s n b), subst (Near 23 (turned false ((n + 1) % 4) b S C)) e.1 (turned-near false ((n + 1) % 4) b))
+      (subst (Near 23 (turned s n b S C)) e.0 (turned_near s n b), subst (Near 23 (turned false ((n + 1) % 4) b S C)) e.1 (turned_near false ((n + 1) % 4) b))
 
 -- ---- rounding adds at most 2 ^ -24
-rounded-near : (v : ℕ) (x : Nest) → v ≤ One → Close One Err v x → Near 23 (toFloat v) (value_of x)
-unfolding toFloat
-rounded-near v x h c =
+rounded_near : (v : ℕ) (x : Nest) → v ≤ One → Close One Err v x → Near 23 (to_float v) (value_of x)
+unfolding to_float
+rounded_near v x h c =
     let y = rounded v One (lit< tt) h in
-    near_of (toFloat v) y.0 (2 ^ 126) x y.1 (lit≤ tt) (carry (2 ^ 149) (2 ^ 125) (2 ^ 126) y.0 (lit< tt) y.2 y.3 (lit≤ tt) c)
+    near_of (to_float v) y.0 (2 ^ 126) x y.1 (lit≤ tt) (carry (2 ^ 149) (2 ^ 125) (2 ^ 126) y.0 (lit< tt) y.2 y.3 (lit≤ tt) c)
 
 module _ (R : ℕ) (S : R ≤ Half) where
-  pub sin-near : Near 23 (toFloat (sinPoly R (cutSquare R))) (sinAt false (R * 2 ^ 101))
-  sin-near = rounded-near (sinPoly R (cutSquare R)) _ (sin-most R (cutSquare R) S) (sin-fixed R (2 ^ 101) (lit< tt) S)
+  pub sin_near : Near 23 (to_float (sin_poly R (cut_square R))) (sin_at false (R * 2 ^ 101))
+  sin_near = rounded_near (sin_poly R (cut_square R)) _ (sin_most R (cut_square R) S) (sin_fixed R (2 ^ 101) (lit< tt) S)
 
-  pub cos-near : Near 23 (toFloat (cosPoly (cutSquare R))) (cosAt (R * 2 ^ 101))
-  cos-near = rounded-near (cosPoly (cutSquare R)) _ (cos-most (cutSquare R)) (cos-fixed R (2 ^ 101) (lit< tt) S)
+  pub cos_near : Near 23 (to_float (cos_poly (cut_square R))) (cos_at (R * 2 ^ 101))
+  cos_near = rounded_near (cos_poly (cut_square R)) _ (cos_most (cut_square R)) (cos_fixed R (2 ^ 101) (lit< tt) S)

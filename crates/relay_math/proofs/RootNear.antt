@@ -1,10 +1,10 @@
--- `nearestRoot n` is the one whole number nearest to √n; and where N is n * 4 ^ k, no f32 is as near √N grains as its 2 ^ k-fold. Assumes nothing.
+-- `nearest_root n` is the one whole number nearest to √n; and where N is n * 4 ^ k, no f32 is as near √N grains as its 2 ^ k-fold. Assumes nothing.
 use Rattle.laws.proofs.Prelude.{◌≡◌, refl, sym, ◌∙◌, ◌⊎◌, inl, inr, ℕ, zero, suc, ◌+◌, ◌-◌, ◌*◌, ◌/◌, ◌^◌, ◌≤◌, ◌<◌, le_of_eq, lt_of_lt_of_le, lt_of_not-le, le_trans, le_of_suc-le-suc, eq-or-lt_of_le}
 use Rattle.laws.proofs.Prelude.{mul-le-mul, mul-le-mul_right, mul-lt-mul_of_pos_right, mul-pos, zero-lt-suc, pow-suc, arith, Bool, true, false, not, cond, T, leb, leb→le, pow-add, pow_pos, pow_mono}
-use Rattle.laws.proofs.Prelude.{shl_lt, Float, fin, binary32, fits, le-or-lt}
+use Rattle.laws.proofs.Prelude.{shl_lt, Float, fin, binary32, fits, le_or_lt}
 use Rattle.std.proofs.Common.{div-lt_iff_lt-mul, lt_of_mul-lt-mul_right}
 use lib.Dec.{nleb→lt}
-use Rattle.relay_math.specs.{F32.grains, Sqrt.{natural, square, isqrt, nearestRoot, Nearest}}
+use Rattle.relay_math.specs.{F32.grains, Sqrt.{natural, square, isqrt, nearest_root, Nearest}}
 use Rattle.relay_math.proofs.Grains.{shift, reads}
 
 -- ---- the whole root
@@ -26,8 +26,8 @@ unfolding isqrt
 floor zero n h = omega arith
 floor (suc d) n h = step n (isqrt d (n / 4)) (floor d (n / 4) ((div-lt_iff_lt-mul (zero-lt-suc 3)).1 (lt_of_lt_of_le h (le_of_eq (pow-suc 4 d)))))
 
-pub closest : (n : ℕ) → 0 < n → n < 2 ^ 48 → Closest n (nearestRoot n)
-unfolding nearestRoot
+pub closest : (n : ℕ) → 0 < n → n < 2 ^ 48 → Closest n (nearest_root n)
+unfolding nearest_root
 closest n p h = let q = isqrt 24 n in go q (floor 24 n h) (leb n (q * q + q)) (leb→le n (q * q + q)) (nleb→lt n (q * q + q))
   where
     go : (q : ℕ) → Floor n q → (b : Bool) → (T b → n ≤ q * q + q) → (T (not b) → q * q + q < n) → Closest n (cond b q (suc q))
@@ -36,28 +36,28 @@ closest n p h = let q = isqrt 24 n in go q (floor 24 n h) (leb n (q * q + q)) (l
     go q (l, u) false f g = omega (arith, g tt)
 
 -- a root that is nearest has no other below it
-pub not-below : (n a b : ℕ) → n ≤ a * a + a → b * b < n + b → a < b → ⊥
-not-below n a zero h g l = omega arith
-not-below n a (suc c) h g l = let p : a * suc a ≤ c * suc c = mul-le-mul (le_of_suc-le-suc l) l in omega arith
+pub not_below : (n a b : ℕ) → n ≤ a * a + a → b * b < n + b → a < b → ⊥
+not_below n a zero h g l = omega arith
+not_below n a (suc c) h g l = let p : a * suc a ≤ c * suc c = mul-le-mul (le_of_suc-le-suc l) l in omega arith
 
-pub closest-unique : (n a b : ℕ) → Closest n a → Closest n b → a ≡ b
-closest-unique n a b (la, ha) (lb, hb) =
-    let x : b < suc a = lt_of_not-le (not-below n a b ha lb) in
-    let y : a < suc b = lt_of_not-le (not-below n b a hb la) in
+pub closest_unique : (n a b : ℕ) → Closest n a → Closest n b → a ≡ b
+closest_unique n a b (la, ha) (lb, hb) =
+    let x : b < suc a = lt_of_not-le (not_below n a b ha lb) in
+    let y : a < suc b = lt_of_not-le (not_below n b a hb la) in
     omega arith
 
 -- the root of 47 or 48 digits has 24
 pub digits : (n r : ℕ) → 2 ^ 46 ≤ n → n ≤ 2 ^ 48 - 2 ^ 24 → Closest n r → (2 ^ 23 ≤ r) × (r < 2 ^ 24)
-digits n r l h (u, o) = (le_of_suc-le-suc (lt_of_not-le (not-below n r (2 ^ 23) o (omega arith))), lt_of_not-le (not-below n (2 ^ 24 - 1) r (omega arith) u))
+digits n r l h (u, o) = (le_of_suc-le-suc (lt_of_not-le (not_below n r (2 ^ 23) o (omega arith))), lt_of_not-le (not_below n (2 ^ 24 - 1) r (omega arith) u))
 
 -- ---- an f32 is a multiple of G = 2 ^ k grains, or below 2 ^ 23 * G
 abbrev Grid : ℕ → ℕ → Type 0
 Grid G Y = ((c : ℕ) × (Y ≡ c * G)) ⊎ (Y < 2 ^ 23 * G)
 
-on-grid : (k : ℕ) (y : Float) → T (fits binary32 y) → T (natural y) → Grid (2 ^ k) (grains y)
-on-grid k (fin false m e) t p =
+on_grid : (k : ℕ) (y : Float) → T (fits binary32 y) → T (natural y) → Grid (2 ^ k) (grains y)
+on_grid k (fin false m e) t p =
     let w = reads m e t in
-    elim (le-or-lt k w.k) [
+    elim (le_or_lt k w.k) [
       | inl a ↦ inl (w.q * 2 ^ (w.k - k), w.is ∙ shift w.q w.k k a)
       | inr a ↦ inr (rw w.is (lt_of_lt_of_le (shl_lt 24 w.k w.few) (le_trans (pow_mono (omega arith)) (le_of_eq (pow-add 2 23 k)))))
     ]
@@ -110,6 +110,6 @@ near x r k q n e l h c g t u =
     record {
       holds = t;
       number = u;
-      above = λ y f i j. rw g (above n q (2 ^ k) _ (grains y) (pow_pos k) e (on-grid k y f i) c d.0 l (rw g at j));
-      below = λ y f i j. rw g (below n q (2 ^ k) _ (grains y) (pow_pos k) e (on-grid k y f i) c d.0 l (rw g at j));
+      above = λ y f i j. rw g (above n q (2 ^ k) _ (grains y) (pow_pos k) e (on_grid k y f i) c d.0 l (rw g at j));
+      below = λ y f i j. rw g (below n q (2 ^ k) _ (grains y) (pow_pos k) e (on_grid k y f i) c d.0 l (rw g at j));
     }

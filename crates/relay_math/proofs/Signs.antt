@@ -13,25 +13,25 @@ unfolding fits
 zero_is s e f = whole_unique binary32 (fin s 0 e) (fin s 0 (pos 0)) s 0 f tt (refl, omega arith) (refl, refl)
 
 module _ (m : ℕ) (e : ℤ) where
-  pub size-pos : 0 < suc m * up e
-  size-pos = mul-pos (zero-lt-suc m) (up_pos e)
+  pub size_pos : 0 < suc m * up e
+  size_pos = mul-pos (zero-lt-suc m) (up_pos e)
 
   pub is_below : (s : Bool) → lt (fin s (suc m) e) Zero ≡ s
   unfolding lt
-  is_below true = lt-ltb 0 (suc m * up e * 1 + 0 * down e) (omega (arith, size-pos))
+  is_below true = lt-ltb 0 (suc m * up e * 1 + 0 * down e) (omega (arith, size_pos))
   is_below false = le-ltb (suc m * up e * 1) (0 * down e) (omega arith)
 
-  pub is-above : (s : Bool) → lt Zero (fin s (suc m) e) ≡ not s
+  pub is_above : (s : Bool) → lt Zero (fin s (suc m) e) ≡ not s
   unfolding lt
-  is-above true = refl
-  is-above false = lt-ltb (0 * down e) (suc m * up e * 1) (omega (arith, size-pos))
+  is_above true = refl
+  is_above false = lt-ltb (0 * down e) (suc m * up e * 1) (omega (arith, size_pos))
 
-  pub not-zero : (s : Bool) → eq (fin s (suc m) e) Zero ≡ false
+  pub not_zero : (s : Bool) → eq (fin s (suc m) e) Zero ≡ false
   unfolding eq
-  not-zero s = rw (ne_eqb (suc m * up e * 1) (0 * down e) (λ z. omega (arith, size-pos, z)))
+  not_zero s = rw (ne_eqb (suc m * up e * 1) (0 * down e) (λ z. omega (arith, size_pos, z)))
 
-pub not-nan : (x : Float) → lt Zero x ≡ true → T (not (is_nan x))
-not-nan x t = le_right Zero x (le_of_lt Zero x t)
+pub not_nan : (x : Float) → lt Zero x ≡ true → T (not (is_nan x))
+not_nan x t = le_right Zero x (le_of_lt Zero x t)
 
 pub le_is : (m : ℕ) (e : ℤ) (n : ℕ) (d : ℤ) → le (fin false m e) (fin false n d) ≡ leb (m * up e * down d) (n * up d * down e)
 unfolding le lt eq
@@ -41,17 +41,17 @@ le_is m e n d = ordered (m * up e * down d) (n * up d * down e)
 pub of_positive : (P : Float → Type 0) → ((m : ℕ) (e : ℤ) → T (fits binary32 (fin false (suc m) e)) → P (fin false (suc m) e)) → (x : Float) → T (fits binary32 x) → T (positive x) → P x
 of_positive P h (fin false (suc m) e) f p = h m e f
 
-pub of-value : (P : Float → Type 0) (s : Bool) (a c : ℕ) → ((m : ℕ) (e : ℤ) → HasValue (fin s m e) s a c → P (fin s m e)) → (x : Float) → HasValue x s a c → P x
-of-value P s a c h (fin t m e) v = subst (λ (t : Bool). HasValue (fin t m e) s a c → P (fin t m e)) (sym v.0) (h m e) v
+pub of_value : (P : Float → Type 0) (s : Bool) (a c : ℕ) → ((m : ℕ) (e : ℤ) → HasValue (fin s m e) s a c → P (fin s m e)) → (x : Float) → HasValue x s a c → P x
+of_value P s a c h (fin t m e) v = subst (λ (t : Bool). HasValue (fin t m e) s a c → P (fin t m e)) (sym v.0) (h m e) v
 
-of-units : (P : Float → Type 0) (s : Bool) → ((m : ℕ) (e : ℤ) → P (fin s m e)) → P (inf s) → (q k : ℕ) → P (units binary32 s q k)
+of_units : (P : Float → Type 0) (s : Bool) → ((m : ℕ) (e : ℤ) → P (fin s m e)) → P (inf s) → (q k : ℕ) → P (units binary32 s q k)
 unfolding units odd
-of-units P s f i q k = by (ltb (q * 2 ^ k) (2 ^ 277)) q
+of_units P s f i q k = by (ltb (q * 2 ^ k) (2 ^ 277)) q
   where
     by : (t : Bool) (q : ℕ) → P (cond t (odd 25 s q k 149) (inf s))
     by false q = i
     by true zero = f _ _
     by true (suc q) = f _ _
 
-pub of-rounded : (P : Float → Type 0) (s : Bool) → ((m : ℕ) (e : ℤ) → P (fin s m e)) → P (inf s) → (a c : ℕ) → P (round binary32 s a c)
-of-rounded P s f i a c = rw (round_is binary32 s a c) (of-units P s f i _ _)
+pub of_rounded : (P : Float → Type 0) (s : Bool) → ((m : ℕ) (e : ℤ) → P (fin s m e)) → P (inf s) → (a c : ℕ) → P (round binary32 s a c)
+of_rounded P s f i a c = rw (round_is binary32 s a c) (of_units P s f i _ _)

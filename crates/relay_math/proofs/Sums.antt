@@ -6,17 +6,17 @@ use Rattle.laws.proofs.Prelude.{unlike, round, sum, add, mul, le, lt, eq, is_nan
 use native.Mathlib.Nat.{zero-div, zero-mod, eq_of_mul-eq-mul_right}
 use lib.Ieee.{Fits.{down_pos, round-fits}, Exact.{HasValue, round_exact}, Order.round_mono}
 use Rattle.relay_math.specs.F32.{◌⊕◌, ◌⊗◌, 0·0, is_finite, unsigned, grains}
-use Rattle.relay_math.proofs.{Signs.{is_below, of-value}, Order.{le_trans, le_of_not_lt, not-lt-of-le, le_right, eq_of_le, eq-refl-of}}
-use Rattle.relay_math.proofs.Grains.{grains-of, grains-exact, grains-under, placed, same-grains}
+use Rattle.relay_math.proofs.{Signs.{is_below, of_value}, Order.{le_trans, le_of_not_lt, not_lt_of_le, le_right, eq_of_le, eq_refl_of}}
+use Rattle.relay_math.proofs.Grains.{grains_of, grains_exact, grains_under, placed, same_grains}
 
 near : (u : ℕ) → nearest 0 (compare 0 u) ≡ 0
 near zero = refl
 near (suc u) = rw Prim.Native.Nat.compare.zero-suc
 
 -- nothing over anything is a zero
-pub round-zero : (s : Bool) (c : ℕ) → round binary32 s 0 c ≡ fin s 0 (pos 0)
+pub round_zero : (s : Bool) (c : ℕ) → round binary32 s 0 c ≡ fin s 0 (pos 0)
 unfolding round
-round-zero s c = simp (zero-div, zero-mod, near)
+round_zero s c = simp (zero-div, zero-mod, near)
 
 -- ---- a float's own value rounds to that value, and so to that float
 
@@ -24,64 +24,64 @@ own : (m : ℕ) (e : ℤ) → T (fits binary32 (fin false m e)) → HasValue (ro
 own zero e f = round_exact binary32 false (0 * up e) (down e) 0 0 (down_pos e) (lit< tt) (lit< tt) (ap (λ (x : ℕ). x * 2 ^ 149) (zero-mul (up e)) ∙ sym (zero-mul (down e)))
 own (suc m) e f =
     let p = placed false (suc m) e f in
-    let g = grains-of (fin false (suc m) e) false (suc m * 2 ^ p.0) (refl, p.2) in
-    round_exact binary32 false (suc m * up e) (down e) (suc m) p.0 (down_pos e) p.1 (subst (λ (x : ℕ). x < 2 ^ 277) g (grains-under false (suc m) e f)) p.2
+    let g = grains_of (fin false (suc m) e) false (suc m * 2 ^ p.0) (refl, p.2) in
+    round_exact binary32 false (suc m * up e) (down e) (suc m) p.0 (down_pos e) p.1 (subst (λ (x : ℕ). x < 2 ^ 277) g (grains_under false (suc m) e f)) p.2
 
-grains-at : (m : ℕ) (e : ℤ) (a c : ℕ) → T (fits binary32 (fin false m e)) → m * up e * c ≡ a * down e → grains (fin false m e) * c ≡ a * 2 ^ 149
-grains-at m e a c f h =
+grains_at : (m : ℕ) (e : ℤ) (a c : ℕ) → T (fits binary32 (fin false m e)) → m * up e * c ≡ a * down e → grains (fin false m e) * c ≡ a * 2 ^ 149
+grains_at m e a c f h =
     let g = grains (fin false m e) in
     eq_of_mul-eq-mul_right (down e) (down_pos e) (g * c) (a * 2 ^ 149)
-    (mul_right_comm g c (down e) ∙ ap (λ (z : ℕ). z * c) (sym (grains-exact false m e f)) ∙ mul_right_comm (m * up e) (2 ^ 149) c ∙ ap (λ (z : ℕ). z * 2 ^ 149) h ∙ mul_right_comm a (down e) (2 ^ 149))
+    (mul_right_comm g c (down e) ∙ ap (λ (z : ℕ). z * c) (sym (grains_exact false m e f)) ∙ mul_right_comm (m * up e) (2 ^ 149) c ∙ ap (λ (z : ℕ). z * 2 ^ 149) h ∙ mul_right_comm a (down e) (2 ^ 149))
 
-pub round-own : (m : ℕ) (e : ℤ) → T (fits binary32 (fin false m e)) → round binary32 false (m * up e) (down e) ≡ fin false m e
-round-own m e f =
-    of-value (λ (x : Float). T (fits binary32 x) → x ≡ fin false m e) false (m * up e) (down e)
-    (λ n d v k. same-grains (fin false n d) (fin false m e) tt tt k f
-    (eq_of_mul-eq-mul_right (down e) (down_pos e) (grains (fin false n d)) (grains (fin false m e)) (grains-at n d (m * up e) (down e) k v.1 ∙ sym (grains-at m e (m * up e) (down e) f refl))))
+pub round_own : (m : ℕ) (e : ℤ) → T (fits binary32 (fin false m e)) → round binary32 false (m * up e) (down e) ≡ fin false m e
+round_own m e f =
+    of_value (λ (x : Float). T (fits binary32 x) → x ≡ fin false m e) false (m * up e) (down e)
+    (λ n d v k. same_grains (fin false n d) (fin false m e) tt tt k f
+    (eq_of_mul-eq-mul_right (down e) (down_pos e) (grains (fin false n d)) (grains (fin false m e)) (grains_at n d (m * up e) (down e) k v.1 ∙ sym (grains_at m e (m * up e) (down e) f refl))))
     (round binary32 false (m * up e) (down e)) (own m e f) (round-fits binary32 false (m * up e) (down e))
 
 -- a fraction that is no less rounds to no less
-pub round-above : (m : ℕ) (e : ℤ) (a c : ℕ) → T (fits binary32 (fin false m e)) → 0 < c → m * up e * c ≤ a * down e → T (le (fin false m e) (round binary32 false a c))
-round-above m e a c f C h = subst (λ (x : Float). T (le x (round binary32 false a c))) (round-own m e f) (round_mono binary32 (m * up e) (down e) a c (down_pos e) C h)
+pub round_above : (m : ℕ) (e : ℤ) (a c : ℕ) → T (fits binary32 (fin false m e)) → 0 < c → m * up e * c ≤ a * down e → T (le (fin false m e) (round binary32 false a c))
+round_above m e a c f C h = subst (λ (x : Float). T (le x (round binary32 false a c))) (round_own m e f) (round_mono binary32 (m * up e) (down e) a c (down_pos e) C h)
 
-round-not-below : (a c : ℕ) → 0 < c → T (le 0·0 (round binary32 false a c))
+round_not_below : (a c : ℕ) → 0 < c → T (le 0·0 (round binary32 false a c))
 unfolding of_bits fits
-round-not-below a c C = round-above 0 (pos 0) a c tt C (omega arith)
+round_not_below a c C = round_above 0 (pos 0) a c tt C (omega arith)
 
 -- ---- a float that is not below zero has nothing under a minus sign: its size is zero
 
 none : (m : ℕ) (e : ℤ) (s : Bool) → T (le 0·0 (fin s m e)) → s ≡ true → m * up e ≡ 0
 unfolding of_bits
 none zero e true h q = zero-mul (up e)
-none (suc m) e true h q = no (sym (not-lt-of-le (fin true (suc m) e) 0·0 h) ∙ is_below m e true)
+none (suc m) e true h q = no (sym (not_lt_of_le (fin true (suc m) e) 0·0 h) ∙ is_below m e true)
 none m e false h q = no q
 
-zero-level : (s : Bool) → T (le 0·0 (fin s 0 (pos 0))) × T (le (fin s 0 (pos 0)) 0·0)
+zero_level : (s : Bool) → T (le 0·0 (fin s 0 (pos 0))) × T (le (fin s 0 (pos 0)) 0·0)
 unfolding le of_bits
-zero-level true = (tt, tt)
-zero-level false = (tt, tt)
+zero_level true = (tt, tt)
+zero_level false = (tt, tt)
 
-rounds-zero : (s : Bool) (a c : ℕ) → a ≡ 0 → T (le 0·0 (round binary32 s a c))
-rounds-zero s a c h = rw (h, round-zero s c) (zero-level s).0
+rounds_zero : (s : Bool) (a c : ℕ) → a ≡ 0 → T (le 0·0 (round binary32 s a c))
+rounds_zero s a c h = rw (h, round_zero s c) (zero_level s).0
 
 -- what has a minus sign is at most whatever is not below zero
-minus-first : (m : ℕ) (e : ℤ) (z : Float) → T (le 0·0 z) → T (le (fin true m e) z)
+minus_first : (m : ℕ) (e : ℤ) (z : Float) → T (le 0·0 z) → T (le (fin true m e) z)
 unfolding of_bits lt is_nan
-minus-first m e z h = le_trans (fin true m e) 0·0 z (le_of_not_lt 0·0 (fin true m e) tt tt refl) h
+minus_first m e z h = le_trans (fin true m e) 0·0 z (le_of_not_lt 0·0 (fin true m e) tt tt refl) h
 
 -- ---- a product
 
-pub product-not-below : (x y : Float) → T (is_finite x) → T (is_finite y) → T (le 0·0 x) → T (le 0·0 y) → T (le 0·0 (x ⊗ y))
+pub product_not_below : (x y : Float) → T (is_finite x) → T (is_finite y) → T (le 0·0 x) → T (le 0·0 y) → T (le 0·0 (x ⊗ y))
 unfolding mul is_finite
-product-not-below (fin true m e) (fin true n d) f g p q = round-not-below (m * up e * (n * up d)) (down e * down d) (mul-pos (down_pos e) (down_pos d))
-product-not-below (fin false m e) (fin false n d) f g p q = round-not-below (m * up e * (n * up d)) (down e * down d) (mul-pos (down_pos e) (down_pos d))
-product-not-below (fin true m e) (fin false n d) f g p q = rounds-zero true (m * up e * (n * up d)) (down e * down d) (rw (none m e true p refl) (zero-mul (n * up d)))
-product-not-below (fin false m e) (fin true n d) f g p q = rounds-zero true (m * up e * (n * up d)) (down e * down d) (rw (none n d true q refl) (mul-zero (m * up e)))
+product_not_below (fin true m e) (fin true n d) f g p q = round_not_below (m * up e * (n * up d)) (down e * down d) (mul-pos (down_pos e) (down_pos d))
+product_not_below (fin false m e) (fin false n d) f g p q = round_not_below (m * up e * (n * up d)) (down e * down d) (mul-pos (down_pos e) (down_pos d))
+product_not_below (fin true m e) (fin false n d) f g p q = rounds_zero true (m * up e * (n * up d)) (down e * down d) (rw (none m e true p refl) (zero-mul (n * up d)))
+product_not_below (fin false m e) (fin true n d) f g p q = rounds_zero true (m * up e * (n * up d)) (down e * down d) (rw (none n d true q refl) (mul-zero (m * up e)))
 
 -- anything finite times +0 is a zero
-pub zero-times : (x : Float) → T (is_finite x) → (b : Bool) × (x ⊗ 0·0 ≡ fin b 0 (pos 0))
+pub zero_times : (x : Float) → T (is_finite x) → (b : Bool) × (x ⊗ 0·0 ≡ fin b 0 (pos 0))
 unfolding mul is_finite of_bits
-zero-times (fin s m e) f = (unlike s false, rw mul-zero (round-zero (unlike s false) (down e * 1)))
+zero_times (fin s m e) f = (unlike s false, rw mul-zero (round_zero (unlike s false) (down e * 1)))
 
 -- ---- a sum
 
@@ -103,41 +103,41 @@ over e d = down e * down d
 scaled : (m : ℕ) (e d : ℤ) → m * up e ≡ 0 → m * up e * down d ≡ 0
 scaled m e d h = rw h (zero-mul (down d))
 
-plus-is : (s : Bool) (m : ℕ) (e : ℤ) (t : Bool) (n : ℕ) (d : ℤ) → T (le 0·0 (fin s m e)) → T (le 0·0 (fin t n d)) → fin s m e ⊕ fin t n d ≡ round binary32 (s && t)
+plus_is : (s : Bool) (m : ℕ) (e : ℤ) (t : Bool) (n : ℕ) (d : ℤ) → T (le 0·0 (fin s m e)) → T (le 0·0 (fin t n d)) → fin s m e ⊕ fin t n d ≡ round binary32 (s && t)
     (m * up e * down d + n * up d * down e) (over e d)
 unfolding add
-plus-is s m e t n d p q = sum_is s (m * up e * down d) t (n * up d * down e) (over e d) (λ h. scaled m e d (none m e s p h)) (λ h. scaled n d e (none n d t q h))
+plus_is s m e t n d p q = sum_is s (m * up e * down d) t (n * up d * down e) (over e d) (λ h. scaled m e d (none m e s p h)) (λ h. scaled n d e (none n d t q h))
 
-pub sum-grows : (x y : Float) → T (fits binary32 x) → T (le 0·0 x) → T (le 0·0 y) → T (le x (x ⊕ y))
+pub sum_grows : (x y : Float) → T (fits binary32 x) → T (le 0·0 x) → T (le 0·0 y) → T (le x (x ⊕ y))
 unfolding add le of_bits
-sum-grows (inf false) (inf false) f p q = tt
-sum-grows (inf false) (fin t n d) f p q = tt
-sum-grows (fin s m e) (inf false) f p q = tt
-sum-grows (fin false m e) (fin t n d) f p q =
+sum_grows (inf false) (inf false) f p q = tt
+sum_grows (inf false) (fin t n d) f p q = tt
+sum_grows (fin s m e) (inf false) f p q = tt
+sum_grows (fin false m e) (fin t n d) f p q =
     let a = m * up e * down d in let w = a + n * up d * down e in
     let k : a * down e ≤ w * down e = mul-le-mul_right (down e) (omega arith) in
     let l : m * up e * over e d ≡ a * down e = ap (λ (z : ℕ). m * up e * z) (mul_comm (down e) (down d)) ∙ sym (mul_assoc (m * up e) (down d) (down e)) in
-    rw (plus-is false m e t n d p q) (round-above m e w (over e d) f (mul-pos (down_pos e) (down_pos d)) (omega arith))
-sum-grows (fin true m e) (fin false n d) f p q =
+    rw (plus_is false m e t n d p q) (round_above m e w (over e d) f (mul-pos (down_pos e) (down_pos d)) (omega arith))
+sum_grows (fin true m e) (fin false n d) f p q =
     let w = m * up e * down d + n * up d * down e in
-    rw (plus-is true m e false n d p q) (minus-first m e (round binary32 false w (over e d)) (round-not-below w (over e d) (mul-pos (down_pos e) (down_pos d))))
-sum-grows (fin true m e) (fin true n d) f p q =
+    rw (plus_is true m e false n d p q) (minus_first m e (round binary32 false w (over e d)) (round_not_below w (over e d) (mul-pos (down_pos e) (down_pos d))))
+sum_grows (fin true m e) (fin true n d) f p q =
     let a = scaled m e d (none m e true p refl) in let b = scaled n d e (none n d true q refl) in
     let w = m * up e * down d + n * up d * down e in
-    rw (plus-is true m e true n d p q) (minus-first m e (round binary32 true w (over e d)) (rounds-zero true w (over e d) (omega arith)))
+    rw (plus_is true m e true n d p q) (minus_first m e (round binary32 true w (over e d)) (rounds_zero true w (over e d) (omega arith)))
 
 -- a zero added: to a float with no minus sign it gives that float, bit for bit
-pub zero-adds-nothing : (x : Float) (b : Bool) → T (fits binary32 x) → T (unsigned x) → x ⊕ fin b 0 (pos 0) ≡ x
+pub zero_adds_nothing : (x : Float) (b : Bool) → T (fits binary32 x) → T (unsigned x) → x ⊕ fin b 0 (pos 0) ≡ x
 unfolding add
-zero-adds-nothing (inf s) b f u = refl
-zero-adds-nothing (fin false m e) b f u = sum_is false (m * up e * 1) b (0 * down e) (down e * 1) (λ h. no h) (λ h. zero-mul (down e))
-    ∙ rw (zero-mul (down e), add-zero (m * up e * 1), mul-one (m * up e), mul-one (down e)) (round-own m e f)
+zero_adds_nothing (inf s) b f u = refl
+zero_adds_nothing (fin false m e) b f u = sum_is false (m * up e * 1) b (0 * down e) (down e * 1) (λ h. no h) (λ h. zero-mul (down e))
+    ∙ rw (zero-mul (down e), add-zero (m * up e * 1), mul-one (m * up e), mul-one (down e)) (round_own m e f)
 
 -- and the same number, if -0 is one
-pub zero-keeps-number : (x : Float) (b : Bool) → T (fits binary32 x) → T (le 0·0 x) → T (eq x (x ⊕ fin b 0 (pos 0)))
+pub zero_keeps_number : (x : Float) (b : Bool) → T (fits binary32 x) → T (le 0·0 x) → T (eq x (x ⊕ fin b 0 (pos 0)))
 unfolding le of_bits
-zero-keeps-number (inf false) b f p = unfold add eq in tt
-zero-keeps-number (fin false m e) b f p = rw (zero-adds-nothing (fin false m e) b f tt) (eq-refl-of (fin false m e) (le_right 0·0 (fin false m e) p))
-zero-keeps-number (fin true m e) b f p =
-    let z : fin true m e ⊕ fin b 0 (pos 0) ≡ fin b 0 (pos 0) = plus-is true m e b 0 (pos 0) p (zero-level b).0 ∙ rw (none m e true p refl, zero-mul (down e)) (round-zero b (down e * 1)) in
-    rw z (eq_of_le (fin true m e) (fin b 0 (pos 0)) (minus-first m e (fin b 0 (pos 0)) (zero-level b).0) (le_trans (fin b 0 (pos 0)) 0·0 (fin true m e) (zero-level b).1 p))
+zero_keeps_number (inf false) b f p = unfold add eq in tt
+zero_keeps_number (fin false m e) b f p = rw (zero_adds_nothing (fin false m e) b f tt) (eq_refl_of (fin false m e) (le_right 0·0 (fin false m e) p))
+zero_keeps_number (fin true m e) b f p =
+    let z : fin true m e ⊕ fin b 0 (pos 0) ≡ fin b 0 (pos 0) = plus_is true m e b 0 (pos 0) p (zero_level b).0 ∙ rw (none m e true p refl, zero-mul (down e)) (round_zero b (down e * 1)) in
+    rw z (eq_of_le (fin true m e) (fin b 0 (pos 0)) (minus_first m e (fin b 0 (pos 0)) (zero_level b).0) (le_trans (fin b 0 (pos 0)) 0·0 (fin true m e) (zero_level b).1 p))

@@ -2,7 +2,7 @@
 use Rattle.laws.proofs.Prelude.{refl, subst, Bool, true, false, not, ◌&&◌, ℕ, zero, suc, ◌*◌, zero-mul, mul-zero, ℤ, pos, T, Float, fin, binary32, up, down, unlike, round, neg, add, sub, mul, eq}
 use Rattle.laws.proofs.Prelude.{of_bits}
 use Rattle.relay_math.specs.F32.{◌⊕◌, ◌⊖◌, ◌⊗◌, 0·0, is_finite}
-use Rattle.relay_math.proofs.{Signs.not-zero, Sums.{round-zero, sum_is}}
+use Rattle.relay_math.proofs.{Signs.not_zero, Sums.{round_zero, sum_is}}
 
 pub data IsZero : Float → Type 0 where
   none : (s : Bool) (e : ℤ) → IsZero (fin s 0 e)
@@ -16,14 +16,14 @@ equal (none false e) = rw (zero-mul (up e), zero-mul (down e)) tt
 pub is_zero : (x : Float) → T (eq x 0·0) → IsZero x
 unfolding eq of_bits
 is_zero (fin s zero e) h = none s e
-is_zero (fin s (suc m) e) h = absurd (subst T (not-zero m e s) h)
+is_zero (fin s (suc m) e) h = absurd (subst T (not_zero m e s) h)
 
 pub finite : {x : Float} → IsZero x → T (is_finite x)
 unfolding is_finite
 finite (none s e) = tt
 
 rounded : (s : Bool) (c : ℕ) → IsZero (round binary32 s 0 c)
-rounded s c = rw (round-zero s c) (none s (pos 0))
+rounded s c = rw (round_zero s c) (none s (pos 0))
 
 -- ---- products with a finite number, sums, differences
 

@@ -46,25 +46,25 @@ abbrev pub denominator : ℕ → ℕ → ℕ
 denominator top B = fact top * B ^ top
 
 -- sine: r - r ^ 3 / 3! + .. - r ^ 15 / 15!
-abbrev pub sinPlus : ℕ → ℕ → ℕ
-sinPlus R B = term 15 R B 1 + term 15 R B 5 + term 15 R B 9 + term 15 R B 13
+abbrev pub sin_plus : ℕ → ℕ → ℕ
+sin_plus R B = term 15 R B 1 + term 15 R B 5 + term 15 R B 9 + term 15 R B 13
 
-abbrev pub sinMinus : ℕ → ℕ → ℕ
-sinMinus R B = term 15 R B 3 + term 15 R B 7 + term 15 R B 11 + term 15 R B 15
+abbrev pub sin_minus : ℕ → ℕ → ℕ
+sin_minus R B = term 15 R B 3 + term 15 R B 7 + term 15 R B 11 + term 15 R B 15
 
 -- cosine: 1 - r ^ 2 / 2! + .. - r ^ 14 / 14!
-abbrev pub cosPlus : ℕ → ℕ → ℕ
-cosPlus R B = term 14 R B 0 + term 14 R B 4 + term 14 R B 8 + term 14 R B 12
+abbrev pub cos_plus : ℕ → ℕ → ℕ
+cos_plus R B = term 14 R B 0 + term 14 R B 4 + term 14 R B 8 + term 14 R B 12
 
-abbrev pub cosMinus : ℕ → ℕ → ℕ
-cosMinus R B = term 14 R B 2 + term 14 R B 6 + term 14 R B 10 + term 14 R B 14
+abbrev pub cos_minus : ℕ → ℕ → ℕ
+cos_minus R B = term 14 R B 2 + term 14 R B 6 + term 14 R B 10 + term 14 R B 14
 
 -- at r = ±R grains, b saying that r is negative: sine is odd, cosine even
-abbrev pub sinAt : Bool → ℕ → Value
-sinAt b R = negated_if b record { plus = sinPlus R (2 ^ 149); minus = sinMinus R (2 ^ 149); over = denominator 15 (2 ^ 149) }
+abbrev pub sin_at : Bool → ℕ → Value
+sin_at b R = negated_if b record { plus = sin_plus R (2 ^ 149); minus = sin_minus R (2 ^ 149); over = denominator 15 (2 ^ 149) }
 
-abbrev pub cosAt : ℕ → Value
-cosAt R = record { plus = cosPlus R (2 ^ 149); minus = cosMinus R (2 ^ 149); over = denominator 14 (2 ^ 149) }
+abbrev pub cos_at : ℕ → Value
+cos_at R = record { plus = cos_plus R (2 ^ 149); minus = cos_minus R (2 ^ 149); over = denominator 14 (2 ^ 149) }
 
 -- ---- n and r, from |x| = u grains
 
@@ -77,8 +77,8 @@ unfoldable pub turns : ℕ → ℕ
 turns u = cond (nat_le (2 * u) P149) 0 ((2 * u + P149) / (2 * P149))
 
 -- |r| = |u - n P|, and whether u - n P is negative
-unfoldable pub turnRest : ℕ → ℕ
-turnRest u = gap u (turns u * P149)
+unfoldable pub turn_rest : ℕ → ℕ
+turn_rest u = gap u (turns u * P149)
 
 unfoldable pub back : ℕ → Bool
 back u = nat_lt u (turns u * P149)
@@ -88,19 +88,19 @@ unfoldable pub quarter : Bool → ℕ → ℕ
 quarter s u = cond s (3 * turns u % 4) (turns u % 4)
 
 -- by n modulo 4 as in 004: sin r, cos r, -sin r, -cos r
-unfoldable pub sineBy : ℕ → Bool → ℕ → Value
-sineBy n b R = cond (n == 0) (sinAt b R) (cond (n == 1) (cosAt R) (cond (n == 2) (negated (sinAt b R)) (negated (cosAt R))))
+unfoldable pub sine_by : ℕ → Bool → ℕ → Value
+sine_by n b R = cond (n == 0) (sin_at b R) (cond (n == 1) (cos_at R) (cond (n == 2) (negated (sin_at b R)) (negated (cos_at R))))
 
 -- cos r, -sin r, -cos r, sin r
-unfoldable pub cosineBy : ℕ → Bool → ℕ → Value
-cosineBy n b R = cond (n == 0) (cosAt R) (cond (n == 1) (negated (sinAt b R)) (cond (n == 2) (negated (cosAt R)) (sinAt b R)))
+unfoldable pub cosine_by : ℕ → Bool → ℕ → Value
+cosine_by n b R = cond (n == 0) (cos_at R) (cond (n == 1) (negated (sin_at b R)) (cond (n == 2) (negated (cos_at R)) (sin_at b R)))
 
 -- the exact sine and cosine of u grains, negative if s
-unfoldable pub exactSine : Bool → ℕ → Value
-exactSine s u = sineBy (quarter s u) (unlike s (back u)) (turnRest u)
+unfoldable pub exact_sine : Bool → ℕ → Value
+exact_sine s u = sine_by (quarter s u) (unlike s (back u)) (turn_rest u)
 
-unfoldable pub exactCosine : Bool → ℕ → Value
-exactCosine s u = cosineBy (quarter s u) (unlike s (back u)) (turnRest u)
+unfoldable pub exact_cosine : Bool → ℕ → Value
+exact_cosine s u = cosine_by (quarter s u) (unlike s (back u)) (turn_rest u)
 
 -- ---- the rule
 
@@ -116,19 +116,19 @@ unfoldable pub in_range : Float → Bool
 unfolding le fabsf
 in_range x = up_to Limit x
 
-abbrev pub isMinus : Float → Bool
-isMinus nan = false
-isMinus (inf s) = s
-isMinus (fin s m e) = s
+abbrev pub is_minus : Float → Bool
+is_minus nan = false
+is_minus (inf s) = s
+is_minus (fin s m e) = s
 
 -- document 01's rule for y, the sine of x, with a limit and a bound 2 ^ -k: near the exact sine up to the limit, +0.0 beyond it, and of a zero that zero
 pub record IsSine (limit : Float) (k : ℕ) (x y : Float) : Type 0 where
-  pub near : T (up_to limit x) → Near k y (exactSine (isMinus x) (grains x))
+  pub near : T (up_to limit x) → Near k y (exact_sine (is_minus x) (grains x))
   pub far : T (not (up_to limit x)) → y ≡ fin false 0 (pos 0)
   pub of_zero : (s : Bool) → x ≡ fin s 0 (pos 0) → y ≡ x
 
 -- and for y, the cosine of x: of a zero it is 1
 pub record IsCosine (limit : Float) (k : ℕ) (x y : Float) : Type 0 where
-  pub near : T (up_to limit x) → Near k y (exactCosine (isMinus x) (grains x))
+  pub near : T (up_to limit x) → Near k y (exact_cosine (is_minus x) (grains x))
   pub far : T (not (up_to limit x)) → y ≡ fin false 0 (pos 0)
   pub of_zero : (s : Bool) → x ≡ fin s 0 (pos 0) → y ≡ fin false 1 (pos 0)

@@ -57,12 +57,12 @@ is_finite (inf s) = false
 is_finite (fin s m e) = true
 
 -- x where it is finite, else d
-abbrev pub finiteOr : Float → Float → Float
-finiteOr x d = cond (is_finite x) x d
+abbrev pub finite_or : Float → Float → Float
+finite_or x d = cond (is_finite x) x d
 
 -- x is finite and above floor, so neither a NaN nor an infinity nor floor itself
-abbrev pub finiteAbove : Float → Float → Bool
-finiteAbove floor x = is_finite x && lt floor x
+abbrev pub finite_above : Float → Float → Bool
+finite_above floor x = is_finite x && lt floor x
 
 -- Rust's `x.clamp(lo, hi)`: two comparisons in sequence
 abbrev pub clamp : Float → Float → Float → Float

@@ -41,24 +41,24 @@ isqrt zero n = 0
 isqrt (suc d) n = let r = isqrt d (n / 4) in cond (nat_le (square (suc (2 * r))) n) (suc (2 * r)) (2 * r)
 
 -- The whole number nearest to the root of an n below 2 ^ 48: q, the whole part, or q + 1 where n is above (q + 1 / 2) ^ 2 = q * q + q + 1 / 4, which no whole number is.
-unfoldable pub nearestRoot : ℕ → ℕ
+unfoldable pub nearest_root : ℕ → ℕ
 unfolding isqrt
-nearestRoot n = let q = isqrt 24 n in cond (nat_le n (q * q + q)) q (suc q)
+nearest_root n = let q = isqrt 24 n in cond (nat_le n (q * q + q)) q (suc q)
 
 -- An x of X grains is X / 2 ^ 149, and its root is √N grains, with N = X * 2 ^ 149. N has `size N` digits. Without its last 2 k, which are zeros, it has 47 or 48, and
 -- their root n has the 24 that an f32 keeps. So the root is n * 2 ^ k grains: `odd 25 false n k 149` is the float n * 2 ^ k / 2 ^ 149, written with an odd number.
-unfoldable pub rootGrains : ℕ → Float
-unfolding nearestRoot size odd
-rootGrains N =
+unfoldable pub root_grains : ℕ → Float
+unfolding nearest_root size odd
+root_grains N =
     let k = (size N - 47) / 2 in
-    let n = nearestRoot (N / (2 ^ k * 2 ^ k)) in
+    let n = nearest_root (N / (2 ^ k * 2 ^ k)) in
     odd 25 false n k 149
 
 unfoldable pub sqrtf : Float → Float
-unfolding rootGrains
+unfolding root_grains
 sqrtf nan = nan
 sqrtf (inf true) = nan
 sqrtf (inf false) = inf false
 sqrtf (fin s zero e) = fin s zero e
 sqrtf (fin true (suc m) e) = nan
-sqrtf (fin false (suc m) e) = rootGrains (grains (fin false (suc m) e) * 2 ^ 149)
+sqrtf (fin false (suc m) e) = root_grains (grains (fin false (suc m) e) * 2 ^ 149)

@@ -3,7 +3,7 @@ ghost use Rattle.std.specs.Prelude.{◌≡◌, ◌^◌, ◌<◌, ◌≤◌, T, i
 ghost use Rattle.std.specs.Float.Ieee.{le};
 ghost use Rattle.relay_math.specs.F32.{fabsf};
 ghost use Rattle.relay_math.specs.Exact.{gap, Limit, IsSine, IsCosine};
-ghost use Rattle.relay_math.specs.Steps.{part, lessPart, polyOf, sinPoly, cosPoly, toFloat, signed, reduceOf, turned, fixed, large, sincos, sinf, cosf, Tiny, Most};
+ghost use Rattle.relay_math.specs.Steps.{part, less_part, poly_of, sin_poly, cos_poly, to_float, signed, reduce_of, turned, fixed, large, sincos, sinf, cosf, Tiny, Most};
 
 // Sine and cosine are served up to this size, and give +0.0 beyond it.
 const LIMIT: f32 = 8192.0;
@@ -67,7 +67,7 @@ pub(crate) fn part_of(z: u64, t: u64) -> u64
 fn less_part(r: u64, q: u64) -> u64
     requires fact_1 { r ≤ 2 ^ 48 }
     requires fact_2 { q < 2 ^ 32 }
-    ensures is { result ≡ lessPart r q }
+    ensures is { result ≡ less_part r q }
     ensures small { result ≤ r }
 {
     r - r / 65536 * q / 65536
@@ -78,7 +78,7 @@ fn poly_of(r: u64, z: u64, k0: u64, k1: u64, k2: u64, k3: u64) -> u64
     requires fact_1 { r ≤ 2 ^ 48 }
     requires fact_2 { z < 2 ^ 32 }
     requires fact_3 { (k0 ≤ 2 ^ 32) × (k1 ≤ k0) × (k2 ≤ k1) × (k3 ≤ k2) }
-    ensures is { result ≡ polyOf r z k0 k1 k2 k3 }
+    ensures is { result ≡ poly_of r z k0 k1 k2 k3 }
     ensures small { result ≤ 2 ^ 48 }
 {
     let t2 = k2 - part_of(z, k3);
@@ -98,7 +98,7 @@ fn pick_of(b: bool, x: u64, y: u64) -> u64
 fn either_poly(sine: bool, r: u64, z: u64) -> u64
     requires fact_1 { r < 2 ^ 48 }
     requires fact_2 { z < 2 ^ 32 }
-    ensures is { result ≡ (if sine then sinPoly r z else cosPoly z) }
+    ensures is { result ≡ (if sine then sin_poly r z else cos_poly z) }
     ensures small { result ≤ 2 ^ 48 }
 {
     poly_of(
@@ -120,7 +120,7 @@ fn gap_of(x: u64, y: u64) -> u64
 // A size of at most 2^62 in units of 2^-48, reduced. The remainder by 2^63 changes nothing: it tells the compiler that the sum is small, which spares the division a correction.
 fn reduce(x: u64) -> Reduced
     requires { x < 2 ^ 62 }
-    ensures is { result ≡ reduceOf x }
+    ensures is { result ≡ reduce_of x }
     ensures small { (result.n < 4) × (result.r < 2 ^ 48) × (result.z < 2 ^ 32) }
 {
     let n = (x + P / 2) % 9223372036854775808 / P;
@@ -137,7 +137,7 @@ fn reduce(x: u64) -> Reduced
 // The f32 nearest v, which is in units of 2^-48, with a sign: two halves, each an f32 exactly, whose sum rounds once. 2^-24 and 2^-48 have the sign among their bits, since an `if` on floats is compiled to a branch.
 fn to_float(s: bool, v: u64) -> f32
     requires { v ≤ 2 ^ 48 }
-    ensures { result ≡ signed s (toFloat v) }
+    ensures { result ≡ signed s (to_float v) }
 {
     let sign = s as u32 * 0x80000000;
     ((v / 16777216) as f32) * f32::from_bits(sign + 0x33800000)
@@ -172,7 +172,7 @@ fn served(a: f32) -> bool
 fn turned_of(s: bool, n: u64, back: bool, sn: u64, cs: u64) -> f32
     requires fact_1 { sn ≤ 2 ^ 48 }
     requires fact_2 { cs ≤ 2 ^ 48 }
-    ensures { result ≡ turned s n back (toFloat sn) (toFloat cs) }
+    ensures { result ≡ turned s n back (to_float sn) (to_float cs) }
 {
     let even = n % 2 == 0;
     to_float((s != (2 <= n)) != (even & back), pick_of(even, sn, cs))

@@ -1,7 +1,7 @@
 // Numbers (004): square root, sine, cosine, absolute value and finiteness of an f32, for every bit pattern.
 // Vectors, body rates and torques are declared here too, so that every crate above has one kind of each.
 ghost use Rattle.std.specs.Prelude.{◌≡◌};
-ghost use Rattle.relay_math.specs.F32.{is_finite, finiteOr, finiteAbove, clamp, fabsf};
+ghost use Rattle.relay_math.specs.F32.{is_finite, finite_or, finite_above, clamp, fabsf};
 
 mod angles; // angles.rt: sine and cosine
 mod reciprocal; // reciprocal.rt: a table for the root's first guess
@@ -42,14 +42,14 @@ pub fn is_finite(x: f32) -> bool
 
 // x where it is finite, else d.
 pub fn finite_or(x: f32, d: f32) -> f32
-    ensures { result ≡ finiteOr x d }
+    ensures { result ≡ finite_or x d }
 {
     if is_finite(x) { x } else { d }
 }
 
 // One test for each rule that takes neither a NaN nor an infinity nor the limit itself.
 pub fn finite_above(floor: f32, x: f32) -> bool
-    ensures { result ≡ finiteAbove floor x }
+    ensures { result ≡ finite_above floor x }
 {
     if is_finite(x) { x > floor } else { false }
 }

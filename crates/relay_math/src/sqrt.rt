@@ -3,7 +3,7 @@ ghost use Rattle.std.specs.Prelude.{◌≡◌, ℕ, ◌+◌, ◌-◌, ◌*◌, �
 ghost use Rattle.std.specs.Float.{binary32};
 ghost use Rattle.std.specs.Float.Ieee.{fits};
 ghost use Rattle.std.specs.Float.Ieee.Positive.{positive};
-ghost use Rattle.relay_math.specs.Sqrt.{IsRoot, rootGrains, sqrtf};
+ghost use Rattle.relay_math.specs.Sqrt.{IsRoot, root_grains, sqrtf};
 ghost use Rattle.relay_math.specs.F32.{grains};
 
 use crate::angles::part_of;
@@ -107,7 +107,7 @@ fn nearest_root(n: u64, d: u32) -> u64
 // The pattern of the root of m * 2^(e - 172), for an m of 24 digits and d = e * 2^23 + m: of x grains, where x * 2^23 is m * 2^e.
 fn root_bits(d: u32) -> u32
     requires { (2 ^ 23 ≤ d) × (d < 301 * 2 ^ 23) }
-    ensures is { (x : ℕ) → x * 2 ^ 23 ≡ (d % 2 ^ 23 + 2 ^ 23) * 2 ^ (d / 2 ^ 23 - 1) → from_bits binary32 result ≡ rootGrains (x * 2 ^ 149) }
+    ensures is { (x : ℕ) → x * 2 ^ 23 ≡ (d % 2 ^ 23 + 2 ^ 23) * 2 ^ (d / 2 ^ 23 - 1) → from_bits binary32 result ≡ root_grains (x * 2 ^ 149) }
     ensures finite { result < 255 * 2 ^ 23 }
 {
     // m shifted by 23 or 24 digits, so that what is left of the exponent is even. (As a product it is quicker than as a shift.)

@@ -3,5 +3,5 @@ use Rattle.laws.proofs.Prelude.{refl}
 use Rattle.laws.proofs.Determined.{OneAnswer, no_second}
 use Rattle.relay_pos.proofs.euler_to_quaternion
 
-pub euler-to-quaternion-once : OneAnswer euler_to_quaternion.ended euler_to_quaternion.Reads.Post
-euler-to-quaternion-once κs a x y v w p q = (no_second p q, refl)
+pub euler_to_quaternion_once : OneAnswer euler_to_quaternion.ended euler_to_quaternion.Reads.Post
+euler_to_quaternion_once κs a x y v w p q = (no_second p q, refl)

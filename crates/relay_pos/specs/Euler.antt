@@ -7,8 +7,8 @@ use Rattle.relay_math.specs.Exact.{Limit, up_to}
 use Rattle.relay_math.specs.Steps.{sinf, cosf}
 use Rattle.relay_pos.specs.declared.Quaternion.{Quaternion}
 
-unfoldable pub eulerToQuaternion : Float → Float → Float → Quaternion
-eulerToQuaternion roll pitch yaw =
+unfoldable pub euler_to_quaternion : Float → Float → Float → Quaternion
+euler_to_quaternion roll pitch yaw =
     let cr = cosf (roll ⊗ 0·5) in
     let sr = sinf (roll ⊗ 0·5) in
     let cp = cosf (pitch ⊗ 0·5) in

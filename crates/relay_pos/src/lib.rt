@@ -1,6 +1,6 @@
 // Of 003, `euler_to_quaternion` alone: document 01 leaves out the rest, the position controller.
 ghost use Rattle.std.specs.Prelude.{◌≡◌};
-ghost use Rattle.relay_pos.specs.Euler.{eulerToQuaternion};
+ghost use Rattle.relay_pos.specs.Euler.{euler_to_quaternion};
 
 // w, x, y, z: the Rust's `[f32; 4]`.
 #[repr(C)]
@@ -9,7 +9,7 @@ pub struct Quaternion(pub f32, pub f32, pub f32, pub f32);
 
 // Angles in rad: the turn by yaw, then pitch, then roll. Sine and cosine of a half-angle share one reduction.
 pub fn euler_to_quaternion(roll: f32, pitch: f32, yaw: f32) -> Quaternion
-    ensures { result ≡ eulerToQuaternion roll pitch yaw }
+    ensures { result ≡ euler_to_quaternion roll pitch yaw }
 {
     let r = relay_math::sincos(roll * 0.5);
     let p = relay_math::sincos(pitch * 0.5);

@@ -2,7 +2,7 @@
 use Rattle.std.specs.Prelude.{Bool, not, ◌&&◌, ◌||◌, cond, List, [], ◌∷◌, T, Float}
 use Rattle.std.specs.Float.{binary32}
 use Rattle.std.specs.Float.Ieee.{fits, lt, le}
-use Rattle.relay_math.specs.F32.{◌⊕◌, ◌⊖◌, ◌⊗◌, ◌⊘◌, 0·0, 1·0, is_finite, finiteOr, finiteAbove}
+use Rattle.relay_math.specs.F32.{◌⊕◌, ◌⊖◌, ◌⊗◌, ◌⊘◌, 0·0, 1·0, is_finite, finite_or, finite_above}
 use Rattle.relay_traj.specs.declared.governor.RefGovernor.{RefGovernor}
 use Rattle.relay_traj.specs.declared.governor.Advanced.{Advanced}
 
@@ -12,8 +12,8 @@ use Rattle.relay_traj.specs.declared.governor.Advanced.{Advanced}
 abbrev pub low_end : Float → Float
 low_end lo = cond (le 0·0 lo && le lo 1·0) lo 0·0
 
-unfoldable pub clampTo : Float → Float → Float
-clampTo x lo =
+unfoldable pub clamp_to : Float → Float → Float
+clamp_to x lo =
     let l = low_end lo in
     cond (not (is_finite x) || lt x l) l (cond (lt 1·0 x) 1·0 x)
 
@@ -23,14 +23,14 @@ ramp err lo hi g =
     cond (le err lo) 1·0 (cond (le hi err) g (1·0 ⊖ frac ⊗ (1·0 ⊖ g)))
 
 -- an error or an end of the band is not finite, or the band has no width
-abbrev pub noBand : Float → Float → Float → Bool
-noBand err lo hi = not (is_finite err) || not (is_finite lo) || not (is_finite hi) || le hi lo
+abbrev pub no_band : Float → Float → Float → Bool
+no_band err lo hi = not (is_finite err) || not (is_finite lo) || not (is_finite hi) || le hi lo
 
-unfoldable pub gateFactor : Float → Float → Float → Float → Float
-unfolding clampTo
-gateFactor err lo hi gMin =
-    let g = clampTo gMin 0·0 in
-    cond (noBand err lo hi) g (clampTo (ramp err lo hi g) g)
+unfoldable pub gate_factor : Float → Float → Float → Float → Float
+unfolding clamp_to
+gate_factor err lo hi gMin =
+    let g = clamp_to gMin 0·0 in
+    cond (no_band err lo hi) g (clamp_to (ramp err lo hi g) g)
 
 -- ---- RefGovernor
 
@@ -38,31 +38,31 @@ abbrev pub governor : Float → Float → Float → RefGovernor
 governor lo hi gMin = record { s = 0·0; err_lo = lo; err_hi = hi; g_min = gMin }
 
 unfoldable pub gate : RefGovernor → Float → Float
-unfolding gateFactor
-gate g err = gateFactor err g.err_lo g.err_hi g.g_min
+unfolding gate_factor
+gate g err = gate_factor err g.err_lo g.err_hi g.g_min
 
-abbrev pub movedBy : Float → Float
-movedBy dt = cond (finiteAbove 0·0 dt) dt 0·0
+abbrev pub moved_by : Float → Float
+moved_by dt = cond (finite_above 0·0 dt) dt 0·0
 
 -- the same governor at another time
-abbrev pub atTime : RefGovernor → Float → RefGovernor
-atTime g s = record { s = s; err_lo = g.err_lo; err_hi = g.err_hi; g_min = g.g_min }
+abbrev pub at_time : RefGovernor → Float → RefGovernor
+at_time g s = record { s = s; err_lo = g.err_lo; err_hi = g.err_hi; g_min = g.g_min }
 
 unfoldable pub advance : RefGovernor → Float → Float → Advanced
 unfolding gate
 advance g err dt =
-    let s = g.s ⊕ gate g err ⊗ movedBy dt in
-    record { governor = atTime g s; time = s }
+    let s = g.s ⊕ gate g err ⊗ moved_by dt in
+    record { governor = at_time g s; time = s }
 
 abbrev pub reset : RefGovernor → RefGovernor
-reset g = atTime g 0·0
+reset g = at_time g 0·0
 
 -- ---- what the theorems in proofs/Gate.antt and proofs/GovernorClock.antt speak of
 
 -- g_min put into 0..1, a non-finite one counting as 0
 unfoldable pub put_in : Float → Float
 put_in g =
-    let h = finiteOr g 0·0 in
+    let h = finite_or g 0·0 in
     cond (lt h 0·0) 0·0 (cond (lt 1·0 h) 1·0 h)
 
 -- a time that a governor can have: an f32, and a number not below zero (-0.0 is none below)
@@ -75,7 +75,7 @@ pub record GovernorTick : Type 0 where
   pub error : Float
   pub dt : Float
 
-unfoldable pub afterTicks : RefGovernor → List GovernorTick → RefGovernor
+unfoldable pub after_ticks : RefGovernor → List GovernorTick → RefGovernor
 unfolding advance
-afterTicks g [] = g
-afterTicks g (k ∷ ks) = afterTicks (advance g k.error k.dt).governor ks
+after_ticks g [] = g
+after_ticks g (k ∷ ks) = after_ticks (advance g k.error k.dt).governor ks

@@ -1,7 +1,7 @@
 -- One axis of a trajectory, as 001 has it. Definitions only.
 use Rattle.std.specs.Prelude.{cond, T, Float}
 use Rattle.std.specs.Float.Ieee.{le, neg}
-use Rattle.relay_math.specs.F32.{◌⊕◌, ◌⊖◌, ◌⊗◌, ◌⊘◌, f32, 0·0, 1e-3, 0·5, 1·0, 2·0, 3·0, ∞, is_finite, finiteOr, finiteAbove, clamp, fabsf}
+use Rattle.relay_math.specs.F32.{◌⊕◌, ◌⊖◌, ◌⊗◌, ◌⊘◌, f32, 0·0, 1e-3, 0·5, 1·0, 2·0, 3·0, ∞, is_finite, finite_or, finite_above, clamp, fabsf}
 use Rattle.relay_traj.specs.declared.quintic.Quintic.{Quintic}
 use Rattle.relay_traj.specs.declared.quintic.Sample.{Sample}
 use Rattle.relay_traj.specs.declared.quintic.Mended.{Mended}
@@ -42,22 +42,22 @@ abbrev pub 720·0 : Float
 
 -- ---- the mending of a leg's numbers on one axis
 
-abbrev pub mendedDuration : Float → Float
-mendedDuration t = cond (finiteAbove 1e-3 t) t 1e-3
+abbrev pub mended_duration : Float → Float
+mended_duration t = cond (finite_above 1e-3 t) t 1e-3
 
 -- a duration as every leg has it: finite, and 1e-3 at least
 abbrev pub Lasts : Float → Type 0
 Lasts t = T (is_finite t) × T (le 1e-3 t)
 
-unfoldable pub mendEnds : Float → Float → Float → Float → Float → Float → Float → Mended
-mendEnds p0 v0 a0 pf vf af t =
-    let start = finiteOr p0 0·0 in
-    record { p0 = start; v0 = finiteOr v0 0·0; a0 = finiteOr a0 0·0; pf = finiteOr pf start; vf = finiteOr vf 0·0; af = finiteOr af 0·0; t = mendedDuration t }
+unfoldable pub mend_ends : Float → Float → Float → Float → Float → Float → Float → Mended
+mend_ends p0 v0 a0 pf vf af t =
+    let start = finite_or p0 0·0 in
+    record { p0 = start; v0 = finite_or v0 0·0; a0 = finite_or a0 0·0; pf = finite_or pf start; vf = finite_or vf 0·0; af = finite_or af 0·0; t = mended_duration t }
 
 -- ---- Quintic::new
 
-unfoldable pub ofMended : Mended → Quintic
-ofMended m =
+unfoldable pub of_mended : Mended → Quintic
+of_mended m =
     let p0 = m.p0 in
     let v0 = m.v0 in
     let a0 = m.a0 in
@@ -73,20 +73,20 @@ ofMended m =
     let alpha = inv ⊗ (720·0 ⊗ dp ⊖ 360·0 ⊗ t ⊗ dv ⊕ 60·0 ⊗ t2 ⊗ da) in
     let beta = inv ⊗ (neg 360·0 ⊗ t ⊗ dp ⊕ 168·0 ⊗ t2 ⊗ dv ⊖ 24·0 ⊗ t3 ⊗ da) in
     let gamma = inv ⊗ (60·0 ⊗ t2 ⊗ dp ⊖ 24·0 ⊗ t3 ⊗ dv ⊕ 3·0 ⊗ t4 ⊗ da) in
-    record { c5 = finiteOr (alpha ⊘ 120·0) 0·0; c4 = finiteOr (beta ⊘ 24·0) 0·0; c3 = finiteOr (gamma ⊘ 6·0) 0·0; c2 = a0 ⊘ 2·0; c1 = v0; c0 = p0; t_end = t }
+    record { c5 = finite_or (alpha ⊘ 120·0) 0·0; c4 = finite_or (beta ⊘ 24·0) 0·0; c3 = finite_or (gamma ⊘ 6·0) 0·0; c2 = a0 ⊘ 2·0; c1 = v0; c0 = p0; t_end = t }
 
 unfoldable pub quintic : Float → Float → Float → Float → Float → Float → Float → Quintic
-unfolding mendEnds ofMended
-quintic p0 v0 a0 pf vf af t = ofMended (mendEnds p0 v0 a0 pf vf af t)
+unfolding mend_ends of_mended
+quintic p0 v0 a0 pf vf af t = of_mended (mend_ends p0 v0 a0 pf vf af t)
 
 -- ---- Quintic::eval
 
-unfoldable pub timeOn : Float → Float → Float
-timeOn t end = cond (is_finite t) (clamp t 0·0 end) 0·0
+unfoldable pub time_on : Float → Float → Float
+time_on t end = cond (is_finite t) (clamp t 0·0 end) 0·0
 
 -- the four Horner schemes at a time t on the segment
-unfoldable pub sampleAt : Quintic → Float → Sample
-sampleAt q t =
+unfoldable pub sample_at : Quintic → Float → Sample
+sample_at q t =
     let c5 = q.c5 in
     let c4 = q.c4 in
     let c3 = q.c3 in
@@ -101,17 +101,17 @@ sampleAt q t =
     }
 
 unfoldable pub eval : Quintic → Float → Sample
-unfolding timeOn sampleAt
-eval q t = sampleAt q (timeOn t q.t_end)
+unfolding time_on sample_at
+eval q t = sample_at q (time_on t q.t_end)
 
 -- ---- the jerk
 
-abbrev pub jerkCoeffs : Quintic → JerkCoeffs
-jerkCoeffs q = record { jc2 = 60·0 ⊗ q.c5; jc1 = 24·0 ⊗ q.c4; jc0 = 6·0 ⊗ q.c3 }
+abbrev pub jerk_coeffs : Quintic → JerkCoeffs
+jerk_coeffs q = record { jc2 = 60·0 ⊗ q.c5; jc1 = 24·0 ⊗ q.c4; jc0 = 6·0 ⊗ q.c3 }
 
-unfoldable pub peakAbsJerk : Quintic → Float
-peakAbsJerk q =
-    let k = jerkCoeffs q in
+unfoldable pub peak_abs_jerk : Quintic → Float
+peak_abs_jerk q =
+    let k = jerk_coeffs q in
     let t = q.t_end in
     let bound = fabsf k.jc2 ⊗ t ⊗ t ⊕ fabsf k.jc1 ⊗ t ⊕ fabsf k.jc0 in
-    finiteOr bound ∞
+    finite_or bound ∞

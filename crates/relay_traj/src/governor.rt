@@ -1,6 +1,6 @@
 // The reference governor (001): a clock for the trajectory that runs slower as the craft falls behind.
 ghost use Rattle.std.specs.Prelude.{◌≡◌};
-ghost use Rattle.relay_traj.specs.Governor.{low_end, clampTo, ramp, noBand, gateFactor, governor, gate, movedBy, advance, reset};
+ghost use Rattle.relay_traj.specs.Governor.{low_end, clamp_to, ramp, no_band, gate_factor, governor, gate, moved_by, advance, reset};
 
 // s is the governed time in seconds; the gate falls from 1 to g_min as the tracking error goes from err_lo to err_hi.
 #[repr(C)]
@@ -29,7 +29,7 @@ fn low_end(lo: f32) -> f32
 
 // x put into lo..1, a non-finite one as lo.
 pub fn clamp_to(x: f32, lo: f32) -> f32
-    ensures { result ≡ clampTo x lo }
+    ensures { result ≡ clamp_to x lo }
 {
     let lo = low_end(lo);
     if !relay_math::is_finite(x) || x < lo {
@@ -57,7 +57,7 @@ fn ramp(err: f32, lo: f32, hi: f32, g_min: f32) -> f32
 
 // An error or an end of the band is not finite, or the band has no width.
 fn no_band(err: f32, lo: f32, hi: f32) -> bool
-    ensures { result ≡ noBand err lo hi }
+    ensures { result ≡ no_band err lo hi }
 {
     !relay_math::is_finite(err)
         || (!relay_math::is_finite(lo) || (!relay_math::is_finite(hi) || hi <= lo))
@@ -65,7 +65,7 @@ fn no_band(err: f32, lo: f32, hi: f32) -> bool
 
 // With no band the gate is g_min: the clock slows down.
 pub fn gate_factor(err: f32, lo: f32, hi: f32, g_min: f32) -> f32
-    ensures { result ≡ gateFactor err lo hi g_min }
+    ensures { result ≡ gate_factor err lo hi g_min }
 {
     let g_min = clamp_to(g_min, 0.0);
     if no_band(err, lo, hi) {
@@ -78,7 +78,7 @@ pub fn gate_factor(err: f32, lo: f32, hi: f32, g_min: f32) -> f32
 
 // A dt that is not finite and above 0 moves nothing.
 fn moved_by(dt: f32) -> f32
-    ensures { result ≡ movedBy dt }
+    ensures { result ≡ moved_by dt }
 {
     if relay_math::finite_above(0.0, dt) {
         dt

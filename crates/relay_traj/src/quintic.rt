@@ -1,7 +1,7 @@
 // One axis of a trajectory: the quintic of least jerk between two states, and what it asks at a time (001).
 ghost use Rattle.std.specs.Prelude.{◌≡◌};
-ghost use Rattle.relay_math.specs.F32.{finiteOr};
-ghost use Rattle.relay_traj.specs.Quintic.{mendedDuration, mendEnds, ofMended, quintic, timeOn, eval, jerkCoeffs, peakAbsJerk};
+ghost use Rattle.relay_math.specs.F32.{finite_or};
+ghost use Rattle.relay_traj.specs.Quintic.{mended_duration, mend_ends, of_mended, quintic, time_on, eval, jerk_coeffs, peak_abs_jerk};
 
 // A duration that is not finite and above this, in seconds, becomes this.
 const SHORTEST: f32 = 1e-3;
@@ -51,13 +51,13 @@ pub struct JerkCoeffs {
 }
 
 pub fn fin(x: f32, fallback: f32) -> f32
-    ensures { result ≡ finiteOr x fallback }
+    ensures { result ≡ finite_or x fallback }
 {
     relay_math::finite_or(x, fallback)
 }
 
 pub fn mended_duration(t: f32) -> f32
-    ensures { result ≡ mendedDuration t }
+    ensures { result ≡ mended_duration t }
 {
     if relay_math::finite_above(SHORTEST, t) {
         t
@@ -68,7 +68,7 @@ pub fn mended_duration(t: f32) -> f32
 
 // A bad end position becomes the start, as that is mended; other bad numbers become 0.
 fn mend(p0: f32, v0: f32, a0: f32, pf: f32, vf: f32, af: f32, t: f32) -> Mended
-    ensures { result ≡ mendEnds p0 v0 a0 pf vf af t }
+    ensures { result ≡ mend_ends p0 v0 a0 pf vf af t }
 {
     let t = mended_duration(t);
     let p0 = fin(p0, 0.0);
@@ -90,7 +90,7 @@ fn mend(p0: f32, v0: f32, a0: f32, pf: f32, vf: f32, af: f32, t: f32) -> Mended
 
 // Where on a segment of t_end seconds the time t is: before it its start, past it its end, and its start for a time that is not finite.
 fn time_on(t: f32, t_end: f32) -> f32
-    ensures { result ≡ timeOn t t_end }
+    ensures { result ≡ time_on t t_end }
 {
     if relay_math::is_finite(t) {
         relay_math::clamp(t, 0.0, t_end)
@@ -109,7 +109,7 @@ impl Quintic {
 
     // The closed form of Mueller, Hehn and D'Andrea, both ends given. A route tick calls it on ends that it mended as it read them.
     pub fn of_mended(m: Mended) -> Quintic
-        ensures { result ≡ ofMended m }
+        ensures { result ≡ of_mended m }
     {
         let p0 = m.p0;
         let v0 = m.v0;
@@ -171,7 +171,7 @@ impl Quintic {
     }
 
     pub fn jerk_coeffs(self) -> JerkCoeffs
-        ensures { result ≡ jerkCoeffs self }
+        ensures { result ≡ jerk_coeffs self }
     {
         JerkCoeffs {
             jc2: 60.0 * self.c5,
@@ -182,7 +182,7 @@ impl Quintic {
 
     // The Rust's bound on the size of the jerk over the segment, +infinity where it is not finite. That it is a bound isn't claimed here.
     pub fn peak_abs_jerk(self) -> f32
-        ensures { result ≡ peakAbsJerk self }
+        ensures { result ≡ peak_abs_jerk self }
     {
         let k = self.jerk_coeffs();
         let t = self.t_end;

@@ -1,6 +1,6 @@
 // Three axes of a trajectory, each on its own (001).
 ghost use Rattle.std.specs.Prelude.{◌≡◌};
-ghost use Rattle.relay_traj.specs.Segment.{segment, restToRest, duration, eval3, peakAbsJerk3};
+ghost use Rattle.relay_traj.specs.Segment.{segment, rest_to_rest, duration, eval3, peak_abs_jerk3};
 
 use crate::quintic::Quintic;
 use relay_math::Vec3;
@@ -30,7 +30,7 @@ impl Segment3 {
     }
 
     pub fn rest_to_rest(from: Vec3, to: Vec3, t: f32) -> Segment3
-        ensures { result ≡ restToRest from to t }
+        ensures { result ≡ rest_to_rest from to t }
     {
         let rest = Vec3(0.0, 0.0, 0.0);
         Segment3::new(from, rest, rest, to, rest, rest, t)
@@ -62,7 +62,7 @@ impl Segment3 {
     }
 
     pub fn peak_abs_jerk(self) -> Vec3
-        ensures { result ≡ peakAbsJerk3 self }
+        ensures { result ≡ peak_abs_jerk3 self }
     {
         let q0 = self.0;
         let q1 = self.1;

@@ -2,8 +2,8 @@
 use Rattle.laws.proofs.Prelude.{◌≡◌, sym, ap, ◌∙◌, Bool, true, false, not, ◌&&◌, List, ℕ, suc, ◌+◌, ◌-◌, ◌%◌, ◌<◌, ◌≤◌, add-one, arith, ltb, Float, binary32, eq, ne, lt}
 use lib.{Bits.{bit_or, bit_xor, xor_add_and, and_le_l, and_le_r}, Ieee.Bits.{nan_bits_above, nan_bits_is}}
 use Rattle.words.{specs.Words.{word, float, float_of}, proofs.Plain.none_of}
-use Rattle.relay_math.{specs.F32.{◌⊕◌, ◌⊖◌}, proofs.Order.differs-as-nan}
-use Rattle.route.specs.{Form.{legOf, legsMeet, meetFrom}, Legs.{Flown, durationOf, flownFrom}}
+use Rattle.relay_math.{specs.F32.{◌⊕◌, ◌⊖◌}, proofs.Order.differs_as_nan}
+use Rattle.route.specs.{Form.{leg_of, legs_meet, meet_from}, Legs.{Flown, duration_of, flown_from}}
 
 -- ---- three tests one after another
 
@@ -31,7 +31,7 @@ back false u e = ap not e
 -- a word beside itself
 pub itself : {w x : ℕ} {t : Bool} → w ≡ x → ltb 0x7f80_0000 (w % 0x8000_0000) ≡ t → eq (float_of w) (float_of x) ≡ not t
 itself {w} {x} {t} p e =
-    rw (← p) (back (eq (float_of w) (float_of w)) t (unfold ne in differs-as-nan (float_of w) ∙ sym (nan_bits_is binary32 w) ∙ nan_bits_above binary32 w ∙ e))
+    rw (← p) (back (eq (float_of w) (float_of w)) t (unfold ne in differs_as_nan (float_of w) ∙ sym (nan_bits_is binary32 w) ∙ nan_bits_above binary32 w ∙ e))
 
 -- what `^` leaves of two words is nothing only if they are the same
 pub same_of : (a b : ℕ) → bit_xor a b ≡ 0 → a ≡ b
@@ -41,8 +41,8 @@ pub all_three : {x y z : Bool} {a b c : ℕ} → (a ≡ 0 → x ≡ true) → (b
 all_three {x} {y} {z} {a} {b} {c} f g h e = let p = none_of (bit_or a b) c e in let q = none_of a b p.0 in third (f q.0) (g q.1) ∙ h p.1
 
 -- the leg that was found is the one of which something is taken
-pub of-the-found : {A : Type 0} (g : ℕ → Float → A) {r : A} {f h : Flown} → r ≡ g f.leg f.at → h ≡ f → r ≡ g h.leg h.at
-of-the-found g e p = e ∙ ap (λ (f : Flown). g f.leg f.at) (sym p)
+pub of_the_found : {A : Type 0} (g : ℕ → Float → A) {r : A} {f h : Flown} → r ≡ g f.leg f.at → h ≡ f → r ≡ g h.leg h.at
+of_the_found g e p = e ∙ ap (λ (f : Flown). g f.leg f.at) (sym p)
 
 -- ---- what is left
 
@@ -56,29 +56,29 @@ none_left n i h = omega arith
 module _ (b : List ℕ) (n i : ℕ) where
   -- ---- the joins
 
-  pub meet-on : i < n → legsMeet (legOf b (i - 1)) (legOf b i) ≡ true → meetFrom b (n - (i + 1)) (i + 1) ≡ meetFrom b (n - i) i
-  unfolding meetFrom
-  meet-on h e = rw (add-one i, more n i h, e)
+  pub meet_on : i < n → legs_meet (leg_of b (i - 1)) (leg_of b i) ≡ true → meet_from b (n - (i + 1)) (i + 1) ≡ meet_from b (n - i) i
+  unfolding meet_from
+  meet_on h e = rw (add-one i, more n i h, e)
 
-  pub meet-stops : i < n → legsMeet (legOf b (i - 1)) (legOf b i) ≡ false → meetFrom b (n - i) i ≡ false
-  unfolding meetFrom
-  meet-stops h e = rw (more n i h, e)
+  pub meet_stops : i < n → legs_meet (leg_of b (i - 1)) (leg_of b i) ≡ false → meet_from b (n - i) i ≡ false
+  unfolding meet_from
+  meet_stops h e = rw (more n i h, e)
 
-  pub meet-ends : n ≤ i → meetFrom b (n - i) i ≡ true
-  unfolding meetFrom
-  meet-ends h = rw (none_left n i h)
+  pub meet_ends : n ≤ i → meet_from b (n - i) i ≡ true
+  unfolding meet_from
+  meet_ends h = rw (none_left n i h)
 
   -- ---- the leg flown, by the duration d that was read
 
   module _ (time end : Float) {d : Float} where
-    pub flown-on : i < n → d ≡ durationOf b i → lt time (end ⊕ d) ≡ false → flownFrom b time (n - (i + 1)) (i + 1) (end ⊕ d) ≡ flownFrom b time (n - i) i end
-    unfolding flownFrom
-    flown-on h p e = rw (add-one i, more n i h, ← p, e)
+    pub flown_on : i < n → d ≡ duration_of b i → lt time (end ⊕ d) ≡ false → flown_from b time (n - (i + 1)) (i + 1) (end ⊕ d) ≡ flown_from b time (n - i) i end
+    unfolding flown_from
+    flown_on h p e = rw (add-one i, more n i h, ← p, e)
 
-    pub flown-here : i < n → d ≡ durationOf b i → lt time (end ⊕ d) ≡ true → flownFrom b time (n - i) i end ≡ record { leg = i; at = time ⊖ end }
-    unfolding flownFrom
-    flown-here h p e = rw (more n i h, ← p, e)
+    pub flown_here : i < n → d ≡ duration_of b i → lt time (end ⊕ d) ≡ true → flown_from b time (n - i) i end ≡ record { leg = i; at = time ⊖ end }
+    unfolding flown_from
+    flown_here h p e = rw (more n i h, ← p, e)
 
-    pub flown-last : i ≤ n → n ≤ i → d ≡ durationOf b (n - 1) → flownFrom b time (n - i) i end ≡ record { leg = n - 1; at = d }
-    unfolding flownFrom
-    flown-last h k p = let e : i ≡ n = omega arith in rw (e, none_left n n (omega arith), p)
+    pub flown_last : i ≤ n → n ≤ i → d ≡ duration_of b (n - 1) → flown_from b time (n - i) i end ≡ record { leg = n - 1; at = d }
+    unfolding flown_from
+    flown_last h k p = let e : i ≡ n = omega arith in rw (e, none_left n n (omega arith), p)

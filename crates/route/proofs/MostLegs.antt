@@ -1,17 +1,17 @@
 -- Request Eight: what the limit of legs decides, and what it does not. Assumes nothing.
 use Rattle.laws.proofs.Prelude.{◌≡◌, refl, true, List, ℕ, ◌≤◌, ◌<◌, arith, lt-ltb, le-ltb, ne_eqb, length}
-use Rattle.outcome.{specs.{declared.Outcome.TheVariants.LegCount, Outcomes.{isDone, first_of, left, lent}}, proofs.Tables.in-turn}
-use Rattle.lent_tick.specs.Tick.{tickTable, tickRefusal, tickFrom}
-use Rattle.route.specs.{Form.{ROUTE-TRAILER-BYTES, MOST-LEGS, legCount, formTableTo}, Entry.{routeRefusal, routeCall, routeCallTo}}
+use Rattle.outcome.{specs.{declared.Outcome.TheVariants.LegCount, Outcomes.{is_done, first_of, left, lent}}, proofs.Tables.in_turn}
+use Rattle.lent_tick.specs.Tick.{tick_table, tick_refusal, tick_from}
+use Rattle.route.specs.{Form.{ROUTE_TRAILER_BYTES, MOST_LEGS, leg_count, form_table_to}, Entry.{route_refusal, route_call, route_call_to}}
 
 -- ---- over any limit
 
-pub within_both : (most more : ℕ) (image input route answer : List ℕ) → legCount route ≤ most → legCount route ≤ more
-    → routeCallTo most image input route answer ≡ routeCallTo more image input route answer
+pub within_both : (most more : ℕ) (image input route answer : List ℕ) → leg_count route ≤ most → leg_count route ≤ more
+    → route_call_to most image input route answer ≡ route_call_to more image input route answer
 within_both most more image input route answer p q = rw (le-ltb _ _ p, le-ltb _ _ q)
 
-pub beyond : (most : ℕ) (route : List ℕ) → ROUTE-TRAILER-BYTES ≤ length route → most < legCount route → first_of (formTableTo most route) ≡ LegCount
-beyond most route t h = rw (le-ltb _ _ t, ne_eqb (legCount route) 0 (λ e. omega (arith, h, e)), lt-ltb _ _ h)
+pub beyond : (most : ℕ) (route : List ℕ) → ROUTE_TRAILER_BYTES ≤ length route → most < leg_count route → first_of (form_table_to most route) ≡ LegCount
+beyond most route t h = rw (le-ltb _ _ t, ne_eqb (leg_count route) 0 (λ e. omega (arith, h, e)), lt-ltb _ _ h)
 
 -- ---- the earlier release, of document 02's first request
 
@@ -19,13 +19,13 @@ abbrev EARLIER : ℕ
 EARLIER = 8
 
 -- "A stored route of up to 8 legs keeps its bytes and flies the same."
-pub flies-the-same : (image input route answer : List ℕ) → legCount route ≤ EARLIER → routeCall image input route answer ≡ routeCallTo EARLIER image input route answer
-unfolding routeCall routeRefusal
-flies-the-same image input route answer h = within_both MOST-LEGS EARLIER image input route answer (omega (arith, h)) h
+pub flies_the_same : (image input route answer : List ℕ) → leg_count route ≤ EARLIER → route_call image input route answer ≡ route_call_to EARLIER image input route answer
+unfolding route_call route_refusal
+flies_the_same image input route answer h = within_both MOST_LEGS EARLIER image input route answer (omega (arith, h)) h
 
 -- "Ground tools of the earlier release refuse a longer one with 5 and show nothing of it": whatever its other bytes are
-pub earlier-shows-nothing : (image input route answer : List ℕ) → isDone (tickRefusal image (length input) (length answer)) ≡ true
-    → ROUTE-TRAILER-BYTES ≤ length route → EARLIER < legCount route → routeCallTo EARLIER image input route answer ≡ left LegCount (lent image answer)
-unfolding tickFrom tickRefusal
-earlier-shows-nothing image input route answer d t h =
-    rw (in-turn (tickTable image (length input) (length answer)) (formTableTo EARLIER route) refl, d, beyond EARLIER route t h)
+pub earlier_shows_nothing : (image input route answer : List ℕ) → is_done (tick_refusal image (length input) (length answer)) ≡ true
+    → ROUTE_TRAILER_BYTES ≤ length route → EARLIER < leg_count route → route_call_to EARLIER image input route answer ≡ left LegCount (lent image answer)
+unfolding tick_from tick_refusal
+earlier_shows_nothing image input route answer d t h =
+    rw (in_turn (tick_table image (length input) (length answer)) (form_table_to EARLIER route) refl, d, beyond EARLIER route t h)

@@ -6,15 +6,15 @@ use Rattle.route.proofs.form
 use Rattle.route.proofs.entry
 use Rattle.route.proofs.sample
 
-pub route-tick-once : OneAnswer entry.route_tick.ended entry.route_tick.Reads.Post
-route-tick-once κs a x y v w p q =
+pub route_tick_once : OneAnswer entry.route_tick.ended entry.route_tick.Reads.Post
+route_tick_once κs a x y v w p q =
     let e = no_second p q in
     (ap (λ (c : Called). c.outcome) e, both (ap (λ (c : Called). c.later.image) e) (both refl (both refl (both (ap (λ (c : Called). c.later.answer) e) refl))))
 
-pub legs-meet-once : OneAnswer form.legs_meet.ended form.legs_meet.Reads.Post
-legs-meet-once κs a x y v w p q = (no_second p q, refl)
+pub legs_meet_once : OneAnswer form.legs_meet.ended form.legs_meet.Reads.Post
+legs_meet_once κs a x y v w p q = (no_second p q, refl)
 
-pub route-sample-once : OneAnswer sample.route_sample.ended sample.route_sample.Reads.Post
-route-sample-once κs a x y v w p q =
+pub route_sample_once : OneAnswer sample.route_sample.ended sample.route_sample.Reads.Post
+route_sample_once κs a x y v w p q =
     let e = no_second p q in
     (ap (λ (l : Filled). l.outcome) e, both refl (both refl (both (ap (λ (l : Filled). l.later) e) refl)))

@@ -5,8 +5,8 @@ use Rattle.laws.proofs.Prelude.{le_trans, le_of_eq, le_of_suc-le-suc, mul_right_
 use Rattle.laws.proofs.Prelude.{mul, div, of_bits}
 use Prim.Native.Nat.{zero-le}
 use lib.Ieee.{Fits.down_pos, Order.round_mono}
-use Rattle.relay_math.specs.{F32.{◌⊗◌, ◌⊘◌, 0·0, is_finite, finiteOr, grains}, Steps.signed}
-use Rattle.relay_math.proofs.{Signs.{le_is, of-rounded}, Sums.round-own, Round.round-signed, Grains.{grains-exact, reads}, FiniteOr.finite-or-keeps}
+use Rattle.relay_math.specs.{F32.{◌⊗◌, ◌⊘◌, 0·0, is_finite, finite_or, grains}, Steps.signed}
+use Rattle.relay_math.proofs.{Signs.{le_is, of_rounded}, Sums.round_own, Round.round_signed, Grains.{grains_exact, reads}, FiniteOr.finite_or_keeps}
 
 -- the size of a number is n at most
 abbrev pub Under : ℕ → Float → Type 0
@@ -18,18 +18,18 @@ pub finite : (n : ℕ) (x : Float) → Under n x → T (is_finite x)
 unfolding is_finite
 finite n (fin s m e) h = tt
 
-either-sign : (s : Bool) (n : ℕ) (x : Float) → Under n x → Under n (signed s x)
+either_sign : (s : Bool) (n : ℕ) (x : Float) → Under n x → Under n (signed s x)
 unfolding neg
-either-sign false n x h = h
-either-sign true n (fin s m e) h = h
+either_sign false n x h = h
+either_sign true n (fin s m e) h = h
 
 -- a fraction that is m * 2 ^ g at most, which is an f32, is so when it is rounded
 rounded : (s : Bool) (a c m g : ℕ) → 0 < c → T (fits binary32 (fin false m (pos g))) → a ≤ m * 2 ^ g * c → Under (m * 2 ^ g) (round binary32 s a c)
 rounded s a c m g C f h =
-    rw (round-signed s a c) (either-sign s (m * 2 ^ g) (round binary32 false a c)
-    (of-rounded (λ (x : Float). T (le x (fin false m (pos g))) → Under (m * 2 ^ g) x) false
+    rw (round_signed s a c) (either_sign s (m * 2 ^ g) (round binary32 false a c)
+    (of_rounded (λ (x : Float). T (le x (fin false m (pos g))) → Under (m * 2 ^ g) x) false
     (λ n e p. let r : n * up e * 1 ≤ m * 2 ^ g * down e = leb→le _ _ (subst T (le_is n e m (pos g)) p) in rw mul-one at r) (λ p. absurd (unfold le in p)) a c
-    (subst (λ (y : Float). T (le (round binary32 false a c) y)) (round-own m (pos g) f) (round_mono binary32 a c (m * 2 ^ g) 1 C (lit< tt) (rw (mul-one a) h)))))
+    (subst (λ (y : Float). T (le (round binary32 false a c) y)) (round_own m (pos g) f) (round_mono binary32 a c (m * 2 ^ g) 1 C (lit< tt) (rw (mul-one a) h)))))
 
 -- every f32 is so by the largest
 abbrev MOST : ℕ
@@ -44,7 +44,7 @@ most s zero e f = rw (zero-mul (up e)) zero-le
 most s (suc m) e f =
     let d = reads (suc m) e f in
     let g : grains (fin false (suc m) e) ≤ MOST * 2 ^ 149 = rw d.is (mul-le-mul (le_of_suc-le-suc d.few) (pow_mono (le_of_suc-le-suc d.under))) in
-    cut (suc m * up e) (grains (fin false (suc m) e)) (down e) (2 ^ 149) MOST (grains-exact false (suc m) e f) g (lit< tt)
+    cut (suc m * up e) (grains (fin false (suc m) e)) (down e) (2 ^ 149) MOST (grains_exact false (suc m) e f) g (lit< tt)
 
 -- ---- divided by n * 2 ^ j a number is m * 2 ^ g at most, and that times k * 2 ^ i is a * 2 ^ b at most: so both are finite
 
@@ -64,8 +64,8 @@ module _ (n j m g k i a b : ℕ) (some : eqb n 0 ≡ false) (more : 0 < n * 2 ^ 
       let u : Under (m * 2 ^ g) y = rw some (rounded (unlike s false) (x * up e * 1) (n * 2 ^ j * down e) m g (mul-pos more (down_pos e)) f d) in
       (finite (m * 2 ^ g) y u, finite (a * 2 ^ b) (fin false k (pos i) ⊗ y) (times y u))
 
-  pub mended : (x : Float) → T (fits binary32 x) → let y = finiteOr (x ⊘ fin false n (pos j)) 0·0 in T (is_finite y) × T (is_finite (fin false k (pos i) ⊗ y))
+  pub mended : (x : Float) → T (fits binary32 x) → let y = finite_or (x ⊘ fin false n (pos j)) 0·0 in T (is_finite y) × T (is_finite (fin false k (pos i) ⊗ y))
   unfolding div is_finite of_bits
   mended nan l = (tt, finite (a * 2 ^ b) (fin false k (pos i) ⊗ 0·0) (times 0·0 zero-le))
   mended (inf s) l = (tt, finite (a * 2 ^ b) (fin false k (pos i) ⊗ 0·0) (times 0·0 zero-le))
-  mended (fin s x e) l = let d = divided (fin s x e) l tt in rw (finite-or-keeps (fin s x e ⊘ fin false n (pos j)) 0·0 d.0) d
+  mended (fin s x e) l = let d = divided (fin s x e) l tt in rw (finite_or_keeps (fin s x e ⊘ fin false n (pos j)) 0·0 d.0) d

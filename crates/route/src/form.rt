@@ -2,9 +2,9 @@
 ghost use Rattle.std.specs.Prelude.{◌≡◌, true, ◌+◌, ◌-◌, ◌*◌, ◌≤◌, length};
 ghost use Rattle.std.specs.Float.Ieee.{eq};
 ghost use Rattle.words.specs.Words.{float_of, vec};
-ghost use Rattle.image.specs.Layout.{LEG-BYTES};
-ghost use Rattle.image.specs.Parts.{legAt};
-ghost use Rattle.route.specs.Form.{ROUTE-TRAILER-BYTES, legCount, backOf, vecsMeet, legsMeet, allMeet, formRefusal};
+ghost use Rattle.image.specs.Layout.{LEG_BYTES};
+ghost use Rattle.image.specs.Parts.{leg_at};
+ghost use Rattle.route.specs.Form.{ROUTE_TRAILER_BYTES, leg_count, back_of, vecs_meet, legs_meet, all_meet, form_refusal};
 
 use image::{LEG_BYTES, LEG_WORDS};
 use outcome::Outcome;
@@ -17,15 +17,15 @@ pub const TRAILER_BYTES: usize = 8;
 
 // The trailer is the last 8 bytes, whatever the length.
 pub(crate) fn leg_count(route: &[u8]) -> usize
-    requires { ROUTE-TRAILER-BYTES ≤ length route.now }
-    ensures { result ≡ legCount route.now }
+    requires { ROUTE_TRAILER_BYTES ≤ length route.now }
+    ensures { result ≡ leg_count route.now }
 {
     four_bytes(route, route.len() - TRAILER_BYTES) as usize
 }
 
 fn bytes_back(route: &[u8]) -> usize
-    requires { ROUTE-TRAILER-BYTES ≤ length route.now }
-    ensures { result ≡ backOf route.now }
+    requires { ROUTE_TRAILER_BYTES ≤ length route.now }
+    ensures { result ≡ back_of route.now }
 {
     four_bytes(route, route.len() - 4) as usize
 }
@@ -47,7 +47,7 @@ fn words_meet(w: u32, x: u32) -> bool
 // The vectors whose first words are these.
 fn vecs_meet(a: &[u8], j: usize, b: &[u8], k: usize) -> bool
     requires { (4 * j + 12 ≤ length a.now) × (4 * k + 12 ≤ length b.now) }
-    ensures { result ≡ vecsMeet (vec a.now j) (vec b.now k) }
+    ensures { result ≡ vecs_meet (vec a.now j) (vec b.now k) }
 {
     if words_meet(word_at(a, j), word_at(b, k)) {
         if words_meet(word_at(a, j + 1), word_at(b, k + 1)) {
@@ -62,8 +62,8 @@ fn vecs_meet(a: &[u8], j: usize, b: &[u8], k: usize) -> bool
 
 // The legs whose first words are these. They may stand in different bytes: a pattern's are not a route's.
 pub fn legs_meet(earlier: &[u8], j: usize, later: &[u8], k: usize) -> bool
-    requires { (4 * j + LEG-BYTES ≤ length earlier.now) × (4 * k + LEG-BYTES ≤ length later.now) }
-    ensures { result ≡ legsMeet (legAt earlier.now j) (legAt later.now k) }
+    requires { (4 * j + LEG_BYTES ≤ length earlier.now) × (4 * k + LEG_BYTES ≤ length later.now) }
+    ensures { result ≡ legs_meet (leg_at earlier.now j) (leg_at later.now k) }
 {
     if vecs_meet(later, k, earlier, j + 9) {
         if vecs_meet(later, k + 3, earlier, j + 12) {
@@ -85,7 +85,7 @@ fn words_apart(w: u32, x: u32) -> u32
 
 fn vecs_apart(a: &[u8], j: usize, b: &[u8], k: usize) -> u32
     requires { (4 * j + 12 ≤ length a.now) × (4 * k + 12 ≤ length b.now) }
-    ensures { result ≡ 0 → vecsMeet (vec a.now j) (vec b.now k) ≡ true }
+    ensures { result ≡ 0 → vecs_meet (vec a.now j) (vec b.now k) ≡ true }
 {
     words_apart(word_at(a, j), word_at(b, k))
         | words_apart(word_at(a, j + 1), word_at(b, k + 1))
@@ -93,8 +93,8 @@ fn vecs_apart(a: &[u8], j: usize, b: &[u8], k: usize) -> u32
 }
 
 fn legs_apart(earlier: &[u8], j: usize, later: &[u8], k: usize) -> u32
-    requires { (4 * j + LEG-BYTES ≤ length earlier.now) × (4 * k + LEG-BYTES ≤ length later.now) }
-    ensures { result ≡ 0 → legsMeet (legAt earlier.now j) (legAt later.now k) ≡ true }
+    requires { (4 * j + LEG_BYTES ≤ length earlier.now) × (4 * k + LEG_BYTES ≤ length later.now) }
+    ensures { result ≡ 0 → legs_meet (leg_at earlier.now j) (leg_at later.now k) ≡ true }
 {
     vecs_apart(later, k, earlier, j + 9)
         | vecs_apart(later, k + 3, earlier, j + 12)
@@ -104,8 +104,8 @@ fn legs_apart(earlier: &[u8], j: usize, later: &[u8], k: usize) -> u32
 // Whether each of the legs but the first starts with the very words that the one before it ends with, and none of them a NaN's: then all meet. One test a
 // join, where the walk below has nine (docs/SPEED.md says what that saves). With -0.0 at a join it says no, and the walk decides.
 fn all_alike(route: &[u8], count: usize) -> bool
-    requires { LEG-BYTES * count ≤ length route.now }
-    ensures { result ≡ true → allMeet route.now count ≡ true }
+    requires { LEG_BYTES * count ≤ length route.now }
+    ensures { result ≡ true → all_meet route.now count ≡ true }
 {
     let mut i = 1;
     while i < count {
@@ -119,8 +119,8 @@ fn all_alike(route: &[u8], count: usize) -> bool
 
 // Whether each of the legs but the first meets the one before it.
 fn all_meet(route: &[u8], count: usize) -> bool
-    requires { LEG-BYTES * count ≤ length route.now }
-    ensures { result ≡ allMeet route.now count }
+    requires { LEG_BYTES * count ≤ length route.now }
+    ensures { result ≡ all_meet route.now count }
 {
     if all_alike(route, count) {
         return true;
@@ -137,7 +137,7 @@ fn all_meet(route: &[u8], count: usize) -> bool
 
 // What a route is refused for. The count is tested before it is multiplied: 76 times 2^30 is 0 in 32 bits.
 pub(crate) fn form_refusal(route: &[u8]) -> Outcome
-    ensures { result ≡ formRefusal route.now }
+    ensures { result ≡ form_refusal route.now }
 {
     let length = route.len();
     if length < TRAILER_BYTES {

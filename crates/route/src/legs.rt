@@ -1,9 +1,9 @@
 // The leg flown, over any count, and its sample.
 ghost use Rattle.std.specs.Prelude.{◌≡◌, ◌+◌, ◌*◌, ◌<◌, ◌≤◌, length};
 ghost use Rattle.words.specs.Words.{float};
-ghost use Rattle.relay_traj.specs.Quintic.{mendEnds};
-ghost use Rattle.image.specs.Layout.{LEG-BYTES};
-ghost use Rattle.route.specs.Legs.{durationOf, sampleOf, sampleOn, referenceOf, referenceOn, PassedBy};
+ghost use Rattle.relay_traj.specs.Quintic.{mend_ends};
+ghost use Rattle.image.specs.Layout.{LEG_BYTES};
+ghost use Rattle.route.specs.Legs.{duration_of, sample_of, sample_on, reference_of, reference_on, PassedBy};
 
 use image::{LEG_WORDS, leg_at};
 use joint_tick::{Reference, reference_at, sample_at, segment_of};
@@ -28,8 +28,8 @@ pub struct Sampled {
 }
 
 fn duration_of(route: &[u8], i: usize) -> f32
-    requires { LEG-BYTES * i + LEG-BYTES ≤ length route.now }
-    ensures { result ≡ durationOf route.now i }
+    requires { LEG_BYTES * i + LEG_BYTES ≤ length route.now }
+    ensures { result ≡ duration_of route.now i }
 {
     mended_duration(float_at(route, LEG_WORDS * i + DURATION))
 }
@@ -37,7 +37,7 @@ fn duration_of(route: &[u8], i: usize) -> f32
 // One axis of a leg, mended as it is read: its p0 is word k, and the others stand three words apart.
 fn axis_at(route: &[u8], k: usize, t: f32) -> Mended
     requires { 4 * k + 64 ≤ length route.now }
-    ensures { let b = route.now in result ≡ mendEnds (float b k) (float b (k + 3)) (float b (k + 6)) (float b (k + 9)) (float b (k + 12)) (float b (k + 15)) t }
+    ensures { let b = route.now in result ≡ mend_ends (float b k) (float b (k + 3)) (float b (k + 6)) (float b (k + 9)) (float b (k + 12)) (float b (k + 15)) t }
 {
     let p0 = finite_at(route, k, 0.0);
     Mended {
@@ -54,8 +54,8 @@ fn axis_at(route: &[u8], k: usize, t: f32) -> Mended
 // The base's own sample, of one leg. Its segment is made of the words at once, which is quicker than a leg read first and `segment_of` called on it
 // (docs/SPEED.md).
 fn reference_of(route: &[u8], i: usize, at: f32) -> Reference
-    requires { LEG-BYTES * i + LEG-BYTES ≤ length route.now }
-    ensures { result ≡ referenceOf route.now i at }
+    requires { LEG_BYTES * i + LEG_BYTES ≤ length route.now }
+    ensures { result ≡ reference_of route.now i at }
 {
     let k = LEG_WORDS * i;
     let t = float_at(route, k + DURATION);
@@ -67,8 +67,8 @@ fn reference_of(route: &[u8], i: usize, at: f32) -> Reference
 
 // All that a leg asks at a time. No tick calls it, so it may take the plain way: a leg read, and `segment_of` it.
 fn sample_of(route: &[u8], i: usize, at: f32) -> Sampled
-    requires { LEG-BYTES * i + LEG-BYTES ≤ length route.now }
-    ensures { result ≡ sampleOf route.now i at }
+    requires { LEG_BYTES * i + LEG_BYTES ≤ length route.now }
+    ensures { result ≡ sample_of route.now i at }
 {
     let leg = leg_at(route, LEG_WORDS * i);
     let sample = sample_at(segment_of(leg), at);
@@ -77,7 +77,7 @@ fn sample_of(route: &[u8], i: usize, at: f32) -> Sampled
 
 // The legs whose ends are not above the time, up to the first whose end is.
 fn passed(route: &[u8], count: usize, time: f32) -> Behind
-    requires { LEG-BYTES * count ≤ length route.now }
+    requires { LEG_BYTES * count ≤ length route.now }
     ensures { PassedBy route.now count time result }
 {
     let mut i = 0;
@@ -96,8 +96,8 @@ fn passed(route: &[u8], count: usize, time: f32) -> Behind
 // Of the first leg whose end is above the time, at the time less the end before it; past all ends of the last leg, at its duration. The two calls keep
 // `reference_of` from being inlined, so that its stack is free again when the tick goes on: 128 bytes, for next to no time.
 pub(crate) fn reference_on(route: &[u8], count: usize, time: f32) -> Reference
-    requires { (0 < count) × (LEG-BYTES * count ≤ length route.now) }
-    ensures { result ≡ referenceOn route.now count time }
+    requires { (0 < count) × (LEG_BYTES * count ≤ length route.now) }
+    ensures { result ≡ reference_on route.now count time }
 {
     let before = passed(route, count, time);
     if before.legs < count {
@@ -107,8 +107,8 @@ pub(crate) fn reference_on(route: &[u8], count: usize, time: f32) -> Reference
 }
 
 pub(crate) fn sample_on(route: &[u8], count: usize, time: f32) -> Sampled
-    requires { (0 < count) × (LEG-BYTES * count ≤ length route.now) }
-    ensures { result ≡ sampleOn route.now count time }
+    requires { (0 < count) × (LEG_BYTES * count ≤ length route.now) }
+    ensures { result ≡ sample_on route.now count time }
 {
     let before = passed(route, count, time);
     if before.legs < count {

@@ -1,8 +1,8 @@
 // Where the craft should be on a route at a time, on lent bytes. Nothing is asked of the caller; a refused call changes no byte.
 ghost use Rattle.std.specs.Prelude.{◌≡◌, ◌<◌, length};
 ghost use Rattle.outcome.specs.Outcomes.{left};
-ghost use Rattle.route.specs.Form.{MOST-LEGS};
-ghost use Rattle.route.specs.Entry.{SAMPLE-BYTES, sampleBytes, sampleCall};
+ghost use Rattle.route.specs.Form.{MOST_LEGS};
+ghost use Rattle.route.specs.Entry.{SAMPLE_BYTES, sample_bytes, sample_call};
 
 use super::form::{form_refusal, leg_count};
 use super::legs::{Sampled, sample_on};
@@ -21,8 +21,8 @@ const ACC: usize = 7;
 const JERK: usize = 10;
 
 fn put_sample(bytes: &mut [u8], s: Sampled)
-    requires { (length bytes.old ≡ SAMPLE-BYTES) × (s.leg < MOST-LEGS) }
-    ensures { bytes.new ≡ sampleBytes s }
+    requires { (length bytes.old ≡ SAMPLE_BYTES) × (s.leg < MOST_LEGS) }
+    ensures { bytes.new ≡ sample_bytes s }
 {
     put_word(bytes, 0, s.leg as u32);
     put_vec(bytes, POS, s.sample.pos);
@@ -34,7 +34,7 @@ fn put_sample(bytes: &mut [u8], s: Sampled)
 // The leg flown, counted from 0, then position, velocity, acceleration and jerk: what a tick on the route at that time would go by, and where. Every bit of the time
 // has an answer, as a tick takes it.
 pub fn route_sample(route: &[u8], time: f32, sample: &mut [u8]) -> Outcome
-    ensures { left result sample.new ≡ sampleCall route.now time sample.old }
+    ensures { left result sample.new ≡ sample_call route.now time sample.old }
 {
     if sample.len() != SAMPLE_BYTES {
         return Outcome::AnswerLength;

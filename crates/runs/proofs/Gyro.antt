@@ -3,50 +3,50 @@ use Rattle.laws.proofs.Prelude.{◌≡◌, refl, sym, ap, ◌∙◌, subst, Bool
 use Rattle.words.specs.Words.{word, float, float_of}
 use Rattle.latch.specs.Latch.{Flies}
 use Rattle.relay_math.specs.F32.{0·0}
-use Rattle.relay_adrc.{specs.{declared.biquad.Biquad.Biquad, Biquad.{lowpassAt, lowpass, gyroNew}}, proofs.Lowpass.filters}
-use Rattle.joint_tick.specs.{declared.state.State.State, Profile.isProfile, SetUp.setUp}
-use Rattle.outcome.specs.{declared.Outcome.{Outcome, TheVariants.{Done, BadProfile, PassThrough}}, Outcomes.{isDone, Table, left, leftUnless, Filled}}
-use Rattle.outcome.proofs.Tables.{done_none, never-given, in-turn, either}
-use Rattle.image.{specs.{Layout.{LPF, BIQUAD-WORDS, IMAGE-WORDS, IMAGE-BYTES, SETUP-PROFILE, SETUP-BYTES}, Parts.{biquadAt, lpfAt}, Image.movingAt, Inputs.setupAt}, proofs.Decoded.decode-encode}
-use Rattle.lent_tick.{specs.{Unbroken.Unbroken, Tick.{tickTable, tickRefusal}}, proofs.NeverRefused.set-up-fits}
-use Rattle.calls.specs.Entry.{setUpTable, exchangeTable, setUpRefusal, exchangeRefusal, SetsUp, setUpCall}
-use Rattle.route.specs.{Form.formTable, Entry.routeRefusal}
-use Rattle.runs.specs.{Runs.{Tick, Call, guided, start, imageAfter, marginsAlong, Right}, DemandThree.{enterOf, exit_of, Shows}, Kept.lasting}
-use Rattle.runs.specs.Gyro.{unfiltered, tableBefore, refusalBefore, setUpBefore, Filter, Roll, Pitch, Yaw, Passes}
-use Rattle.runs.proofs.{Induction.start-unbroken, DemandThree.demand-three, CallsKeep.{words-kept-over-any-run, all-keep-lasting}, LostRotorOnBytes.ten-exactly}
+use Rattle.relay_adrc.{specs.{declared.biquad.Biquad.Biquad, Biquad.{lowpass_at, lowpass, gyro_new}}, proofs.Lowpass.filters}
+use Rattle.joint_tick.specs.{declared.state.State.State, Profile.is_profile, SetUp.set_up}
+use Rattle.outcome.specs.{declared.Outcome.{Outcome, TheVariants.{Done, BadProfile, PassThrough}}, Outcomes.{is_done, Table, left, left_unless, Filled}}
+use Rattle.outcome.proofs.Tables.{done_none, never_given, in_turn, either}
+use Rattle.image.{specs.{Layout.{LPF, BIQUAD_WORDS, IMAGE_WORDS, IMAGE_BYTES, SETUP_PROFILE, SETUP_BYTES}, Parts.{biquad_at, lpf_at}, Image.moving_at, Inputs.setup_at}, proofs.Decoded.decode_encode}
+use Rattle.lent_tick.{specs.{Unbroken.Unbroken, Tick.{tick_table, tick_refusal}}, proofs.NeverRefused.set_up_fits}
+use Rattle.calls.specs.Entry.{set_up_table, exchange_table, set_up_refusal, exchange_refusal, SetsUp, set_up_call}
+use Rattle.route.specs.{Form.form_table, Entry.route_refusal}
+use Rattle.runs.specs.{Runs.{Tick, Call, guided, start, image_after, margins_along, Right}, DemandThree.{enter_of, exit_of, Shows}, Kept.lasting}
+use Rattle.runs.specs.Gyro.{unfiltered, table_before, refusal_before, set_up_before, Filter, Roll, Pitch, Yaw, Passes}
+use Rattle.runs.proofs.{Induction.start_unbroken, DemandThree.demand_three, CallsKeep.{words_kept_over_any_run, all_keep_lasting}, LostRotorOnBytes.ten_exactly}
 
 -- ---- what is refused
 
 -- "11, after 10": exactly where the routine's own condition holds
-pub eleven-exactly : (setup : List ℕ) → length setup ≡ SETUP-BYTES → isProfile (word setup SETUP-PROFILE) ≡ true
-    → setUpRefusal IMAGE-BYTES setup ≡ cond (unfiltered setup) PassThrough Done
-eleven-exactly setup e p = ten-exactly setup e ∙ ap (λ (b : Bool). cond b (cond (unfiltered setup) PassThrough Done) BadProfile) p
+pub eleven_exactly : (setup : List ℕ) → length setup ≡ SETUP_BYTES → is_profile (word setup SETUP_PROFILE) ≡ true
+    → set_up_refusal IMAGE_BYTES setup ≡ cond (unfiltered setup) PassThrough Done
+eleven_exactly setup e p = ten_exactly setup e ∙ ap (λ (b : Bool). cond b (cond (unfiltered setup) PassThrough Done) BadProfile) p
 
 -- "at set-up alone"
-pub no-tick-gives-eleven : (image : List ℕ) (inputLen answerLen : ℕ) → ¬ (tickRefusal image inputLen answerLen ≡ PassThrough)
-unfolding tickRefusal
-no-tick-gives-eleven image inputLen answerLen = never-given PassThrough refl (tickTable image inputLen answerLen) refl
+pub no_tick_gives_eleven : (image : List ℕ) (inputLen answerLen : ℕ) → ¬ (tick_refusal image inputLen answerLen ≡ PassThrough)
+unfolding tick_refusal
+no_tick_gives_eleven image inputLen answerLen = never_given PassThrough refl (tick_table image inputLen answerLen) refl
 
-pub no-route-tick-gives-eleven : (image route : List ℕ) (inputLen answerLen : ℕ) → ¬ (routeRefusal image inputLen answerLen route ≡ PassThrough)
-unfolding routeRefusal
-no-route-tick-gives-eleven image route inputLen answerLen = never-given PassThrough refl (tickTable image inputLen answerLen ++ formTable route) refl
+pub no_route_tick_gives_eleven : (image route : List ℕ) (inputLen answerLen : ℕ) → ¬ (route_refusal image inputLen answerLen route ≡ PassThrough)
+unfolding route_refusal
+no_route_tick_gives_eleven image route inputLen answerLen = never_given PassThrough refl (tick_table image inputLen answerLen ++ form_table route) refl
 
-pub no-exchange-gives-eleven : (image : List ℕ) (segmentLen : ℕ) → ¬ (exchangeRefusal image segmentLen ≡ PassThrough)
-unfolding exchangeRefusal
-no-exchange-gives-eleven image segmentLen = never-given PassThrough refl (exchangeTable image segmentLen) refl
+pub no_exchange_gives_eleven : (image : List ℕ) (segmentLen : ℕ) → ¬ (exchange_refusal image segmentLen ≡ PassThrough)
+unfolding exchange_refusal
+no_exchange_gives_eleven image segmentLen = never_given PassThrough refl (exchange_table image segmentLen) refl
 
 -- ---- set-up and the one of the release before differ in this alone: the number, and every byte of the image
 
-pub as-before-but-eleven : (image setup : List ℕ)
-    → setUpCall image setup ≡ cond (isDone (refusalBefore (length image) setup) && unfiltered setup) (left PassThrough image) (setUpBefore image setup)
-unfolding setUpCall setUpRefusal setUpBefore refusalBefore start
-as-before-but-eleven image setup =
+pub as_before_but_eleven : (image setup : List ℕ)
+    → set_up_call image setup ≡ cond (is_done (refusal_before (length image) setup) && unfiltered setup) (left PassThrough image) (set_up_before image setup)
+unfolding set_up_call set_up_refusal set_up_before refusal_before start
+as_before_but_eleven image setup =
     let more : Table = (unfiltered setup, PassThrough) ∷ [] in
-    ap (λ (o : Outcome). leftUnless o (start setup) image) (in-turn (tableBefore (length image) setup) more refl)
-    ∙ by (refusalBefore (length image) setup) (isDone (refusalBefore (length image) setup)) (unfiltered setup) refl
+    ap (λ (o : Outcome). left_unless o (start setup) image) (in_turn (table_before (length image) setup) more refl)
+    ∙ by (refusal_before (length image) setup) (is_done (refusal_before (length image) setup)) (unfiltered setup) refl
   where
-    by : (o : Outcome) (t u : Bool) → isDone o ≡ t
-        → leftUnless (cond t (cond u PassThrough Done) o) (start setup) image ≡ cond (t && u) (left PassThrough image) (leftUnless o (start setup) image)
+    by : (o : Outcome) (t u : Bool) → is_done o ≡ t
+        → left_unless (cond t (cond u PassThrough Done) o) (start setup) image ≡ cond (t && u) (left PassThrough image) (left_unless o (start setup) image)
     by o true true e = refl
     by o true false e = rw e
     by o false u e = refl
@@ -54,62 +54,62 @@ as-before-but-eleven image setup =
 -- ---- "Images already set up that way keep ticking"
 
 -- What that release wrote is the image that runs start at, whatever the cut-off. So all that is said of runs, by `start` of any 51 words, is said of it.
-pub started-before : (image setup : List ℕ) → (setUpBefore image setup).outcome ≡ Done → (setUpBefore image setup).later ≡ start setup
-unfolding setUpBefore
-started-before image setup =
-    either (λ (l : Filled). l.outcome ≡ Done → l.later ≡ start setup) (refusalBefore (length image) setup)
+pub started_before : (image setup : List ℕ) → (set_up_before image setup).outcome ≡ Done → (set_up_before image setup).later ≡ start setup
+unfolding set_up_before
+started_before image setup =
+    either (λ (l : Filled). l.outcome ≡ Done → l.later ≡ start setup) (refusal_before (length image) setup)
     (λ e z. refl)
-    (λ e z. no (sym e ∙ ap isDone z))
+    (λ e z. no (sym e ∙ ap is_done z))
 
-module _ (image setup : List ℕ) (e : (setUpBefore image setup).outcome ≡ Done) where
+module _ (image setup : List ℕ) (e : (set_up_before image setup).outcome ≡ Done) where
   abbrev first : List ℕ
-  first = (setUpBefore image setup).later
+  first = (set_up_before image setup).later
 
-  pub keeps-ticking : Unbroken first
-  keeps-ticking = rw (started-before image setup e) (start-unbroken setup)
+  pub keeps_ticking : Unbroken first
+  keeps_ticking = rw (started_before image setup e) (start_unbroken setup)
 
   -- "demands 2 and 3 hold on their runs as before"
-  pub demand-three-as-before : (calls : List Call) (t : Tick) → Right t
-      → let now = imageAfter first calls in
-      let margins = marginsAlong first calls ++ (guided now t).margin ∷ [] in
-      Shows (Flies (enterOf setup) (exit_of setup) margins) now t
-  demand-three-as-before calls t r =
-      subst (λ (b : List ℕ). let now = imageAfter b calls in Shows (Flies (enterOf setup) (exit_of setup) (marginsAlong b calls ++ (guided now t).margin ∷ [])) now t)
-      (sym (started-before image setup e)) (demand-three setup calls t r)
+  pub demand_three_as_before : (calls : List Call) (t : Tick) → Right t
+      → let now = image_after first calls in
+      let margins = margins_along first calls ++ (guided now t).margin ∷ [] in
+      Shows (Flies (enter_of setup) (exit_of setup) margins) now t
+  demand_three_as_before calls t r =
+      subst (λ (b : List ℕ). let now = image_after b calls in Shows (Flies (enter_of setup) (exit_of setup) (margins_along b calls ++ (guided now t).margin ∷ [])) now t)
+      (sym (started_before image setup e)) (demand_three setup calls t r)
 
 -- ---- what set-up takes is filtered
 
 module _ (setup : List ℕ) (taken : SetsUp setup) where
-  is-filtered : unfiltered setup ≡ false
-  unfolding setUpRefusal
-  is-filtered = done_none (setUpTable IMAGE-BYTES setup) refl (ap isDone taken) 3
+  is_filtered : unfiltered setup ≡ false
+  unfolding set_up_refusal
+  is_filtered = done_none (set_up_table IMAGE_BYTES setup) refl (ap is_done taken) 3
 
   -- of its filter b0 and b2 are one number, where a pass-through has 1 and 0
-  alike : (f : Biquad) → f ≡ lowpass (setupAt setup).fc (setupAt setup).fs → f.b0 ≡ f.b2
-  unfolding setupAt lowpassAt
-  alike f e = rw (e, filters (setupAt setup).fc (setupAt setup).fs is-filtered)
+  alike : (f : Biquad) → f ≡ lowpass (setup_at setup).fc (setup_at setup).fs → f.b0 ≡ f.b2
+  unfolding setup_at lowpass_at
+  alike f e = rw (e, filters (setup_at setup).fc (setup_at setup).fs is_filtered)
 
-  stored : {k : ℕ} → Filter k → biquadAt (start setup) k ≡ lowpass (setupAt setup).fc (setupAt setup).fs
-  unfolding start setUp movingAt lpfAt gyroNew
-  stored Roll = ap (λ (s : State). s.moving.lpf.roll) (decode-encode (setUp (setupAt setup)) (set-up-fits setup))
-  stored Pitch = ap (λ (s : State). s.moving.lpf.pitch) (decode-encode (setUp (setupAt setup)) (set-up-fits setup))
-  stored Yaw = ap (λ (s : State). s.moving.lpf.yaw) (decode-encode (setUp (setupAt setup)) (set-up-fits setup))
+  stored : {k : ℕ} → Filter k → biquad_at (start setup) k ≡ lowpass (setup_at setup).fc (setup_at setup).fs
+  unfolding start set_up moving_at lpf_at gyro_new
+  stored Roll = ap (λ (s : State). s.moving.lpf.roll) (decode_encode (set_up (setup_at setup)) (set_up_fits setup))
+  stored Pitch = ap (λ (s : State). s.moving.lpf.pitch) (decode_encode (set_up (setup_at setup)) (set_up_fits setup))
+  stored Yaw = ap (λ (s : State). s.moving.lpf.yaw) (decode_encode (set_up (setup_at setup)) (set_up_fits setup))
 
   apart : {k : ℕ} → Filter k → word (start setup) k ≡ 0x3f80_0000 → ¬ (word (start setup) (k + 2) ≡ 0)
-  unfolding biquadAt float lt of_bits
+  unfolding biquad_at float lt of_bits
   apart {k} axis one zero =
-      let f = biquadAt (start setup) k in let e : f.b0 ≡ f.b2 = alike f (stored axis) in
+      let f = biquad_at (start setup) k in let e : f.b0 ≡ f.b2 = alike f (stored axis) in
       no (sym (ap (λ (w : ℕ). lt 0·0 (float_of w)) zero) ∙ ap (lt 0·0) (sym e) ∙ ap (λ (w : ℕ). lt 0·0 (float_of w)) one)
 
-  at : (calls : List Call) (k : ℕ) → k < IMAGE-WORDS → lasting k ≡ true → word (imageAfter (start setup) calls) k ≡ word (start setup) k
-  at calls k h w = words-kept-over-any-run setup calls k h (all-keep-lasting k w calls)
+  at : (calls : List Call) (k : ℕ) → k < IMAGE_WORDS → lasting k ≡ true → word (image_after (start setup) calls) k ≡ word (start setup) k
+  at calls k h w = words_kept_over_any_run setup calls k h (all_keep_lasting k w calls)
 
   kept : (calls : List Call) {k : ℕ} → Filter k
-      → let image = imageAfter (start setup) calls in (word image k ≡ word (start setup) k) × (word image (k + 2) ≡ word (start setup) (k + 2))
+      → let image = image_after (start setup) calls in (word image k ≡ word (start setup) k) × (word image (k + 2) ≡ word (start setup) (k + 2))
   kept calls Roll = (at calls LPF (lit< tt) refl, at calls (LPF + 2) (lit< tt) refl)
-  kept calls Pitch = (at calls (LPF + BIQUAD-WORDS) (lit< tt) refl, at calls (LPF + BIQUAD-WORDS + 2) (lit< tt) refl)
-  kept calls Yaw = (at calls (LPF + BIQUAD-WORDS + BIQUAD-WORDS) (lit< tt) refl, at calls (LPF + BIQUAD-WORDS + BIQUAD-WORDS + 2) (lit< tt) refl)
+  kept calls Pitch = (at calls (LPF + BIQUAD_WORDS) (lit< tt) refl, at calls (LPF + BIQUAD_WORDS + 2) (lit< tt) refl)
+  kept calls Yaw = (at calls (LPF + BIQUAD_WORDS + BIQUAD_WORDS) (lit< tt) refl, at calls (LPF + BIQUAD_WORDS + BIQUAD_WORDS + 2) (lit< tt) refl)
 
   -- "Set-up no longer takes a cut-off that `Biquad::lowpass` would turn into a pass-through": no axis of the gyro is unfiltered, after any calls.
-  pub always-filtered : (calls : List Call) {k : ℕ} → Filter k → ¬ (Passes (imageAfter (start setup) calls) k)
-  always-filtered calls axis p = let w = kept calls axis in apart axis (sym w.0 ∙ p.b0) (sym w.1 ∙ p.b2)
+  pub always_filtered : (calls : List Call) {k : ℕ} → Filter k → ¬ (Passes (image_after (start setup) calls) k)
+  always_filtered calls axis p = let w = kept calls axis in apart axis (sym w.0 ∙ p.b0) (sym w.1 ∙ p.b2)

@@ -1,38 +1,38 @@
 -- Request Twelve: set-up as the release before it had it, and a stored filter that is none. Definitions only.
 use Rattle.std.specs.Prelude.{◌≡◌, Bool, not, List, [], ◌∷◌, ℕ, ◌+◌, length}
 use Rattle.words.specs.Words.{word, float}
-use Rattle.relay_adrc.specs.Biquad.{passesThrough}
-use Rattle.joint_tick.specs.Profile.{isProfile}
-use Rattle.image.specs.Layout.{LPF, BIQUAD-WORDS, IMAGE-BYTES, SETUP-FC, SETUP-FS, SETUP-PROFILE, SETUP-BYTES}
+use Rattle.relay_adrc.specs.Biquad.{passes_through}
+use Rattle.joint_tick.specs.Profile.{is_profile}
+use Rattle.image.specs.Layout.{LPF, BIQUAD_WORDS, IMAGE_BYTES, SETUP_FC, SETUP_FS, SETUP_PROFILE, SETUP_BYTES}
 use Rattle.outcome.specs.declared.Outcome.{Outcome}
 use Rattle.outcome.specs.declared.Outcome.TheVariants.{ImageLength, InputLength, BadProfile}
-use Rattle.outcome.specs.Outcomes.{Table, first_of, differs, leftUnless, Filled}
+use Rattle.outcome.specs.Outcomes.{Table, first_of, differs, left_unless, Filled}
 use Rattle.runs.specs.Runs.{start}
 
 -- whether `Biquad::lowpass` turns a set-up's cut-off and sample rate into a pass-through
 abbrev pub unfiltered : List ℕ → Bool
-unfiltered setup = passesThrough (float setup SETUP-FC) (float setup SETUP-FS)
+unfiltered setup = passes_through (float setup SETUP_FC) (float setup SETUP_FS)
 
 -- set-up before: its table had no 11
-abbrev pub tableBefore : ℕ → List ℕ → Table
-tableBefore imageLen setup =
-    (differs imageLen IMAGE-BYTES, ImageLength)
-    ∷ (differs (length setup) SETUP-BYTES, InputLength)
-    ∷ (not (isProfile (word setup SETUP-PROFILE)), BadProfile)
+abbrev pub table_before : ℕ → List ℕ → Table
+table_before imageLen setup =
+    (differs imageLen IMAGE_BYTES, ImageLength)
+    ∷ (differs (length setup) SETUP_BYTES, InputLength)
+    ∷ (not (is_profile (word setup SETUP_PROFILE)), BadProfile)
     ∷ []
 
-unfoldable pub refusalBefore : ℕ → List ℕ → Outcome
-refusalBefore imageLen setup = first_of (tableBefore imageLen setup)
+unfoldable pub refusal_before : ℕ → List ℕ → Outcome
+refusal_before imageLen setup = first_of (table_before imageLen setup)
 
-unfoldable pub setUpBefore : List ℕ → List ℕ → Filled
-unfolding refusalBefore start
-setUpBefore image setup = leftUnless (refusalBefore (length image) setup) (start setup) image
+unfoldable pub set_up_before : List ℕ → List ℕ → Filled
+unfolding refusal_before start
+set_up_before image setup = left_unless (refusal_before (length image) setup) (start setup) image
 
 -- where the filter of an axis stands in an image
 pub data Filter : ℕ → Type 0 where
   Roll : Filter LPF
-  Pitch : Filter (LPF + BIQUAD-WORDS)
-  Yaw : Filter (LPF + BIQUAD-WORDS + BIQUAD-WORDS)
+  Pitch : Filter (LPF + BIQUAD_WORDS)
+  Yaw : Filter (LPF + BIQUAD_WORDS + BIQUAD_WORDS)
 
 -- the coefficients of the filter at k are a pass-through's: b0 1.0, and +0.0 for the other four
 pub record Passes (image : List ℕ) (k : ℕ) : Type 0 where

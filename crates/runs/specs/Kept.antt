@@ -1,7 +1,7 @@
 -- The words of an image that calls keep, by their numbers. Definitions only.
 use Rattle.std.specs.Prelude.{◌≡◌, Bool, true, ◌&&◌, ◌||◌, List, [], ◌∷◌, ℕ, ◌+◌, ◌<◌, leb, ltb}
 use Rattle.words.specs.Words.{word, canon}
-use Rattle.image.specs.Layout.{COUNT, ENGAGED, GOVERNOR, SEGMENT, RATE, LPF, PROFILE, PEAKS, AXIS-WORDS, BIQUAD-WORDS, ADRC-WORDS, IMAGE-WORDS}
+use Rattle.image.specs.Layout.{COUNT, ENGAGED, GOVERNOR, SEGMENT, RATE, LPF, PROFILE, PEAKS, AXIS_WORDS, BIQUAD_WORDS, ADRC_WORDS, IMAGE_WORDS}
 use Rattle.runs.specs.Runs.{Call, Ticks, Exchanges}
 
 -- k is one of n numbers from `first` on
@@ -14,35 +14,35 @@ abbrev pub lasting : ℕ → Bool
 lasting k =
     among COUNT 15 k
     || among (GOVERNOR + 1) 3 k
-    || among (RATE + 5) ADRC-WORDS k
-    || among (RATE + AXIS-WORDS + 5) ADRC-WORDS k
-    || among (RATE + AXIS-WORDS + AXIS-WORDS + 5) ADRC-WORDS k
+    || among (RATE + 5) ADRC_WORDS k
+    || among (RATE + AXIS_WORDS + 5) ADRC_WORDS k
+    || among (RATE + AXIS_WORDS + AXIS_WORDS + 5) ADRC_WORDS k
     || among LPF 5 k
-    || among (LPF + BIQUAD-WORDS) 5 k
-    || among (LPF + BIQUAD-WORDS + BIQUAD-WORDS) 5 k
+    || among (LPF + BIQUAD_WORDS) 5 k
+    || among (LPF + BIQUAD_WORDS + BIQUAD_WORDS) 5 k
     || among PROFILE 1 k
 
 -- Those that no tick changes: 20 to 40 and 96 to 98 too, the segment and its peaks.
-abbrev pub keptByTicks : ℕ → Bool
-keptByTicks k = lasting k || among SEGMENT 21 k || among PEAKS 3 k
+abbrev pub kept_by_ticks : ℕ → Bool
+kept_by_ticks k = lasting k || among SEGMENT 21 k || among PEAKS 3 k
 
 -- Those that no exchange changes, which are all but the time, the segment and its peaks: 15, the flag, and 41 to 94, ADRC and the filters, too.
-abbrev pub keptByExchanges : ℕ → Bool
-keptByExchanges k = lasting k || among ENGAGED 1 k || among RATE 54 k
+abbrev pub kept_by_exchanges : ℕ → Bool
+kept_by_exchanges k = lasting k || among ENGAGED 1 k || among RATE 54 k
 
 -- ADRC's third axis, 59 to 67
-abbrev pub thirdAxis : ℕ → Bool
-thirdAxis k = among (RATE + AXIS-WORDS + AXIS-WORDS) AXIS-WORDS k
+abbrev pub third_axis : ℕ → Bool
+third_axis k = among (RATE + AXIS_WORDS + AXIS_WORDS) AXIS_WORDS k
 
 -- each of these words is the one before, a NaN made 7fc00000
 abbrev pub SameWords : (ℕ → Bool) → List ℕ → List ℕ → Type 0
-SameWords these before later = (k : ℕ) → k < IMAGE-WORDS → these k ≡ true → word later k ≡ canon (word before k)
+SameWords these before later = (k : ℕ) → k < IMAGE_WORDS → these k ≡ true → word later k ≡ canon (word before k)
 
 -- every call of a run keeps word number k
-abbrev pub keptByCall : Call → ℕ → Bool
-keptByCall (Ticks t) k = keptByTicks k
-keptByCall (Exchanges segment) k = keptByExchanges k
+abbrev pub kept_by_call : Call → ℕ → Bool
+kept_by_call (Ticks t) k = kept_by_ticks k
+kept_by_call (Exchanges segment) k = kept_by_exchanges k
 
 abbrev pub AllKeep : List Call → ℕ → Type 0
 AllKeep [] k = Unit
-AllKeep (c ∷ calls) k = (keptByCall c k ≡ true) × AllKeep calls k
+AllKeep (c ∷ calls) k = (kept_by_call c k ≡ true) × AllKeep calls k

@@ -2,17 +2,17 @@
 use Rattle.std.specs.Prelude.{◌≡◌, List, [], ◌∷◌, ◌++◌, map, ℕ, Float, length, get_or, take}
 use Rattle.joint_tick.specs.declared.stages.Guided.{Guided}
 use Rattle.joint_tick.specs.declared.stages.Reference.{Reference}
-use Rattle.joint_tick.specs.SetUp.{segmentOf, setUp}
+use Rattle.joint_tick.specs.SetUp.{segment_of, set_up}
 use Rattle.joint_tick.specs.Tick.{guidance}
-use Rattle.image.specs.Layout.{INPUT-BYTES, ANSWER-BYTES}
-use Rattle.image.specs.Image.{fixed_at, stateAt, image_of}
-use Rattle.image.specs.Inputs.{setupAt, input_at}
+use Rattle.image.specs.Layout.{INPUT_BYTES, ANSWER_BYTES}
+use Rattle.image.specs.Image.{fixed_at, state_at, image_of}
+use Rattle.image.specs.Inputs.{setup_at, input_at}
 use Rattle.outcome.specs.declared.Outcome.TheVariants.{Done}
 use Rattle.outcome.specs.Outcomes.{Called}
-use Rattle.lent_tick.specs.Steps.{marginsIf}
-use Rattle.calls.specs.Entry.{exchangeCall, onSegment, tickCall}
-use Rattle.route.specs.Form.{legOf, legCount, formRefusal}
-use Rattle.route.specs.Entry.{onRoute, routeCall}
+use Rattle.lent_tick.specs.Steps.{margins_if}
+use Rattle.calls.specs.Entry.{exchange_call, on_segment, tick_call}
+use Rattle.route.specs.Form.{leg_of, leg_count, form_refusal}
+use Rattle.route.specs.Entry.{on_route, route_call}
 
 -- ---- the calls
 
@@ -34,61 +34,61 @@ pub data Call : Type 0 where
 
 -- the call that flies a course, and what a tick leaves: its outcome, the image and the answer
 unfoldable pub flying : Course → List ℕ → List ℕ → List ℕ → Called
-unfolding tickCall routeCall
-flying Segment image input answer = tickCall image input answer
-flying (Route route) image input answer = routeCall image input route answer
+unfolding tick_call route_call
+flying Segment image input answer = tick_call image input answer
+flying (Route route) image input answer = route_call image input route answer
 
-abbrev pub tickOf : List ℕ → Tick → Called
-tickOf image t = flying t.course image t.input t.answer
+abbrev pub tick_of : List ℕ → Tick → Called
+tick_of image t = flying t.course image t.input t.answer
 
 -- the image that a call leaves; a refused one leaves it as it was
-unfoldable pub leftBy : List ℕ → Call → List ℕ
-unfolding flying exchangeCall
-leftBy image (Ticks t) = (tickOf image t).later.image
-leftBy image (Exchanges segment) = (exchangeCall image segment).later
+unfoldable pub left_by : List ℕ → Call → List ℕ
+unfolding flying exchange_call
+left_by image (Ticks t) = (tick_of image t).later.image
+left_by image (Exchanges segment) = (exchange_call image segment).later
 
 -- ---- the margins
 
 -- where the references of a tick come from
-abbrev pub sourceOn : Course → List ℕ → Float → Reference
-sourceOn Segment image = onSegment image
-sourceOn (Route route) image = onRoute route
+abbrev pub source_on : Course → List ℕ → Float → Reference
+source_on Segment image = on_segment image
+source_on (Route route) image = on_route route
 
 -- what the documents work out at a tick: the margin, and the fallback's command
 unfoldable pub guided : List ℕ → Tick → Guided
-guided image t = guidance (sourceOn t.course image) (stateAt image) (input_at t.input)
+guided image t = guidance (source_on t.course image) (state_at image) (input_at t.input)
 
 -- the margins that a call steps the shield by: that of a tick, if it is accepted; an exchange has none
-unfoldable pub marginsBy : List ℕ → Call → List Float
+unfoldable pub margins_by : List ℕ → Call → List Float
 unfolding flying guided
-marginsBy image (Ticks t) = marginsIf (tickOf image t) (guided image t).margin
-marginsBy image (Exchanges segment) = []
+margins_by image (Ticks t) = margins_if (tick_of image t) (guided image t).margin
+margins_by image (Exchanges segment) = []
 
 -- ---- the run
 
 -- It starts at the image that set-up's definition makes, of any input at all.
 unfoldable pub start : List ℕ → List ℕ
-start setup = image_of (setUp (setupAt setup))
+start setup = image_of (set_up (setup_at setup))
 
 -- the image after the calls, and the margins of all their accepted ticks, in order
-unfoldable pub imageAfter : List ℕ → List Call → List ℕ
-unfolding leftBy
-imageAfter image [] = image
-imageAfter image (c ∷ calls) = imageAfter (leftBy image c) calls
+unfoldable pub image_after : List ℕ → List Call → List ℕ
+unfolding left_by
+image_after image [] = image
+image_after image (c ∷ calls) = image_after (left_by image c) calls
 
-unfoldable pub marginsAlong : List ℕ → List Call → List Float
-unfolding leftBy marginsBy
-marginsAlong image [] = []
-marginsAlong image (c ∷ calls) = marginsBy image c ++ marginsAlong (leftBy image c) calls
+unfoldable pub margins_along : List ℕ → List Call → List Float
+unfolding left_by margins_by
+margins_along image [] = []
+margins_along image (c ∷ calls) = margins_by image c ++ margins_along (left_by image c) calls
 
 -- ---- ticks that are given what they should be: right lengths and, on a route, a right route
 
 abbrev pub RightCourse : Course → Type 0
 RightCourse Segment = Unit
-RightCourse (Route route) = formRefusal route ≡ Done
+RightCourse (Route route) = form_refusal route ≡ Done
 
 abbrev pub Right : Tick → Type 0
-Right t = (length t.input ≡ INPUT-BYTES) × (length t.answer ≡ ANSWER-BYTES) × RightCourse t.course
+Right t = (length t.input ≡ INPUT_BYTES) × (length t.answer ≡ ANSWER_BYTES) × RightCourse t.course
 
 abbrev pub AllRight : List Tick → Type 0
 AllRight [] = Unit
@@ -96,14 +96,14 @@ AllRight (t ∷ ticks) = Right t × AllRight ticks
 
 -- ---- by places, counted from 0: tick number k, and the image that it is handed. (k lies within the list wherever this is used.)
 
-abbrev pub tickAt : List Tick → ℕ → Tick
-tickAt ticks k = get_or ticks k record { course = Segment; input = []; answer = [] }
+abbrev pub tick_at : List Tick → ℕ → Tick
+tick_at ticks k = get_or ticks k record { course = Segment; input = []; answer = [] }
 
-abbrev pub imageAt : List ℕ → List Tick → ℕ → List ℕ
-imageAt image ticks k = imageAfter image (map Ticks (take k ticks))
+abbrev pub image_at : List ℕ → List Tick → ℕ → List ℕ
+image_at image ticks k = image_after image (map Ticks (take k ticks))
 
 -- ---- the route that a tick flies: its own, or one of one leg whose segment is the image's
 
 abbrev pub Flies : Course → List ℕ → List ℕ → Type 0
-Flies Segment image route = (formRefusal route ≡ Done) × (legCount route ≡ 1) × ((fixed_at image).segment ≡ segmentOf (legOf route 0))
+Flies Segment image route = (form_refusal route ≡ Done) × (leg_count route ≡ 1) × ((fixed_at image).segment ≡ segment_of (leg_of route 0))
 Flies (Route own) image route = own ≡ route

@@ -6,7 +6,7 @@ use Prim.Native.Nat.{zero-le}
 use native.Mathlib.Nat.{pow-succ'}
 use lib.{Arith.lt→nleb, Ieee.{low, of_fields, Bits.{is_true, is_false, of_bits-to_bits}, Exact.{HasValue, odd_sign}, Order.le_of_values}}
 use Rattle.words.specs.Words.{float_of, bits}
-use Rattle.slow_shield.specs.Back.{inBand}
+use Rattle.slow_shield.specs.Back.{in_band}
 
 -- a word with no sign, with the exponent's field e and the digits t, is lead e t * 2 ^ places e of the smallest values
 abbrev lead : ℕ → ℕ → ℕ
@@ -49,8 +49,8 @@ in_order (suc x) t (suc y) u T U h =
           (le_trans (mul-le-mul_left 8388608 (pow_mono g)) (mul-le-mul_right (2 ^ y) b)))
     ]
 
-pub word-le : (n m : ℕ) → n ≤ m → m < 2139095040 → T (le (float_of n) (float_of m))
-word-le n m h k =
+pub word_le : (n m : ℕ) → n ≤ m → m < 2139095040 → T (le (float_of n) (float_of m))
+word_le n m h k =
     le_of_values (float_of n) (float_of m)
     (lead (n / 8388608) (n % 8388608) * 2 ^ places (n / 8388608)) (2 ^ low binary32) (lead (m / 8388608) (m % 8388608) * 2 ^ places (m / 8388608)) (2 ^ low binary32)
     (pow_pos (low binary32)) (pow_pos (low binary32))
@@ -58,9 +58,9 @@ word-le n m h k =
     (mul-le-mul_right (2 ^ low binary32) (in_order (n / 8388608) (n % 8388608) (m / 8388608) (m % 8388608) (mod-lt n (lit< tt)) (mod-lt m (lit< tt)) (omega arith)))
 
 -- so a word between the thresholds' words is in the band
-pub in-band-word : (enter exit : Float) → T (fits binary32 enter) → T (fits binary32 exit) → (w : ℕ) → bits enter ≤ w → w ≤ bits exit → bits exit < 2139095040
-    → inBand enter exit (float_of w) ≡ true
-in-band-word enter exit p q w l u h =
-    let a : T (le enter (float_of w)) = subst (λ (x : Float). T (le x (float_of w))) (of_bits-to_bits binary32 enter p) (word-le (bits enter) w l (lt_of_le_of_lt u h)) in
-    let b : T (le (float_of w) exit) = subst (λ (x : Float). T (le (float_of w) x)) (of_bits-to_bits binary32 exit q) (word-le w (bits exit) u h) in
+pub in_band_word : (enter exit : Float) → T (fits binary32 enter) → T (fits binary32 exit) → (w : ℕ) → bits enter ≤ w → w ≤ bits exit → bits exit < 2139095040
+    → in_band enter exit (float_of w) ≡ true
+in_band_word enter exit p q w l u h =
+    let a : T (le enter (float_of w)) = subst (λ (x : Float). T (le x (float_of w))) (of_bits-to_bits binary32 enter p) (word_le (bits enter) w l (lt_of_le_of_lt u h)) in
+    let b : T (le (float_of w) exit) = subst (λ (x : Float). T (le (float_of w) x)) (of_bits-to_bits binary32 exit q) (word_le w (bits exit) u h) in
     rw (is_true (le enter (float_of w)) a, is_true (le (float_of w) exit) b)

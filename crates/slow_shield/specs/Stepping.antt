@@ -10,13 +10,13 @@ pub record StepGiven : Type 0 where
   pub agile : BodyRate
   pub fallback : BodyRate
 
-abbrev pub marginsGiven : List StepGiven → List Float
-marginsGiven gs = map (λ (g : StepGiven). g.margin) gs
+abbrev pub margins_given : List StepGiven → List Float
+margins_given gs = map (λ (g : StepGiven). g.margin) gs
 
 -- the flag of each step of the shield, handed on as the last step left it
-unfoldable pub steppedFlags : SimplexShield → List StepGiven → List Bool
+unfoldable pub stepped_flags : SimplexShield → List StepGiven → List Bool
 unfolding step
-steppedFlags s [] = []
-steppedFlags s (g ∷ gs) =
+stepped_flags s [] = []
+stepped_flags s (g ∷ gs) =
     let done = step s g.margin g.agile g.fallback in
-    done.fallback ∷ steppedFlags done.shield gs
+    done.fallback ∷ stepped_flags done.shield gs

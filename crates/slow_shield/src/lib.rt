@@ -5,8 +5,8 @@ ghost use Rattle.std.specs.Float.Ieee.{lt};
 ghost use Rattle.relay_math.specs.F32.{is_finite};
 ghost use Rattle.words.specs.Words.{flag};
 ghost use Rattle.outcome.specs.Outcomes.{left};
-ghost use Rattle.slow_shield.specs.Back.{inBand, lookBack, slowFlags};
-ghost use Rattle.slow_shield.specs.Entry.{marginsIn, flagsCall};
+ghost use Rattle.slow_shield.specs.Back.{in_band, look_back, slow_flags};
+ghost use Rattle.slow_shield.specs.Entry.{margins_in, flags_call};
 ghost use Rattle.slow_shield.specs.Inner.{Between};
 
 use outcome::Outcome;
@@ -21,7 +21,7 @@ const BLOCK: usize = 64;
 
 // The margin moves nothing. Two comparisons, which no NaN passes.
 fn in_band(enter: f32, exit: f32, margin: f32) -> bool
-    ensures { result ≡ inBand enter exit margin }
+    ensures { result ≡ in_band enter exit margin }
 {
     if enter <= margin {
         margin <= exit
@@ -78,7 +78,7 @@ fn blocks_passed_over(margins: &[u8], lo: u32, hi: u32, count: usize) -> usize
 fn passed_over(margins: &[u8], enter: f32, exit: f32, count: usize) -> usize
     requires count_in_bounds { 4 * count ≤ length margins.now }
     requires enter_value { (is_finite enter ≡ true) × (is_finite exit ≡ true) }
-    ensures { (result ≤ count) × (lookBack enter exit (marginsIn margins.now) result ≡ lookBack enter exit (marginsIn margins.now) count) }
+    ensures { (result ≤ count) × (look_back enter exit (margins_in margins.now) result ≡ look_back enter exit (margins_in margins.now) count) }
 {
     let lo = bits_of(enter);
     let hi = bits_of(exit);
@@ -103,7 +103,7 @@ fn passed_over(margins: &[u8], enter: f32, exit: f32, count: usize) -> usize
 fn look_back(margins: &[u8], enter: f32, exit: f32, count: usize) -> bool
     requires count_in_bounds { 4 * count ≤ length margins.now }
     requires enter_value { (is_finite enter ≡ true) × (is_finite exit ≡ true) }
-    ensures { result ≡ lookBack enter exit (marginsIn margins.now) count }
+    ensures { result ≡ look_back enter exit (margins_in margins.now) count }
 {
     let mut i = passed_over(margins, enter, exit, count);
     while i > 0 {
@@ -120,7 +120,7 @@ fn look_back(margins: &[u8], enter: f32, exit: f32, count: usize) -> bool
 fn fallback_after(margins: &[u8], enter: f32, exit: f32, count: usize) -> bool
     requires count_in_bounds { 4 * count ≤ length margins.now }
     requires enter_value { (is_finite enter ≡ true) × (lt enter exit ≡ true) }
-    ensures { result ≡ lookBack enter exit (marginsIn margins.now) count }
+    ensures { result ≡ look_back enter exit (margins_in margins.now) count }
 {
     if is_finite(exit) {
         look_back(margins, enter, exit, count)
@@ -132,7 +132,7 @@ fn fallback_after(margins: &[u8], enter: f32, exit: f32, count: usize) -> bool
 fn flag_after(margins: &[u8], enter: f32, exit: f32, count: usize) -> u8
     requires count_in_bounds { 4 * count ≤ length margins.now }
     requires enter_value { (is_finite enter ≡ true) × (lt enter exit ≡ true) }
-    ensures { result ≡ flag (lookBack enter exit (marginsIn margins.now) count) }
+    ensures { result ≡ flag (look_back enter exit (margins_in margins.now) count) }
 {
     if fallback_after(margins, enter, exit, count) {
         1
@@ -144,7 +144,7 @@ fn flag_after(margins: &[u8], enter: f32, exit: f32, count: usize) -> u8
 fn put_flags(margins: &[u8], enter: f32, exit: f32, flags: &mut [u8])
     requires margins_len { length margins.now ≡ 4 * length flags.old }
     requires enter_value { (is_finite enter ≡ true) × (lt enter exit ≡ true) }
-    ensures { flags.new ≡ map flag (slowFlags enter exit (marginsIn margins.now)) }
+    ensures { flags.new ≡ map flag (slow_flags enter exit (margins_in margins.now)) }
 {
     let mut i = 0;
     while i < flags.len() {
@@ -156,7 +156,7 @@ fn put_flags(margins: &[u8], enter: f32, exit: f32, flags: &mut [u8])
 // The flags of margins that are given as words, a byte each: 1 where the fallback has control, 0 where the planner has. Nothing is asked of the caller; a
 // refused call writes no flag. The length of the flags is tested before it is multiplied.
 pub fn flags_into(margins: &[u8], enter: f32, exit: f32, flags: &mut [u8]) -> Outcome
-    ensures { left result flags.new ≡ flagsCall margins.now enter exit flags.old }
+    ensures { left result flags.new ≡ flags_call margins.now enter exit flags.old }
 {
     if flags.len() > MOST_MARGINS {
         return Outcome::NoRoom;

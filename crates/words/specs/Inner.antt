@@ -8,9 +8,9 @@ abbrev pub is_plain : ℕ → Bool
 is_plain w = not (is_nan (float_of w))
 
 -- the first n words of b are
-abbrev pub allPlain : List ℕ → ℕ → Bool
-allPlain b zero = true
-allPlain b (suc n) = allPlain b n && is_plain (word b n)
+abbrev pub all_plain : List ℕ → ℕ → Bool
+all_plain b zero = true
+all_plain b (suc n) = all_plain b n && is_plain (word b n)
 
 -- where p says so, all words of b are; else nothing is said
 abbrev pub Plain : Bool → List ℕ → Type 0

@@ -6,12 +6,12 @@ use Rattle.std.specs.Float.Ieee.{fits, of_bits, to_bits}
 use Rattle.relay_math.specs.declared.Vec3.{Vec3}
 
 -- the word whose first byte is number i of the bytes b
-abbrev pub fourBytes : List ℕ → ℕ → ℕ
-fourBytes b i = get_or b i 0 + get_or b (i + 1) 0 * 256 + get_or b (i + 2) 0 * 65536 + get_or b (i + 3) 0 * 16777216
+abbrev pub four_bytes : List ℕ → ℕ → ℕ
+four_bytes b i = get_or b i 0 + get_or b (i + 1) 0 * 256 + get_or b (i + 2) 0 * 65536 + get_or b (i + 3) 0 * 16777216
 
 -- word number k
 unfoldable pub word : List ℕ → ℕ → ℕ
-word b k = fourBytes b (4 * k)
+word b k = four_bytes b (4 * k)
 
 -- the float of a word: every NaN pattern is the one NaN
 abbrev pub float_of : ℕ → Float
@@ -40,8 +40,8 @@ abbrev pub words_of : List Float → List ℕ
 words_of [] = []
 words_of (x ∷ xs) = bits x ∷ words_of xs
 
-abbrev pub floatsOfVec : Vec3 → List Float
-floatsOfVec v = v.0 ∷ v.1 ∷ v.2 ∷ []
+abbrev pub floats_of_vec : Vec3 → List Float
+floats_of_vec v = v.0 ∷ v.1 ∷ v.2 ∷ []
 
 -- the bytes of words
 abbrev pub bytes_of : List ℕ → List ℕ

@@ -1,8 +1,8 @@
 // Words, floats and vectors out of bytes.
 ghost use Rattle.std.specs.Prelude.{◌≡◌, ◌+◌, ◌*◌, ◌<◌, ◌≤◌, length};
-ghost use Rattle.relay_math.specs.F32.{finiteOr};
-ghost use Rattle.words.specs.Words.{fourBytes, word, float, float_of, vec};
-ghost use Rattle.words.specs.Inner.{is_plain, allPlain, Plain};
+ghost use Rattle.relay_math.specs.F32.{finite_or};
+ghost use Rattle.words.specs.Words.{four_bytes, word, float, float_of, vec};
+ghost use Rattle.words.specs.Inner.{is_plain, all_plain, Plain};
 
 use relay_math::Vec3;
 
@@ -16,7 +16,7 @@ fn wide(x: u8) -> u32
 // A word from any byte on. The sum of the four bytes by weight compiles to one load.
 pub fn four_bytes(bytes: &[u8], at: usize) -> u32
     requires { at + 4 ≤ length bytes.now }
-    ensures { result ≡ fourBytes bytes.now at }
+    ensures { result ≡ four_bytes bytes.now at }
 {
     wide(bytes[at])
         + wide(bytes[at + 1]) * 256
@@ -42,7 +42,7 @@ fn is_plain(w: u32) -> bool
 // 0x7f_ffff more brings just those patterns to the top bit, and `|` keeps it: four words take four instructions, fewer than a test of each.
 pub fn all_plain(bytes: &[u8], count: usize) -> bool
     requires { 4 * count ≤ length bytes.now }
-    ensures { result ≡ allPlain bytes.now count }
+    ensures { result ≡ all_plain bytes.now count }
 {
     let mut k = 0;
     let mut above: u32 = 0;
@@ -95,7 +95,7 @@ pub fn read_vec(bytes: &[u8], k: usize, plain: bool) -> Vec3
 // pattern and then as a number, each word would have two. Doubled, the test takes two instructions less on x86-64.
 pub fn finite_at(bytes: &[u8], k: usize, otherwise: f32) -> f32
     requires { 4 * k + 4 ≤ length bytes.now }
-    ensures { result ≡ finiteOr (float bytes.now k) otherwise }
+    ensures { result ≡ finite_or (float bytes.now k) otherwise }
 {
     let w = word_at(bytes, k);
     if w % 0x8000_0000 * 2 < 0xff00_0000 {

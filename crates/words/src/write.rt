@@ -1,7 +1,7 @@
 // Words, floats, vectors and plain bytes into bytes. A written run says which words it put where, and so that every other byte stays.
 ghost use Rattle.std.specs.Prelude.{◌≡◌, ◌∷◌, [], ◌+◌, ◌*◌, ◌≤◌, length, take, drop};
 ghost use Rattle.std.proofs.lemmas.List.Edits.{sets};
-ghost use Rattle.words.specs.Words.{bits, flag, words_of, floatsOfVec, bytes_of, canons, Put};
+ghost use Rattle.words.specs.Words.{bits, flag, words_of, floats_of_vec, bytes_of, canons, Put};
 ghost use Rattle.words.specs.Inner.{Plain};
 
 use super::read::float_at;
@@ -58,7 +58,7 @@ pub fn put_three(bytes: &mut [u8], k: usize, x: f32, y: f32, z: f32)
 
 pub fn put_vec(bytes: &mut [u8], k: usize, v: Vec3)
     requires { 4 * k + 12 ≤ length bytes.old }
-    ensures { Put bytes.old k (words_of (floatsOfVec v)) bytes.new }
+    ensures { Put bytes.old k (words_of (floats_of_vec v)) bytes.new }
 {
     put_three(bytes, k, v.0, v.1, v.2);
 }

@@ -1,7 +1,7 @@
 -- `audit::check_into`: refused as it stands, or the verdict by the mended thresholds. Assumes nothing.
 use Rattle.laws.proofs.Prelude.{needs, eq-eqb, ne_eqb, not-true, not-false, sym, ◌∙◌, held}
 use Rattle.words.proofs.Written.{whole}
-use Rattle.audit.specs.Entry.{checkCall}
+use Rattle.audit.specs.Entry.{check_call}
 use Rattle.audit.proofs.{VerdictCall.{mended, finished}, check_into.{Statement.statement, Tie.{Need-returns-4, close, spec}}}
 
 done : Need-returns-4
@@ -14,9 +14,9 @@ done c =
     m.mend.ensures p.profile-of.ensures v.judged.ensures w.verdict-word.ensures
     (whole put.put_word.ensures l.before.if1.left)
 
-pub check-into-spec : {M : Type 1} → statement M
-unfolding checkCall
-check-into-spec =
+pub check_into_spec : {M : Type 1} → statement M
+unfolding check_call
+check_into_spec =
     close (spec
     (λ c. simp (ne_eqb _ _ c.if1.taken))
     (λ c κs. search needs)

@@ -3,9 +3,9 @@ use Rattle.laws.proofs.Prelude.{needs, not-true, not-false}
 use Rattle.audit.specs.Right.{finites}
 use Rattle.audit.proofs.finites.{Statement.statement, Tie.{close, spec}}
 
-pub finites-spec : {M : Type 1} → statement M
+pub finites_spec : {M : Type 1} → statement M
 unfolding finites
-finites-spec =
+finites_spec =
     close (spec
     (λ c κs. search needs)
     (λ c. let one = c.before in rw (← one.finite-on.ensures, not-true one.finite-on.result c.if1.taken))

@@ -3,9 +3,9 @@ use Rattle.laws.proofs.Prelude.{needs, not-true, not-false}
 use Rattle.audit.specs.Right.{planners}
 use Rattle.audit.proofs.planners.{Statement.statement, Tie.{close, spec}}
 
-pub planners-spec : {M : Type 1} → statement M
+pub planners_spec : {M : Type 1} → statement M
 unfolding planners
-planners-spec =
+planners_spec =
     close (spec
     (λ c κs. search needs)
     (λ c. let one = c.before in rw (← one.passes.ensures, not-true one.passes.result c.if1.taken))

@@ -3,9 +3,9 @@ use Rattle.laws.proofs.Prelude.{needs, eq-eqb, ne_eqb}
 use Rattle.audit.specs.Right.{right}
 use Rattle.audit.proofs.right.{Statement.statement, Tie.{close, spec}}
 
-pub right-spec : {M : Type 1} → statement M
+pub right_spec : {M : Type 1} → statement M
 unfolding right
-right-spec =
+right_spec =
     close (spec
     (λ c κs. search needs)
     (λ c. simp (← c.before.before.word_at.ensures, c.before.if1.taken, ne_eqb _ _ c.if2.taken))

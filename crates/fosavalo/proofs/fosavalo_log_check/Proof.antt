@@ -3,5 +3,5 @@ use Rattle.laws.proofs.Prelude.{needs, ap}
 use Rattle.outcome.specs.Outcomes.{numbered}
 use Rattle.fosavalo.proofs.fosavalo_log_check.{Statement.statement, Tie.{close, spec}}
 
-pub fosavalo-log-check-spec : {M : Type 1} → statement M
-fosavalo-log-check-spec = close (spec (λ c κs. search needs) (λ c κs. search needs) (λ c. search needs) (λ c. simp c.number.ensures (ap numbered c.before.before.before.check-into.ensures)))
+pub fosavalo_log_check_spec : {M : Type 1} → statement M
+fosavalo_log_check_spec = close (spec (λ c κs. search needs) (λ c κs. search needs) (λ c. search needs) (λ c. simp c.number.ensures (ap numbered c.before.before.before.check-into.ensures)))

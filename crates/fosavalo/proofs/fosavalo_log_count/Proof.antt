@@ -3,5 +3,5 @@ use Rattle.laws.proofs.Prelude.{needs, ap}
 use Rattle.outcome.specs.Outcomes.{numbered}
 use Rattle.fosavalo.proofs.fosavalo_log_count.{Statement.statement, Tie.{close, spec}}
 
-pub fosavalo-log-count-spec : {M : Type 1} → statement M
-fosavalo-log-count-spec = close (spec (λ c κs. search needs) (λ c κs. search needs) (λ c. search needs) (λ c. simp c.number.ensures (ap numbered c.before.before.before.count-into.ensures)))
+pub fosavalo_log_count_spec : {M : Type 1} → statement M
+fosavalo_log_count_spec = close (spec (λ c κs. search needs) (λ c κs. search needs) (λ c. search needs) (λ c. simp c.number.ensures (ap numbered c.before.before.before.count-into.ensures)))

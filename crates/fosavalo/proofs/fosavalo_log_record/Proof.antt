@@ -6,5 +6,5 @@ use Rattle.fosavalo.proofs.fosavalo_log_record.{Statement.statement, Tie.{Need-r
 returns : Need-returns
 returns c = simp c.number.ensures (ap numbered c.before.before.before.record-into.ensures)
 
-pub fosavalo-log-record-spec : {M : Type 1} → statement M
-fosavalo-log-record-spec = close (spec (λ c κs. search needs) (λ c κs. search needs) (λ c. search needs) returns)
+pub fosavalo_log_record_spec : {M : Type 1} → statement M
+fosavalo_log_record_spec = close (spec (λ c κs. search needs) (λ c κs. search needs) (λ c. search needs) returns)

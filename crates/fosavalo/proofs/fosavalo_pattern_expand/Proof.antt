@@ -6,5 +6,5 @@ use Rattle.fosavalo.proofs.fosavalo_pattern_expand.{Statement.statement, Tie.{Ne
 returns : Need-returns
 returns c = simp c.number.ensures (ap numbered c.before.before.before.before.before.expand-into.ensures)
 
-pub fosavalo-pattern-expand-spec : {M : Type 1} → statement M
-fosavalo-pattern-expand-spec = close (spec (λ c κs. search needs) (λ c κs. search needs) (λ c. search needs) (λ c. search needs) returns)
+pub fosavalo_pattern_expand_spec : {M : Type 1} → statement M
+fosavalo_pattern_expand_spec = close (spec (λ c κs. search needs) (λ c κs. search needs) (λ c. search needs) (λ c. search needs) returns)

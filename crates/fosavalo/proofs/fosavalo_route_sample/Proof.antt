@@ -6,5 +6,5 @@ use Rattle.fosavalo.proofs.fosavalo_route_sample.{Statement.statement, Tie.{Need
 returns : Need-returns
 returns c = simp c.number.ensures (ap numbered c.before.before.before.route-sample.ensures)
 
-pub fosavalo-route-sample-spec : {M : Type 1} → statement M
-fosavalo-route-sample-spec = close (spec (λ c κs. search needs) (λ c κs. search needs) (λ c. search needs) returns)
+pub fosavalo_route_sample_spec : {M : Type 1} → statement M
+fosavalo_route_sample_spec = close (spec (λ c κs. search needs) (λ c κs. search needs) (λ c. search needs) returns)

@@ -6,5 +6,5 @@ use Rattle.fosavalo.proofs.fosavalo_route_tick.{Statement.statement, Tie.{Need-r
 returns : Need-returns
 returns c = simp c.number.ensures (ap numbered c.before.before.before.before.before.route-tick.ensures)
 
-pub fosavalo-route-tick-spec : {M : Type 1} → statement M
-fosavalo-route-tick-spec = close (spec (λ c κs. search needs) (λ c κs. search needs) (λ c. search needs) (λ c. search needs) returns)
+pub fosavalo_route_tick_spec : {M : Type 1} → statement M
+fosavalo_route_tick_spec = close (spec (λ c κs. search needs) (λ c κs. search needs) (λ c. search needs) (λ c. search needs) returns)

@@ -3,5 +3,5 @@ use Rattle.laws.proofs.Prelude.{needs, ap}
 use Rattle.outcome.specs.Outcomes.{numbered}
 use Rattle.fosavalo.proofs.fosavalo_setup.{Statement.statement, Tie.{close, spec}}
 
-pub fosavalo-setup-spec : {M : Type 1} → statement M
-fosavalo-setup-spec = close (spec (λ c κs. search needs) (λ c κs. search needs) (λ c. search needs) (λ c. simp c.number.ensures (ap numbered c.before.before.before.setup.ensures)))
+pub fosavalo_setup_spec : {M : Type 1} → statement M
+fosavalo_setup_spec = close (spec (λ c κs. search needs) (λ c κs. search needs) (λ c. search needs) (λ c. simp c.number.ensures (ap numbered c.before.before.before.setup.ensures)))

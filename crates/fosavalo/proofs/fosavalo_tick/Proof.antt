@@ -6,5 +6,5 @@ use Rattle.fosavalo.proofs.fosavalo_tick.{Statement.statement, Tie.{Need-returns
 returns : Need-returns
 returns c = simp c.number.ensures (ap numbered c.before.before.before.before.before.tick.ensures)
 
-pub fosavalo-tick-spec : {M : Type 1} → statement M
-fosavalo-tick-spec = close (spec (λ c κs. search needs) (λ c κs. search needs) (λ c. search needs) (λ c. search needs) returns)
+pub fosavalo_tick_spec : {M : Type 1} → statement M
+fosavalo_tick_spec = close (spec (λ c κs. search needs) (λ c κs. search needs) (λ c. search needs) (λ c. search needs) returns)

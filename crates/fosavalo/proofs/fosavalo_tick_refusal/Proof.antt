@@ -3,5 +3,5 @@ use Rattle.laws.proofs.Prelude.{needs, ap}
 use Rattle.outcome.specs.Outcomes.{number}
 use Rattle.fosavalo.proofs.fosavalo_tick_refusal.{Statement.statement, Tie.{close, spec}}
 
-pub fosavalo-tick-refusal-spec : {M : Type 1} → statement M
-fosavalo-tick-refusal-spec = close (spec (λ c κs. search needs) (λ c κs. search needs) (λ c. simp c.number.ensures (ap number c.before.tick-refusal.ensures)))
+pub fosavalo_tick_refusal_spec : {M : Type 1} → statement M
+fosavalo_tick_refusal_spec = close (spec (λ c κs. search needs) (λ c κs. search needs) (λ c. simp c.number.ensures (ap number c.before.tick-refusal.ensures)))

@@ -7,8 +7,8 @@ Inv-loop h t₀ row₀ row-end t row = row ≤ row-end
 abbrev μ-loop : MeasureT-loop
 μ-loop h t₀ row₀ row-end t row = row-end - row
 
-pub section-spec : {M : Type 1} → statement M
-section-spec =
+pub section_spec : {M : Type 1} → statement M
+section_spec =
     close (spec Inv-loop μ-loop
     (λ c. search rules) (λ c. search rules) (λ c κs. search rules) (λ c κs. search rules) (λ c. search rules) (λ c. search rules) (λ c. search rules)
     (λ c. search rules))

@@ -16,8 +16,8 @@ Inv-loop margins from lo hi end k₀ out₀ k out = (from ≤ k) × (k ≤ end) 
 abbrev μ-loop : MeasureT-loop
 μ-loop margins from lo hi end k₀ out₀ k out = end - k
 
-pub block-between-spec : {M : Type 1} → statement M
-block-between-spec =
+pub block_between_spec : {M : Type 1} → statement M
+block_between_spec =
     close (spec Inv-loop μ-loop
     (λ c. search needs)
     (λ c. (omega arith, omega arith, λ e j h l. absurd (omega arith)))

@@ -2,19 +2,19 @@
 use Rattle.laws.proofs.Prelude.{needs, ℕ, zero, suc, ◌*◌, ◌-◌, ◌<◌, ◌≤◌, ◌≡◌, refl, ◌∙◌, inl, inr, true, List, eq-or-lt_of_le, le_of_suc-le-suc, arith, T, Float, binary32, fits, length, held}
 use Rattle.relay_math.specs.F32.{is_finite}
 use Rattle.words.specs.Words.{word, float_of, float, bits}
-use Rattle.slow_shield.specs.{Back.lookBack, Entry.marginsIn, Inner.Between}
-use Rattle.slow_shield.proofs.{Loops.goes_on, Words.in-band-word, passed_over.{Statement.statement, Tie.{InvT-loop, MeasureT-loop, Need-loop-holds, Need-loop-again, close, spec}}}
+use Rattle.slow_shield.specs.{Back.look_back, Entry.margins_in, Inner.Between}
+use Rattle.slow_shield.proofs.{Loops.goes_on, Words.in_band_word, passed_over.{Statement.statement, Tie.{InvT-loop, MeasureT-loop, Need-loop-holds, Need-loop-again, close, spec}}}
 
 module _ (enter exit : Float) (p : is_finite enter ≡ true) (q : is_finite exit ≡ true) (f : T (fits binary32 enter)) (g : T (fits binary32 exit)) where
   module _ (lo hi : ℕ) (u : lo ≡ bits enter) (v : hi ≡ bits exit) (s : hi < 2139095040) (b : List ℕ) where
-    one : (k i : ℕ) → i ≡ suc k → 4 * i ≤ length b → lo ≤ word b k → word b k ≤ hi → lookBack enter exit (marginsIn b) k ≡ lookBack enter exit (marginsIn b) i
+    one : (k i : ℕ) → i ≡ suc k → 4 * i ≤ length b → lo ≤ word b k → word b k ≤ hi → look_back enter exit (margins_in b) k ≡ look_back enter exit (margins_in b) i
     unfolding float
     one k i e l m n =
         let d : i - 1 ≡ k = omega arith in
         rw (← d) (goes_on enter exit p q b i (omega arith) l (float_of (word b k)) (rw d)
-        (in-band-word enter exit f g (word b k) (omega (arith, u)) (omega (arith, v)) (omega (arith, v))))
+        (in_band_word enter exit f g (word b k) (omega (arith, u)) (omega (arith, v)) (omega (arith, v))))
 
-    over : (i n : ℕ) → i ≤ n → 4 * n ≤ length b → Between b lo hi i n → lookBack enter exit (marginsIn b) i ≡ lookBack enter exit (marginsIn b) n
+    over : (i n : ℕ) → i ≤ n → 4 * n ≤ length b → Between b lo hi i n → look_back enter exit (margins_in b) i ≡ look_back enter exit (margins_in b) n
     over i zero h l m = let e : i ≡ 0 = omega arith in rw e
     over i (suc n) h l m = elim (eq-or-lt_of_le h) [
       | inl e ↦ rw e
@@ -24,7 +24,7 @@ module _ (enter exit : Float) (p : is_finite enter ≡ true) (q : is_finite exit
     ]
 
 abbrev Inv-loop : InvT-loop
-Inv-loop margins enter exit count lo hi i₀ i = (i ≤ count) × (lookBack enter exit (marginsIn margins) i ≡ lookBack enter exit (marginsIn margins) count)
+Inv-loop margins enter exit count lo hi i₀ i = (i ≤ count) × (look_back enter exit (margins_in margins) i ≡ look_back enter exit (margins_in margins) count)
 
 abbrev μ-loop : MeasureT-loop
 μ-loop margins enter exit count lo hi i₀ i = i
@@ -49,8 +49,8 @@ loop-again c =
           ∙ turn.before.loop.inv.1,
     )
 
-pub passed-over-spec : {M : Type 1} → statement M
-passed-over-spec =
+pub passed_over_spec : {M : Type 1} → statement M
+passed_over_spec =
     close (spec Inv-loop μ-loop
     (λ c κs. search needs)
     (λ c κs. search needs)

@@ -1,11 +1,11 @@
 -- `calls::entry::setup` meets its contract: what its calls ensure, put together. Assumes nothing.
 use Rattle.laws.proofs.Prelude.{needs, eq-eqb, ne_eqb, not-true, not-false}
-use Rattle.calls.specs.Entry.{setUpCall, setUpRefusal}
+use Rattle.calls.specs.Entry.{set_up_call, set_up_refusal}
 use Rattle.calls.proofs.entry.setup.{Statement.statement, Tie.{close, spec}}
 
-pub setup-spec : {M : Type 1} → statement M
-unfolding setUpCall setUpRefusal
-setup-spec =
+pub setup_spec : {M : Type 1} → statement M
+unfolding set_up_call set_up_refusal
+setup_spec =
     close (spec
     (λ c. simp (
     ne_eqb _ _ c.if1.taken))

@@ -1,11 +1,11 @@
 -- `calls::entry::tick_refusal` meets its contract: what its calls ensure, put together. Assumes nothing.
 use Rattle.laws.proofs.Prelude.{needs, eq-eqb, ne_eqb}
-use Rattle.lent_tick.specs.Tick.{tickRefusal}
+use Rattle.lent_tick.specs.Tick.{tick_refusal}
 use Rattle.calls.proofs.entry.tick_refusal.{Statement.statement, Tie.{close, spec}}
 
-pub tick-refusal-spec : {M : Type 1} → statement M
-unfolding tickRefusal
-tick-refusal-spec =
+pub tick_refusal_spec : {M : Type 1} → statement M
+unfolding tick_refusal
+tick_refusal_spec =
     close (spec
     (λ c. simp (
     ne_eqb _ _ c.if1.taken))

@@ -1,11 +1,11 @@
 -- `desk::entry::centre`: refused as it stands, or the desk with its filters reset. Assumes nothing.
 use Rattle.laws.proofs.Prelude.{needs, eq-eqb, ne_eqb}
-use Rattle.desk.specs.Entry.{centreCall}
+use Rattle.desk.specs.Entry.{centre_call}
 use Rattle.desk.proofs.entry.centre.{Statement.statement, Tie.{close, spec}}
 
-pub centre-spec : {M : Type 1} → statement M
-unfolding centreCall
-centre-spec =
+pub centre_spec : {M : Type 1} → statement M
+unfolding centre_call
+centre_spec =
     close (spec
     (λ c. simp (ne_eqb _ _ c.if1.taken))
     (λ c κs. search needs) (λ c κs. search needs) (λ c κs. search needs) (λ c. search needs)

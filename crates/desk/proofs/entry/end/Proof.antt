@@ -14,5 +14,5 @@ keeps c =
     let n = sym t.before.is-done.ensures ∙ not-false _ t.if1.left in
     record { outcome = refl; desk = rw n b.put-desk.ensures; input = rw n }
 
-pub end-spec : {M : Type 1} → statement M
-end-spec = close (spec (λ c κs. search needs) (λ c κs. search needs) (λ c. search needs) puts_back (λ c κs. search needs) (λ c. search needs) keeps)
+pub end_spec : {M : Type 1} → statement M
+end_spec = close (spec (λ c κs. search needs) (λ c κs. search needs) (λ c. search needs) puts_back (λ c κs. search needs) (λ c. search needs) keeps)

@@ -1,10 +1,10 @@
 use Rattle.laws.proofs.Prelude.{needs}
-use Rattle.desk.specs.Filters.{stickFilterAt}
+use Rattle.desk.specs.Filters.{stick_filter_at}
 use Rattle.desk.proofs.filters.filter_at.{Statement.statement, Tie.{close, spec}}
 
-pub filter-at-spec : {M : Type 1} → statement M
-unfolding stickFilterAt
-filter-at-spec =
+pub filter_at_spec : {M : Type 1} → statement M
+unfolding stick_filter_at
+filter_at_spec =
     close (spec
     (λ c κs. search needs) (λ c. search needs) (λ c κs. search needs) (λ c. search needs) (λ c κs. search needs) (λ c. search needs)
     (λ c κs. search needs) (λ c. search needs) (λ c κs. search needs)

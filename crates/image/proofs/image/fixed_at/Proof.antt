@@ -2,9 +2,9 @@ use Rattle.laws.proofs.Prelude.{needs}
 use Rattle.image.specs.Image.{fixed_at}
 use Rattle.image.proofs.image.fixed_at.{Statement.statement, Tie.{close, spec}}
 
-pub fixed-at-spec : {M : Type 1} → statement M
+pub fixed_at_spec : {M : Type 1} → statement M
 unfolding fixed_at
-fixed-at-spec =
+fixed_at_spec =
     close (spec (λ c κs. search needs) (λ c κs. search needs) (λ c κs. search needs) (λ c κs. search needs) (λ c κs. search needs) (λ c κs. search needs)
     (λ c. simp (
       c.profile-at.ensures,

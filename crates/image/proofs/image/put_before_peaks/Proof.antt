@@ -12,8 +12,8 @@ returns c =
     then (then (then (then (then (then (then count.put_word.ensures gains.put-gains.ensures refl) shield.put-shield.ensures refl)
     governor.put-governor.ensures refl) segment.put-segment.ensures refl) rate.put-rate.ensures refl) lpf.put-lpf.ensures refl) rest.put-profile.ensures refl
 
-pub put-before-peaks-spec : {M : Type 1} → statement M
-put-before-peaks-spec =
+pub put_before_peaks_spec : {M : Type 1} → statement M
+put_before_peaks_spec =
     close (spec (λ c. search needs) (λ c κs. search needs) (λ c κs. search needs) (λ c κs. search needs) (λ c κs. search needs) (λ c κs. search needs) (λ c κs. search needs)
     (λ c κs. search needs) (λ c κs. search needs) (λ c. search needs)
     returns)

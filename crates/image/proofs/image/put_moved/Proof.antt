@@ -12,8 +12,8 @@ returns c =
     engaged.put-flag.ensures time.put-float.ensures roll.put-axis-moved.ensures pitch.put-axis-moved2.ensures yaw.put-axis-moved3.ensures
     x.put-biquad-moved.ensures y.put-biquad-moved2.ensures z.put-biquad-moved3.ensures
 
-pub put-moved-spec : {M : Type 1} → statement M
-put-moved-spec =
+pub put_moved_spec : {M : Type 1} → statement M
+put_moved_spec =
     close (spec
     (λ c κs. search needs) (λ c κs. search needs) (λ c κs. search needs) (λ c. search needs) (λ c κs. search needs) (λ c. search needs) (λ c. search needs)
     (λ c κs. search needs) (λ c κs. search needs) (λ c. search needs) (λ c κs. search needs) (λ c. search needs) (λ c. search needs) (λ c κs. search needs)

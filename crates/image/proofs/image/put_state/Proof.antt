@@ -10,5 +10,5 @@ returns c =
     let worked = rest.before.before in
     whole (then rest.put-before-peaks.ensures (rw worked.peak-abs-jerk.ensures at peaks.put-vec.ensures) refl) worked.before.before.before.pre
 
-pub put-state-spec : {M : Type 1} → statement M
-put-state-spec = close (spec (λ c κs. search needs) (λ c κs. search needs) (λ c κs. search needs) (λ c. search needs) returns)
+pub put_state_spec : {M : Type 1} → statement M
+put_state_spec = close (spec (λ c κs. search needs) (λ c κs. search needs) (λ c κs. search needs) (λ c. search needs) returns)

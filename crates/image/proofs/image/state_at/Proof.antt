@@ -1,9 +1,9 @@
 use Rattle.laws.proofs.Prelude.{needs, arith}
-use Rattle.image.specs.{Parts.{rateAt, lpfAt}, Image.movingAt}
+use Rattle.image.specs.{Parts.{rate_at, lpf_at}, Image.moving_at}
 use Rattle.image.proofs.image.state_at.{Statement.statement, Tie.{Need-returns, close, spec}}
 
 returns : Need-returns
-unfolding movingAt rateAt lpfAt
+unfolding moving_at rate_at lpf_at
 returns c =
     let rate = c.before.before.before in let rest = rate.before.before.before in
     simp (
@@ -18,7 +18,7 @@ returns c =
       rest.before.before.fixed-at.ensures,
     )
 
-pub state-at-spec : {M : Type 1} → statement M
-state-at-spec = close (spec (λ c κs. search needs) (λ c κs. search needs) (λ c κs. search needs) (λ c κs. search needs) (λ c. search needs) (λ c κs. search needs) (λ c. search needs)
+pub state_at_spec : {M : Type 1} → statement M
+state_at_spec = close (spec (λ c κs. search needs) (λ c κs. search needs) (λ c κs. search needs) (λ c κs. search needs) (λ c. search needs) (λ c κs. search needs) (λ c. search needs)
     (λ c. search needs) (λ c κs. search needs) (λ c κs. search needs) (λ c. search needs) (λ c κs. search needs) (λ c. search needs) (λ c. search needs)
     (λ c κs. let pre = c.before.before.before.before.before.before.before.before.before.pre in (omega arith, tt)) returns)

@@ -2,9 +2,9 @@ use Rattle.laws.proofs.Prelude.{needs}
 use Rattle.image.specs.Inputs.{input_at}
 use Rattle.image.proofs.inputs.input_at.{Statement.statement, Tie.{close, spec}}
 
-pub input-at-spec : {M : Type 1} → statement M
+pub input_at_spec : {M : Type 1} → statement M
 unfolding input_at
-input-at-spec =
+input_at_spec =
     close (spec
     (λ c κs. search needs) (λ c κs. search needs) (λ c κs. search needs) (λ c κs. search needs) (λ c κs. search needs) (λ c κs. search needs)
     (λ c κs. search needs) (λ c κs. search needs)

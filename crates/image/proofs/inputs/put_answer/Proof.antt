@@ -3,9 +3,9 @@ use Rattle.words.proofs.Written.{then, whole}
 use Rattle.image.specs.Inputs.{answer_of}
 use Rattle.image.proofs.inputs.put_answer.{Statement.statement, Tie.{close, spec}}
 
-pub put-answer-spec : {M : Type 1} → statement M
+pub put_answer_spec : {M : Type 1} → statement M
 unfolding answer_of
-put-answer-spec =
+put_answer_spec =
     close (spec
     (λ c κs. search needs) (λ c κs. search needs) (λ c κs. search needs) (λ c κs. search needs) (λ c. search needs)
     (λ c. whole (then (then (then c.before.before.before.before.before.before.before.before.before.before.before.before.before.before.put-vec.ensures

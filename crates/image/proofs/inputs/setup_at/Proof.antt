@@ -1,10 +1,10 @@
 use Rattle.laws.proofs.Prelude.{needs, arith}
-use Rattle.image.specs.Inputs.{setupAt}
+use Rattle.image.specs.Inputs.{setup_at}
 use Rattle.image.proofs.inputs.setup_at.{Statement.statement, Tie.{close, spec}}
 
-pub setup-at-spec : {M : Type 1} → statement M
-unfolding setupAt
-setup-at-spec =
+pub setup_at_spec : {M : Type 1} → statement M
+unfolding setup_at
+setup_at_spec =
     close (spec
     (λ c κs. search needs) (λ c κs. search needs) (λ c κs. search needs) (λ c κs. search needs) (λ c κs. search needs) (λ c. search needs)
     (λ c κs. search needs) (λ c. search needs) (λ c κs. search needs) (λ c κs. search needs) (λ c κs. search needs) (λ c. search needs)

@@ -1,10 +1,10 @@
 use Rattle.laws.proofs.Prelude.{needs}
-use Rattle.image.specs.Parts.{adrcGainsAt}
+use Rattle.image.specs.Parts.{adrc_gains_at}
 use Rattle.image.proofs.parts.adrc_gains_at.{Statement.statement, Tie.{close, spec}}
 
-pub adrc-gains-at-spec : {M : Type 1} → statement M
-unfolding adrcGainsAt
-adrc-gains-at-spec =
+pub adrc_gains_at_spec : {M : Type 1} → statement M
+unfolding adrc_gains_at
+adrc_gains_at_spec =
     close (spec
     (λ c κs. search needs) (λ c. search needs) (λ c κs. search needs) (λ c. search needs) (λ c κs. search needs) (λ c. search needs)
     (λ c κs. search needs)

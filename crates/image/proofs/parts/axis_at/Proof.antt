@@ -1,10 +1,10 @@
 use Rattle.laws.proofs.Prelude.{needs}
-use Rattle.image.specs.Parts.{axisAt}
+use Rattle.image.specs.Parts.{axis_at}
 use Rattle.image.proofs.parts.axis_at.{Statement.statement, Tie.{close, spec}}
 
-pub axis-at-spec : {M : Type 1} → statement M
-unfolding axisAt
-axis-at-spec =
+pub axis_at_spec : {M : Type 1} → statement M
+unfolding axis_at
+axis_at_spec =
     close (spec
     (λ c κs. search needs) (λ c. search needs) (λ c κs. search needs) (λ c. search needs) (λ c κs. search needs) (λ c. search needs)
     (λ c κs. search needs) (λ c. search needs) (λ c κs. search needs) (λ c. search needs) (λ c κs. search needs)

@@ -1,10 +1,10 @@
 use Rattle.laws.proofs.Prelude.{needs}
-use Rattle.image.specs.Parts.{biquadAt}
+use Rattle.image.specs.Parts.{biquad_at}
 use Rattle.image.proofs.parts.biquad_at.{Statement.statement, Tie.{close, spec}}
 
-pub biquad-at-spec : {M : Type 1} → statement M
-unfolding biquadAt
-biquad-at-spec =
+pub biquad_at_spec : {M : Type 1} → statement M
+unfolding biquad_at
+biquad_at_spec =
     close (spec
     (λ c κs. search needs) (λ c. search needs) (λ c κs. search needs) (λ c. search needs) (λ c κs. search needs) (λ c. search needs)
     (λ c κs. search needs) (λ c. search needs) (λ c κs. search needs) (λ c. search needs) (λ c κs. search needs) (λ c. search needs)

@@ -1,10 +1,10 @@
 use Rattle.laws.proofs.Prelude.{needs}
-use Rattle.image.specs.Parts.{governorAt}
+use Rattle.image.specs.Parts.{governor_at}
 use Rattle.image.proofs.parts.governor_at.{Statement.statement, Tie.{close, spec}}
 
-pub governor-at-spec : {M : Type 1} → statement M
-unfolding governorAt
-governor-at-spec =
+pub governor_at_spec : {M : Type 1} → statement M
+unfolding governor_at
+governor_at_spec =
     close (spec
     (λ c κs. search needs) (λ c. search needs) (λ c κs. search needs) (λ c. search needs) (λ c κs. search needs) (λ c. search needs)
     (λ c κs. search needs)

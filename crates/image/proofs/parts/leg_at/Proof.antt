@@ -1,10 +1,10 @@
 use Rattle.laws.proofs.Prelude.{needs}
-use Rattle.image.specs.Parts.{legAt}
+use Rattle.image.specs.Parts.{leg_at}
 use Rattle.image.proofs.parts.leg_at.{Statement.statement, Tie.{close, spec}}
 
-pub leg-at-spec : {M : Type 1} → statement M
-unfolding legAt
-leg-at-spec =
+pub leg_at_spec : {M : Type 1} → statement M
+unfolding leg_at
+leg_at_spec =
     close (spec
     (λ c κs. search needs) (λ c. search needs) (λ c κs. search needs) (λ c. search needs) (λ c κs. search needs) (λ c. search needs)
     (λ c κs. search needs) (λ c. search needs) (λ c κs. search needs) (λ c. search needs) (λ c κs. search needs) (λ c. search needs)

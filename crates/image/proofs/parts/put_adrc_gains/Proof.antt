@@ -2,8 +2,8 @@ use Rattle.laws.proofs.Prelude.{needs, refl}
 use Rattle.words.proofs.Written.{then}
 use Rattle.image.proofs.parts.put_adrc_gains.{Statement.statement, Tie.{close, spec}}
 
-pub put-adrc-gains-spec : {M : Type 1} → statement M
-put-adrc-gains-spec =
+pub put_adrc_gains_spec : {M : Type 1} → statement M
+put_adrc_gains_spec =
     close (spec
     (λ c κs. search needs) (λ c. search needs) (λ c κs. search needs) (λ c. search needs)
     (λ c. (then c.before.before.before.before.before.before.put_three.ensures

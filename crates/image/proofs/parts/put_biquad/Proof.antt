@@ -2,8 +2,8 @@ use Rattle.laws.proofs.Prelude.{needs, refl}
 use Rattle.words.proofs.Written.{then}
 use Rattle.image.proofs.parts.put_biquad.{Statement.statement, Tie.{close, spec}}
 
-pub put-biquad-spec : {M : Type 1} → statement M
-put-biquad-spec =
+pub put_biquad_spec : {M : Type 1} → statement M
+put_biquad_spec =
     close (spec
     (λ c κs. search needs) (λ c. search needs) (λ c κs. search needs) (λ c. search needs) (λ c κs. search needs) (λ c. search needs)
     (λ c. (then (then c.before.before.before.before.before.before.before.before.before.before.put_three.ensures

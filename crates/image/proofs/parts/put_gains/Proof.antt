@@ -2,8 +2,8 @@ use Rattle.laws.proofs.Prelude.{needs, arith, refl}
 use Rattle.words.proofs.Written.{then}
 use Rattle.image.proofs.parts.put_gains.{Statement.statement, Tie.{close, spec}}
 
-pub put-gains-spec : {M : Type 1} → statement M
-put-gains-spec =
+pub put_gains_spec : {M : Type 1} → statement M
+put_gains_spec =
     close (spec
     (λ c κs. search needs) (λ c. search needs) (λ c κs. search needs) (λ c. search needs) (λ c. search needs) (λ c κs. search needs)
     (λ c. search needs)

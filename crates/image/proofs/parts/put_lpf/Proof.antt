@@ -2,8 +2,8 @@ use Rattle.laws.proofs.Prelude.{needs, arith, refl}
 use Rattle.words.proofs.Written.{then}
 use Rattle.image.proofs.parts.put_lpf.{Statement.statement, Tie.{close, spec}}
 
-pub put-lpf-spec : {M : Type 1} → statement M
-put-lpf-spec =
+pub put_lpf_spec : {M : Type 1} → statement M
+put_lpf_spec =
     close (spec
     (λ c κs. search needs) (λ c. search needs) (λ c κs. search needs) (λ c. search needs) (λ c. search needs) (λ c κs. search needs)
     (λ c. search needs)

@@ -2,8 +2,8 @@ use Rattle.laws.proofs.Prelude.{needs, arith, refl}
 use Rattle.words.proofs.Written.{then}
 use Rattle.image.proofs.parts.put_segment.{Statement.statement, Tie.{close, spec}}
 
-pub put-segment-spec : {M : Type 1} → statement M
-put-segment-spec =
+pub put_segment_spec : {M : Type 1} → statement M
+put_segment_spec =
     close (spec
     (λ c κs. search needs) (λ c. search needs) (λ c κs. search needs) (λ c. search needs) (λ c. search needs) (λ c κs. search needs)
     (λ c. search needs)

@@ -1,10 +1,10 @@
 use Rattle.laws.proofs.Prelude.{needs}
-use Rattle.image.specs.Parts.{quatAt}
+use Rattle.image.specs.Parts.{quat_at}
 use Rattle.image.proofs.parts.quat_at.{Statement.statement, Tie.{close, spec}}
 
-pub quat-at-spec : {M : Type 1} → statement M
-unfolding quatAt
-quat-at-spec =
+pub quat_at_spec : {M : Type 1} → statement M
+unfolding quat_at
+quat_at_spec =
     close (spec
     (λ c κs. search needs) (λ c. search needs) (λ c κs. search needs) (λ c. search needs) (λ c κs. search needs) (λ c. search needs)
     (λ c κs. search needs)

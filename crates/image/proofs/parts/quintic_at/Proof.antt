@@ -1,10 +1,10 @@
 use Rattle.laws.proofs.Prelude.{needs}
-use Rattle.image.specs.Parts.{quinticAt}
+use Rattle.image.specs.Parts.{quintic_at}
 use Rattle.image.proofs.parts.quintic_at.{Statement.statement, Tie.{close, spec}}
 
-pub quintic-at-spec : {M : Type 1} → statement M
-unfolding quinticAt
-quintic-at-spec =
+pub quintic_at_spec : {M : Type 1} → statement M
+unfolding quintic_at
+quintic_at_spec =
     close (spec
     (λ c κs. search needs) (λ c. search needs) (λ c κs. search needs) (λ c. search needs) (λ c κs. search needs) (λ c. search needs)
     (λ c κs. search needs) (λ c. search needs) (λ c κs. search needs) (λ c. search needs) (λ c κs. search needs) (λ c. search needs)

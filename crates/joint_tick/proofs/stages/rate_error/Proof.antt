@@ -1,8 +1,8 @@
 use Rattle.laws.proofs.Prelude.{needs}
 use Rattle.joint_tick.proofs.stages.rate_error.{Statement.statement, Tie.{close, spec}}
 
-pub rate-error-spec : {M : Type 1} → statement M
-rate-error-spec =
+pub rate_error_spec : {M : Type 1} → statement M
+rate_error_spec =
     close (spec (λ c. search needs) (λ c. search needs) (λ c. search needs) (λ c. search needs) (λ c. search needs)
     (λ c. simp (c.enum-told2.given.1, c.before.before.before.feedforward.given.1)) (λ c κs. search needs)
     (λ c.

@@ -7,5 +7,5 @@ returns c =
     let written = answered.before.before.before.before in
     record { image = written.put-next-state.ensures; answer = answered.put-answer.ensures }
 
-pub put-state-and-answer-spec : {M : Type 1} → statement M
-put-state-and-answer-spec = close (spec (λ c κs. let p = c.before.before.before.pre in (p.0.0, p.1)) (λ c κs. search needs) (λ c. search needs) (λ c. search needs) returns)
+pub put_state_and_answer_spec : {M : Type 1} → statement M
+put_state_and_answer_spec = close (spec (λ c κs. let p = c.before.before.before.pre in (p.0.0, p.1)) (λ c κs. search needs) (λ c. search needs) (λ c. search needs) returns)

@@ -5,9 +5,9 @@ use Rattle.image.specs.Image.{fixed_at}
 use Rattle.lent_tick.specs.Unbroken.{unbroken}
 use Rattle.lent_tick.proofs.row_four.unbroken.{Statement.statement, Tie.{close, spec}}
 
-pub unbroken-spec : {M : Type 1} → statement M
+pub unbroken_spec : {M : Type 1} → statement M
 unfolding unbroken fixed_at
-unbroken-spec =
+unbroken_spec =
     close (spec
     (λ c κs. search needs) (λ c κs. search needs) (λ c. search needs)
     (λ c. simp (← c.before.before.word_at.ensures, ne_eqb _ _ c.if1.taken))
@@ -15,7 +15,7 @@ unbroken-spec =
     (λ c κs. search needs)
     (λ c. let p = c.before in simp (← p.before.word-at3.ensures, ← p.is-profile.ensures, not-true p.is-profile.result c.if2.taken, and-false))
     (λ c κs. let a = c.before.before.before.before.before.before.before in (a.pre.0, a.pre.1.0))
-    (λ c. let k = c.before in simp (← k.peaks-stand.ensures, not-true k.peaks-stand.result c.if3.taken, and-false))
+    (λ c. let k = c.before in simp (← k.peaks_stand_lem.ensures, not-true k.peaks_stand_lem.result c.if3.taken, and-false))
     (λ c κs. search needs)
     (λ c. let k = c.before.before.before in let p = k.before.before in let w = p.before in let pre = w.before.before.before.before.before.pre.1 in simp (
       c.numbers-stand.ensures,
@@ -26,9 +26,9 @@ unbroken-spec =
       ← w.before.before.word-at2.ensures,
       ← w.before.before.before.word_at.ensures,
       ← p.is-profile.ensures,
-      ← k.peaks-stand.ensures,
+      ← k.peaks_stand_lem.ensures,
       not-false p.is-profile.result k.before.if2.left,
-      not-false k.peaks-stand.result c.before.before.if3.left,
+      not-false k.peaks_stand_lem.result c.before.before.if3.left,
       eq-eqb _ _ c.before.if4.taken,
       eq-eqb _ _ w.before.if1.left,
       and-true,
@@ -43,9 +43,9 @@ unbroken-spec =
       ← w.before.before.word-at2.ensures,
       ← w.before.before.before.word_at.ensures,
       ← p.is-profile.ensures,
-      ← k.peaks-stand.ensures,
+      ← k.peaks_stand_lem.ensures,
       not-false p.is-profile.result k.before.if2.left,
-      not-false k.peaks-stand.result c.before.before.before.if3.left,
+      not-false k.peaks_stand_lem.result c.before.before.before.if3.left,
       eq-eqb _ _ c.before.if5.taken,
       ne_eqb _ _ c.before.before.if4.left,
       eq-eqb _ _ w.before.if1.left,

@@ -1,7 +1,7 @@
 -- `pattern::walk::put_rounds`: up to place i the buffer holds the rounds. Assumes nothing.
 use Rattle.laws.proofs.Prelude.{needs, ◌≡◌, refl, ◌∙◌, ℕ, ◌-◌, ◌*◌, ◌≤◌, ◌<◌, mul-le-mul, arith, length, take, length-set, sets, slice}
 use Rattle.pattern.specs.{Tree.times as rounds, Walk.capped}
-use Rattle.pattern.proofs.{Rounds.{capped-below, to_end, rounds-start, rounds-on, rounds-end}, walk.put_rounds.Statement.statement}
+use Rattle.pattern.proofs.{Rounds.{capped_below, to_end, rounds_start, rounds_on, rounds_end}, walk.put_rounds.Statement.statement}
 use Rattle.pattern.proofs.walk.put_rounds.Tie.{invariant-loop, decreases-loop, Need-returns, Need-loop-holds, Need-loop-again, Need-returns-2, close, spec}
 
 abbrev invariant-loop : invariant-loop
@@ -12,7 +12,7 @@ abbrev decreases-loop : decreases-loop
 decreases-loop places₀ from to times legs end i₀ places i = end - i
 
 too_many : (n : ℕ) {r : ℕ} → n ≤ 32 → (r ≡ capped n) × (32 < r) → ⊥
-too_many n h e = let f = capped-below n (omega arith) in omega (arith, f, e.0, e.1)
+too_many n h e = let f = capped_below n (omega arith) in omega (arith, f, e.0, e.1)
 
 -- 9 rounds of 33
 product : (n from to : ℕ) → n ≤ 9 → to ≤ 33 → n * (to - from) ≤ 297
@@ -29,22 +29,22 @@ returns c =
 loop-holds : Need-loop-holds invariant-loop decreases-loop
 loop-holds c =
     let start = c.before.before.before in let pre = start.requires in let e = c.before.at-most-33.ensures in
-    (omega arith, to_end start.args.places.now _ _ _ pre.0 pre.3 pre.1 e c.if1.false, refl, rounds-start _ _ _ _ pre.0 pre.3 pre.1 e c.if1.false)
+    (omega arith, to_end start.args.places.now _ _ _ pre.0 pre.3 pre.1 e c.if1.false, refl, rounds_start _ _ _ _ pre.0 pre.3 pre.1 e c.if1.false)
 
 loop-again : Need-loop-again invariant-loop decreases-loop
 loop-again c =
     let turn = c.before in let inv = turn.before.loop.invariant in let few = turn.before.before in let pre = few.before.before.before.requires in
-    let on = rounds-on _ _ _ _ pre.0 pre.3 pre.1 few.before.at-most-33.ensures few.if1.false _ inv.0 turn.loop-test.true in
+    let on = rounds_on _ _ _ _ pre.0 pre.3 pre.1 few.before.at-most-33.ensures few.if1.false _ inv.0 turn.loop-test.true in
     (omega arith, omega arith, simp length-set inv.2, rw inv.3 on)
 
 returns-2 : Need-returns-2 invariant-loop decreases-loop
 returns-2 c =
     let inv = c.before.loop.invariant in let few = c.before.before in let pre = few.before.before.before.requires in
     let e = few.before.at-most-33.ensures in
-    record { counted = e; put = λ _. inv.3 ∙ rounds-end _ _ _ _ pre.0 pre.3 pre.1 e few.if1.false _ c.loop-test.false }
+    record { counted = e; put = λ _. inv.3 ∙ rounds_end _ _ _ _ pre.0 pre.3 pre.1 e few.if1.false _ c.loop-test.false }
 
-pub put-rounds-spec : {M : Type 1} → statement M
-put-rounds-spec =
+pub put_rounds_spec : {M : Type 1} → statement M
+put_rounds_spec =
     close (spec invariant-loop decreases-loop
     (λ c. search needs)
     (λ c. record { fits = omega (arith, product _ c.before.args.from _ c.before.requires.4 c.before.requires.2) })

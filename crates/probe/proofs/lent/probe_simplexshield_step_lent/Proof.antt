@@ -79,17 +79,17 @@ module _ {M : Type 1} {𝓤 : Ura M} (𝓛 : Logic 𝓤) (at_mem : Memory → SP
 module _ {M : Type 1} {𝓤 : Ura M} (𝓛 : Logic 𝓤) (at_mem : Memory → SProp 𝓤) (run : Routine → Fun 𝓤) where
   open 𝓛 use {H}
 
-  probe-meets : (𝓣 : Tables 𝓤 H) → Triple 𝓤 (𝓣.C #lent) (Lent 𝓛 at_mem run) → Meets 𝓛 probe.signature (WpFn 𝓤 H 𝓣.C 𝓣.Λ code.function) (probe.spec 𝓛 at_mem run)
-  probe-meets 𝓣 known y = via 𝓤 _ (fst∗ 𝓤 _ (emp 𝓤)) (said 𝓛 lent.signature y.0.0 y.0.1 (mut_vals, (float_vals binary32, (rated, (rated, tt))))
+  probe_meets : (𝓣 : Tables 𝓤 H) → Triple 𝓤 (𝓣.C #lent) (Lent 𝓛 at_mem run) → Meets 𝓛 probe.signature (WpFn 𝓤 H 𝓣.C 𝓣.Λ code.function) (probe.spec 𝓛 at_mem run)
+  probe_meets 𝓣 known y = via 𝓤 _ (fst∗ 𝓤 _ (emp 𝓤)) (said 𝓛 lent.signature y.0.0 y.0.1 (mut_vals, (float_vals binary32, (rated, (rated, tt))))
       (mut_Tells (named 0) y.0.0.0 T.the_row, (float_Tells binary32, (LL.tells B.the_type B'.the_laws, (LL.tells B.the_type B'.the_laws, tt)))) y.0.3
       (λ us. WpFn 𝓤 H 𝓣.C 𝓣.Λ code.function (us.0 ++ flat others us.1) ((Lent 𝓛 at_mem run).post ((y.0.0, y.0.1, tt, y.0.3, us), tt))) y.0.4
       (λ are. walk 𝓛 at_mem run y.0.0.0 y.0.1.0 y.0.3.0.ref_ptr.0 y.0.3.0.ref_ptr.1 y.0.3.0.ghost_name y.0.3.0.now y.0.3.1 are.1 𝓣.C 𝓣.Λ
       (fm_of 𝓤 H 𝓛.laws 𝓣) known))
 
-pub probe-simplexshield-step-lent-spec : {M : Type 1} → stated.statement M
+pub probe_simplexshield_step_lent_spec : {M : Type 1} → stated.statement M
 unfolding code.routine tables_of
-probe-simplexshield-step-lent-spec 𝓤 𝓛 𝓜 𝓡 =
+probe_simplexshield_step_lent_spec 𝓤 𝓛 𝓜 𝓡 =
     entered 𝓤 𝓛.H (triple_of 𝓛 probe.signature (probe.spec 𝓛 𝓜.mem 𝓡.run))
     (tables 𝓤 𝓛.H 𝓜 𝓡 code.env).C (tables 𝓤 𝓛.H 𝓜 𝓡 code.env).Λ #probe code.function (code.unfolded 𝓤 𝓛.H 𝓜 𝓡)
-    (probe-meets 𝓛 𝓜.mem 𝓡.run (tables_of 𝓤 𝓛.H 𝓜 (tables 𝓤 𝓛.H 𝓜 𝓡 code.env))
+    (probe_meets 𝓛 𝓜.mem 𝓡.run (tables_of 𝓤 𝓛.H 𝓜 (tables 𝓤 𝓛.H 𝓜 𝓡 code.env))
     (cited 𝓤 𝓛.H (Lent 𝓛 𝓜.mem 𝓡.run) 𝓜 𝓡 code.env #lent lent-def.routine code.calls-relay-geo::shield::SimplexShield::step-lent (lent-thm.met 𝓤 𝓛 𝓜 𝓡)))

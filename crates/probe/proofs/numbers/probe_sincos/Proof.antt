@@ -7,5 +7,5 @@ returns : Need-returns
 unfolding sinf cosf
 returns c = (ap (λ (p : SineCosine). p.cosine) c.sincos.ensures, ap (λ (p : SineCosine). p.sine) c.sincos.ensures)
 
-pub probe-sincos-spec : {M : Type 1} → statement M
-probe-sincos-spec = close (spec (λ c κs. search needs) returns)
+pub probe_sincos_spec : {M : Type 1} → statement M
+probe_sincos_spec = close (spec (λ c κs. search needs) returns)

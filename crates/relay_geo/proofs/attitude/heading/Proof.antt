@@ -3,6 +3,6 @@ use Rattle.relay_math.specs.Steps.{sinf, cosf}
 use Rattle.relay_geo.specs.Attitude.{heading}
 use Rattle.relay_geo.proofs.attitude.heading.{Statement.statement, Tie.{close, spec}}
 
-pub heading-spec : {M : Type 1} → statement M
+pub heading_spec : {M : Type 1} → statement M
 unfolding heading sinf cosf
-heading-spec = close (spec (λ c κs. search needs) (λ c. simp c.sincos.ensures))
+heading_spec = close (spec (λ c κs. search needs) (λ c. simp c.sincos.ensures))

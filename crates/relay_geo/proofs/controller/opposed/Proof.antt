@@ -2,6 +2,6 @@ use Rattle.laws.proofs.Prelude.{refl}
 use Rattle.relay_geo.specs.Controller.{opposed}
 use Rattle.relay_geo.proofs.controller.opposed.{Statement.statement, Tie.{close, spec}}
 
-pub opposed-spec : {M : Type 1} → statement M
+pub opposed_spec : {M : Type 1} → statement M
 unfolding opposed
-opposed-spec = close (spec (λ c. refl))
+opposed_spec = close (spec (λ c. refl))

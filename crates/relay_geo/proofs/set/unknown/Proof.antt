@@ -1,8 +1,8 @@
 use Rattle.laws.proofs.Prelude.{needs}
 use Rattle.relay_geo.proofs.set.unknown.{Statement.statement, Tie.{close, spec}}
 
-pub unknown-spec : {M : Type 1} → statement M
-unknown-spec = close (spec (λ c κs. search needs)
+pub unknown_spec : {M : Type 1} → statement M
+unknown_spec = close (spec (λ c κs. search needs)
     (λ c. simp (← c.before.is_finite.ensures, c.if1.taken))
     (λ c κs. search needs)
     (λ c. simp (← c.before.before.before.is_finite.ensures, ← c.before.is-finite2.ensures, c.before.before.if1.left, c.if2.taken))

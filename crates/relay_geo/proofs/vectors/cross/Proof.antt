@@ -2,6 +2,6 @@ use Rattle.laws.proofs.Prelude.{refl}
 use Rattle.relay_geo.specs.Vectors.{cross}
 use Rattle.relay_geo.proofs.vectors.cross.{Statement.statement, Tie.{close, spec}}
 
-pub cross-spec : {M : Type 1} → statement M
+pub cross_spec : {M : Type 1} → statement M
 unfolding cross
-cross-spec = close (spec (λ c. refl))
+cross_spec = close (spec (λ c. refl))

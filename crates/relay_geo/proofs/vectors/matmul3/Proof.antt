@@ -18,7 +18,7 @@ returns c =
       c.before.before.before.before.before.before.before.before.before.transpose3.ensures,
     )
 
-pub matmul3-spec : {M : Type 1} → statement M
-matmul3-spec =
+pub matmul3_spec : {M : Type 1} → statement M
+matmul3_spec =
     close (spec (λ c κs. search needs) (λ c κs. search needs) (λ c κs. search needs) (λ c κs. search needs) (λ c κs. search needs) (λ c κs. search needs) (λ c κs. search needs)
     (λ c κs. search needs) (λ c κs. search needs) (λ c κs. search needs) returns)

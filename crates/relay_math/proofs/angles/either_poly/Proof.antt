@@ -1,6 +1,6 @@
 -- `angles::either_poly`: `poly_of` with the coefficients of one or the other. Assumes nothing.
 use Rattle.laws.proofs.Prelude.{needs, ◌≡◌, refl, ◌∙◌, Bool, true, false, cond, ℕ, ◌≤◌, ◌<◌, arith}
-use Rattle.relay_math.specs.Steps.{polyOf, sinPoly, cosPoly}
+use Rattle.relay_math.specs.Steps.{poly_of, sin_poly, cos_poly}
 use Rattle.relay_math.proofs.angles.either_poly.{Statement.statement, Tie.{close, spec}}
 
 falling : (s : Bool) (r : ℕ) → r < 281474976710656
@@ -9,14 +9,14 @@ falling : (s : Bool) (r : ℕ) → r < 281474976710656
 falling true r h = omega arith
 falling false r h = omega arith
 
-one : (s : Bool) (r z : ℕ) → polyOf (cond s r 281474976710656) z (cond s 0x2AAAAAAB 0x80000000) (cond s 0x2222222 0xAAAAAAB) (cond s 0xD00D0 0x5B05B0) (cond s 0x2DFC 0x19D60) ≡ cond s
-    (sinPoly r z) (cosPoly z)
-unfolding sinPoly cosPoly
+one : (s : Bool) (r z : ℕ) → poly_of (cond s r 281474976710656) z (cond s 0x2AAAAAAB 0x80000000) (cond s 0x2222222 0xAAAAAAB) (cond s 0xD00D0 0x5B05B0) (cond s 0x2DFC 0x19D60) ≡ cond s
+    (sin_poly r z) (cos_poly z)
+unfolding sin_poly cos_poly
 one true r z = refl
 one false r z = refl
 
-pub either-poly-spec : {M : Type 1} → statement M
-either-poly-spec =
+pub either_poly_spec : {M : Type 1} → statement M
+either_poly_spec =
     close (spec (λ c κs. search needs) (λ c κs. search needs) (λ c κs. search needs) (λ c κs. search needs) (λ c κs. search needs)
     (λ c κs.
     let b = c.before.before.before.before in let a = b.before.args in

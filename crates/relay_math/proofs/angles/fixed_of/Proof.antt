@@ -15,6 +15,6 @@ returns c =
     let e = shl_exact {a = b % 8388608 + 8388608} 24 k 64 (omega arith) (omega arith) in
     (e, rw e (lt_of_lt_of_le (shl_lt 24 k (omega arith)) (pow_mono {i = 24 + k} {j = 62} (omega arith))))
 
-pub fixed-of-spec : {M : Type 1} → statement M
-fixed-of-spec =
+pub fixed_of_spec : {M : Type 1} → statement M
+fixed_of_spec =
     close (spec (λ c. (parts c).number) (λ c. search needs) (λ c. search needs) (λ c. omega (arith, (parts c).low)) (λ c. omega (arith, (parts c).high)) (λ c. omega (arith, (parts c).high)) returns)

@@ -3,9 +3,9 @@ use Rattle.laws.proofs.Prelude.{needs}
 use Rattle.relay_math.specs.Steps.{large}
 use Rattle.relay_math.proofs.angles.large_of.{Statement.statement, Tie.{close, spec}}
 
-pub large-of-spec : {M : Type 1} → statement M
+pub large_of_spec : {M : Type 1} → statement M
 unfolding large
-large-of-spec =
+large_of_spec =
     close (spec (λ c κs. search needs) (λ c κs. search needs) (λ c κs. search needs) (λ c κs. search needs) (λ c κs. search needs) (λ c. search needs) (λ c κs. search needs)
     (λ c.
     let d = c.before.before.before in

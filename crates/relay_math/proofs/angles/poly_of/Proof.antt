@@ -2,8 +2,8 @@
 use Rattle.laws.proofs.Prelude.{needs, arith}
 use Rattle.relay_math.proofs.angles.poly_of.{Statement.statement, Tie.{close, spec}}
 
-pub poly-of-spec : {M : Type 1} → statement M
-poly-of-spec =
+pub poly_of_spec : {M : Type 1} → statement M
+poly_of_spec =
     close (spec (λ c κs. search needs) (λ c. search needs) (λ c κs. search needs) (λ c. search needs) (λ c κs. search needs) (λ c. search needs) (λ c κs. search needs) (λ c κs. search needs)
     (λ c.
     let k = c.before.before in

@@ -2,6 +2,6 @@
 use Rattle.laws.proofs.Prelude.{refl, of_bits}
 use Rattle.relay_math.proofs.angles.served.{Statement.statement, Tie.{close, spec}}
 
-pub served-spec : {M : Type 1} → statement M
+pub served_spec : {M : Type 1} → statement M
 unfolding of_bits
-served-spec = close (spec (λ c. refl))
+served_spec = close (spec (λ c. refl))

@@ -2,7 +2,7 @@
 use Rattle.laws.proofs.Prelude.{needs, ◌≡◌, refl, Bool, true, false, not, ◌+◌, ◌*◌, ◌<◌, arith, T, lit<, negsuc, fin, binary32, nan_bits, of_bits}
 use lib.{Dec.le→leb, Ieee.in_float}
 use mir.Val.{bool_byte}
-use Rattle.relay_math.proofs.{Round.to-float, angles.to_float.{Statement.statement, Tie.{close, spec}}}
+use Rattle.relay_math.proofs.{Round.to_float_lem, angles.to_float.{Statement.statement, Tie.{close, spec}}}
 
 scales : (s : Bool) → let high = bool_byte s * 2147483648 + 864026624 in let low = bool_byte s * 2147483648 + 662700032 in
     (high < 4294967296) × T (not (nan_bits binary32 high)) × T (not (nan_bits binary32 low)) × (of_bits binary32 high ≡ fin s 1 (negsuc 23)) × (of_bits binary32 low ≡ fin s 1 (negsuc 47))
@@ -10,9 +10,9 @@ unfolding nan_bits of_bits
 scales true = (lit< tt, tt, tt, refl, refl)
 scales false = (lit< tt, tt, tt, refl, refl)
 
-pub to-float-spec : {M : Type 1} → statement M
+pub to_float_spec : {M : Type 1} → statement M
 unfolding in_float
-to-float-spec =
+to_float_spec =
     close (spec (λ c. search needs) (λ c. omega (arith, (scales c.args.s).0)) (λ c. omega (arith, le→leb)) (λ c. omega (arith, (scales c.before.args.s).0)) (λ c. (scales c.before.args.s).1)
     (λ c. omega (arith, le→leb)) (λ c. omega (arith, (scales c.before.before.args.s).0)) (λ c. (scales c.before.before.args.s).2)
-    (λ c. let b = c.before.before in let k = scales b.args.s in rw (k.3, k.4) (to-float b.args.s b.args.v b.pre)))
+    (λ c. let b = c.before.before in let k = scales b.args.s in rw (k.3, k.4) (to_float_lem b.args.s b.args.v b.pre)))

@@ -2,7 +2,7 @@
 use Rattle.laws.proofs.Prelude.{needs, ◌≡◌, refl, ℕ, suc, ◌+◌, ◌-◌, ◌*◌, ◌%◌, ◌^◌, ◌<◌, arith, Float, binary32, to_bits}
 use lib.Count.{count_leading_zeros}
 use Rattle.relay_math.specs.F32.{grains}
-use Rattle.relay_math.proofs.{Signs.of_positive, Grains.reads, Root.{Scaled, M, E, joined, zeros, small_is, scaled_small, scaled-normal}, sqrt.digits.Statement.statement}
+use Rattle.relay_math.proofs.{Signs.of_positive, Grains.reads, Root.{Scaled, M, E, joined, zeros, small_is, scaled_small, scaled_normal}, sqrt.digits.Statement.statement}
 use Rattle.relay_math.proofs.sqrt.digits.Tie.{Then1, close, spec}
 
 -- where b is below 2 ^ 23
@@ -24,12 +24,12 @@ Kept b d x = to_bits binary32 x ≡ b → grains x * 2 ^ 23 ≡ M d * 2 ^ E d
 kept : {X m e d : ℕ} → Scaled X m e → d ≡ e * 2 ^ 23 + m → X * 2 ^ 23 ≡ M d * 2 ^ E d
 kept {d = d} w i = let j = joined {d = d} w i in rw (j.0, j.1) w.is
 
-pub digits-spec : {M : Type 1} → statement M
-digits-spec =
+pub digits_spec : {M : Type 1} → statement M
+digits_spec =
     close (spec (λ c. omega (arith, shown c)) (λ c. search needs) (λ c. omega (arith, shown c)) (λ c. omega (arith, shown c))
     (λ c. omega (arith, (scaled c).high, shown c)) (λ c. search needs)
     (λ c. (
       ((joined (scaled c) refl).2, (joined (scaled c) refl).3),
       of_positive (Kept c.before.args.b _) (λ m i f e. rw (small_is (rw e at (reads (suc m) i f)) c.if1.true) (kept (scaled c) refl)),
     ))
-    (λ c. ((omega arith, omega arith), of_positive (Kept c.before.args.b _) (λ m i f e. kept (scaled-normal (rw e at (reads (suc m) i f)) c.if1.false) (omega arith)))))
+    (λ c. ((omega arith, omega arith), of_positive (Kept c.before.args.b _) (λ m i f e. kept (scaled_normal (rw e at (reads (suc m) i f)) c.if1.false) (omega arith)))))

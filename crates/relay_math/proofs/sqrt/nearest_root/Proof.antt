@@ -8,8 +8,8 @@ tested n r d h b e t =
     let q = square_le r b in let o = own_square r in let l : r * r < n + r = omega arith in
     (l, omega arith, capped n r h l)
 
-pub nearest-root-spec : {M : Type 1} → statement M
-nearest-root-spec =
+pub nearest_root_spec : {M : Type 1} → statement M
+nearest_root_spec =
     close (spec (λ c κs. search needs)
     (λ c. omega (arith, square_le c.guess.result c.guess.ensures))
     (λ c. own_square c.guess.result)

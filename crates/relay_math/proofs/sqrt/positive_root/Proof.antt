@@ -8,9 +8,9 @@ use Rattle.relay_math.proofs.{Signs.of_positive, sqrt.positive_root.{Statement.s
 abbrev Rooted : ℕ → ℕ → Float → Type 0
 Rooted b r x = to_bits binary32 x ≡ b → of_bits binary32 r ≡ sqrtf x
 
-pub positive-root-spec : {M : Type 1} → statement M
+pub positive_root_spec : {M : Type 1} → statement M
 unfolding sqrtf
-positive-root-spec =
+positive_root_spec =
     close (spec (λ c κs. search needs) (λ c κs. c.digits.ensures.0)
     (λ c. (
       of_positive (Rooted c.before.before.args.b c.root-bits.result)

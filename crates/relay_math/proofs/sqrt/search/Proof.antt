@@ -14,8 +14,8 @@ Inv-loop2 n from r₀ r = (r ≤ 2 ^ 26) × (r * r < n + r)
 abbrev μ-loop2 : MeasureT-loop2
 μ-loop2 n from r₀ r = 2 ^ 26 - r
 
-pub search-spec : {M : Type 1} → statement M
-search-spec =
+pub search_spec : {M : Type 1} → statement M
+search_spec =
     close (spec Inv-loop μ-loop Inv-loop2 μ-loop2
     (λ c. omega arith)
     (λ c. omega arith)

@@ -1,6 +1,6 @@
 use Rattle.laws.proofs.Prelude.{needs, ◌≡◌, inl, inr, not, ◌||◌, lt}
 use Rattle.relay_math.specs.F32.{is_finite}
-use Rattle.relay_traj.specs.Governor.{clampTo}
+use Rattle.relay_traj.specs.Governor.{clamp_to}
 use Rattle.relay_traj.proofs.governor.clamp_to.{Statement.statement, Tie.{Joined1, close, spec}}
 
 -- what the first test was
@@ -11,9 +11,9 @@ tested c =
       | inr p ↦ simp (← c.before.is-finite.ensures, p.1, p.0.left)
     ]
 
-pub clamp-to-spec : {M : Type 1} → statement M
-unfolding clampTo
-clamp-to-spec =
+pub clamp_to_spec : {M : Type 1} → statement M
+unfolding clamp_to
+clamp_to_spec =
     close (spec (λ c κs. search needs) (λ c κs. search needs)
     (λ c. simp (← c.before.before.before.low-end.ensures, ← tested c.before, c.if2.taken))
     (λ c. simp (← c.before.before.before.before.low-end.ensures, ← tested c.before.before, c.before.if2.left, c.if3.taken))

@@ -1,8 +1,8 @@
 use Rattle.laws.proofs.Prelude.{needs}
 use Rattle.relay_traj.proofs.governor.no_band.{Statement.statement, Tie.{close, spec}}
 
-pub no-band-spec : {M : Type 1} → statement M
-no-band-spec =
+pub no_band_spec : {M : Type 1} → statement M
+no_band_spec =
     close (spec (λ c κs. search needs) (λ c κs. search needs) (λ c κs. search needs)
     (λ c. simp (← c.before.is_finite.ensures, c.if1.taken))
     (λ c. simp (← c.before.before.before.is_finite.ensures, ← c.before.is-finite2.ensures, c.before.before.if1.left, c.if2.taken))

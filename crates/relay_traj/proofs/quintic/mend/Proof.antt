@@ -1,10 +1,10 @@
 use Rattle.laws.proofs.Prelude.{needs}
-use Rattle.relay_traj.specs.Quintic.{mendEnds}
+use Rattle.relay_traj.specs.Quintic.{mend_ends}
 use Rattle.relay_traj.proofs.quintic.mend.{Statement.statement, Tie.{close, spec}}
 
-pub mend-spec : {M : Type 1} → statement M
-unfolding mendEnds
-mend-spec =
+pub mend_spec : {M : Type 1} → statement M
+unfolding mend_ends
+mend_spec =
     close (spec (λ c κs. search needs) (λ c κs. search needs) (λ c κs. search needs) (λ c κs. search needs) (λ c κs. search needs) (λ c κs. search needs) (λ c κs. search needs)
     (λ c.
     let k = c.before.before.before in

@@ -1,11 +1,11 @@
 -- `route::form::form_refusal`: the tests in their order. Assumes nothing.
 use Rattle.laws.proofs.Prelude.{needs, lt-ltb, le-ltb, eq-eqb, ne_eqb, not-true, not-false}
-use Rattle.route.specs.Form.{formRefusal}
+use Rattle.route.specs.Form.{form_refusal}
 use Rattle.route.proofs.form.form_refusal.{Statement.statement, Tie.{close, spec}}
 
-pub form-refusal-spec : {M : Type 1} → statement M
-unfolding formRefusal
-form-refusal-spec =
+pub form_refusal_spec : {M : Type 1} → statement M
+unfolding form_refusal
+form_refusal_spec =
     close (spec
     (λ c. simp (lt-ltb _ _ c.if1.taken))
     (λ c κs. search needs)

@@ -6,5 +6,5 @@ use Rattle.route.proofs.{LegWalks.{itself, same_of}, form.words_apart.{Statement
 nothing : (w x : ℕ) → bit_or (bit_xor w x) ((w % 2147483648 + 8388607) / 2147483648) ≡ 0 → eq (float_of w) (float_of x) ≡ true
 nothing w x e = let p = none_of _ _ e in itself (same_of w x p.0) (le-ltb 2139095040 (w % 2147483648) (omega (arith, p.1)))
 
-pub words-apart-spec : {M : Type 1} → statement M
-words-apart-spec = close (spec (λ c. search needs) (λ c. nothing _ _))
+pub words_apart_spec : {M : Type 1} → statement M
+words_apart_spec = close (spec (λ c. search needs) (λ c. nothing _ _))

@@ -2,8 +2,8 @@
 use Rattle.laws.proofs.Prelude.{needs, le-ltb, lt-ltb, sym}
 use Rattle.route.proofs.{LegWalks.itself, form.words_meet.{Statement.statement, Tie.{close, spec}}}
 
-pub words-meet-spec : {M : Type 1} → statement M
-words-meet-spec =
+pub words_meet_spec : {M : Type 1} → statement M
+words_meet_spec =
     close (spec
     (λ c. sym (itself c.before.if1.taken (lt-ltb _ _ c.if2.taken)))
     (λ c. sym (itself c.before.if1.taken (le-ltb _ _ c.if2.left)))

@@ -1,9 +1,9 @@
 use Rattle.laws.proofs.Prelude.{needs}
-use Rattle.relay_traj.specs.Quintic.{mendEnds}
+use Rattle.relay_traj.specs.Quintic.{mend_ends}
 use Rattle.route.proofs.legs.axis_at.{Statement.statement, Tie.{Need-returns, close, spec}}
 
 returns : Need-returns
-unfolding mendEnds
+unfolding mend_ends
 returns c =
     let f = c.before.before.before.before in
     simp (
@@ -16,8 +16,8 @@ returns c =
       f.before.before.finite-at.ensures,
     )
 
-pub axis-at-spec : {M : Type 1} → statement M
-axis-at-spec =
+pub axis_at_spec : {M : Type 1} → statement M
+axis_at_spec =
     close (spec (λ c κs. search needs) (λ c. search needs) (λ c κs. search needs) (λ c. search needs) (λ c κs. search needs) (λ c. search needs) (λ c κs. search needs)
     (λ c. search needs) (λ c κs. search needs) (λ c. search needs) (λ c κs. search needs) (λ c κs. search needs)
     returns)

@@ -2,26 +2,26 @@
 use Rattle.laws.proofs.Prelude.{needs, ◌≡◌, List, ℕ, ◌+◌, Float}
 use native.Mathlib.Nat.{add_right_comm}
 use Rattle.words.specs.Words.{float, vec}
-use Rattle.relay_traj.specs.{declared.quintic.Quintic.Quintic, Quintic.{mendEnds, ofMended, quintic}, Segment.segment}
-use Rattle.joint_tick.specs.{SetUp.segmentOf, Tick.referenceAt}
-use Rattle.image.specs.Parts.{legAt}
-use Rattle.route.specs.Legs.{sampleOf, referenceOf}
+use Rattle.relay_traj.specs.{declared.quintic.Quintic.Quintic, Quintic.{mend_ends, of_mended, quintic}, Segment.segment}
+use Rattle.joint_tick.specs.{SetUp.segment_of, Tick.reference_at}
+use Rattle.image.specs.Parts.{leg_at}
+use Rattle.route.specs.Legs.{sample_of, reference_of}
 use Rattle.route.proofs.legs.reference_of.{Statement.statement, Tie.{Need-returns, close, spec}}
 
 abbrev axis : List ℕ → ℕ → ℕ → Quintic
-axis b k j = ofMended (mendEnds (float b j) (float b (j + 3)) (float b (j + 6)) (float b (j + 9)) (float b (j + 12)) (float b (j + 15)) (float b (k + 18)))
+axis b k j = of_mended (mend_ends (float b j) (float b (j + 3)) (float b (j + 6)) (float b (j + 9)) (float b (j + 12)) (float b (j + 15)) (float b (k + 18)))
 
 -- the axis's number may be added before or after
-axis-of : (b : List ℕ) (k j : ℕ) → let a : ℕ → Float = λ n. float b (k + n + j) in axis b k (k + j) ≡ quintic (float b (k + j)) (a 3) (a 6) (a 9) (a 12) (a 15) (float b (k + 18))
+axis_of : (b : List ℕ) (k j : ℕ) → let a : ℕ → Float = λ n. float b (k + n + j) in axis b k (k + j) ≡ quintic (float b (k + j)) (a 3) (a 6) (a 9) (a 12) (a 15) (float b (k + 18))
 unfolding quintic
-axis-of b k j = rw (add_right_comm k j 3, add_right_comm k j 6, add_right_comm k j 9, add_right_comm k j 12, add_right_comm k j 15)
+axis_of b k j = rw (add_right_comm k j 3, add_right_comm k j 6, add_right_comm k j 9, add_right_comm k j 12, add_right_comm k j 15)
 
-axes : (b : List ℕ) (k : ℕ) → segmentOf (legAt b k) ≡ (axis b k k, axis b k (k + 1), axis b k (k + 2))
-unfolding segmentOf segment quintic legAt vec
-axes b k = rw (axis-of b k 1, axis-of b k 2)
+axes : (b : List ℕ) (k : ℕ) → segment_of (leg_at b k) ≡ (axis b k k, axis b k (k + 1), axis b k (k + 2))
+unfolding segment_of segment quintic leg_at vec
+axes b k = rw (axis_of b k 1, axis_of b k 2)
 
 returns : Need-returns
-unfolding referenceOf sampleOf referenceAt
+unfolding reference_of sample_of reference_at
 returns c =
     let y = c.before.before.before in let x = y.before.before in
     simp (
@@ -36,8 +36,8 @@ returns c =
       x.before.before.Float-at.ensures,
     )
 
-pub reference-of-spec : {M : Type 1} → statement M
-reference-of-spec =
+pub reference_of_spec : {M : Type 1} → statement M
+reference_of_spec =
     close (spec (λ c. search needs) (λ c. search needs) (λ c κs. search needs) (λ c κs. search needs) (λ c κs. search needs) (λ c. search needs) (λ c κs. search needs)
     (λ c κs. search needs) (λ c. search needs) (λ c κs. search needs) (λ c κs. search needs) (λ c κs. search needs)
     returns)

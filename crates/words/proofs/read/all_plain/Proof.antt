@@ -1,9 +1,9 @@
 -- `words::read::all_plain`: the top bit is off so long as every word that it looked at is plain. Assumes nothing.
-use Rattle.laws.proofs.Prelude.{needs, ◌≡◌, refl, sym, ◌∙◌, Bool, ◌&&◌, inl, inr, ℕ, ◌+◌, ◌-◌, ◌%◌, ◌≤◌, add-one, arith, le-leb, lt-leb, lt-ltb, le-ltb, ltb, le-or-lt}
+use Rattle.laws.proofs.Prelude.{needs, ◌≡◌, refl, sym, ◌∙◌, Bool, ◌&&◌, inl, inr, ℕ, ◌+◌, ◌-◌, ◌%◌, ◌≤◌, add-one, arith, le-leb, lt-leb, lt-ltb, le-ltb, ltb, le_or_lt}
 use native.Mathlib.Nat.{le_antisymm}
 use lib.Bits.{bit_or, or_lt, or_add_and, and_le_l, and_le_r}
-use Rattle.words.specs.Inner.{is_plain, allPlain}
-use Rattle.words.proofs.{Plain.plain-is, read.all_plain.{Statement.statement, Tie.{InvT-loop, MeasureT-loop, Need-loop-again, Need-returns, close, spec}}}
+use Rattle.words.specs.Inner.{is_plain, all_plain}
+use Rattle.words.proofs.{Plain.plain_is, read.all_plain.{Statement.statement, Tie.{InvT-loop, MeasureT-loop, Need-loop-again, Need-returns, close, spec}}}
 
 abbrev Low : ℕ → Bool
 Low a = ltb a 2147483648
@@ -12,25 +12,25 @@ Low a = ltb a 2147483648
 low_or : (a b : ℕ) → Low (bit_or a b) ≡ (Low a && Low b)
 low_or a b =
     let s = or_add_and a b in let l = and_le_l a b in let r = and_le_r a b in
-    elim (le-or-lt 2147483648 a) [
+    elim (le_or_lt 2147483648 a) [
       | inl h ↦ rw (le-ltb a 2147483648 h, le-ltb (bit_or a b) 2147483648 (omega arith))
-      | inr h ↦ elim (le-or-lt 2147483648 b) [
+      | inr h ↦ elim (le_or_lt 2147483648 b) [
         | inl k ↦ rw (lt-ltb a 2147483648 h, le-ltb b 2147483648 k, le-ltb (bit_or a b) 2147483648 (omega arith))
         | inr k ↦ rw (lt-ltb a 2147483648 h, lt-ltb b 2147483648 k, lt-ltb (bit_or a b) 2147483648 (or_lt 31 a b h k))
       ]
     ]
 
 -- 0x7f_ffff more brings just what lies above the infinity's pattern to the top bit
-low-plain : (w : ℕ) → Low (w % 2147483648 + 8388607) ≡ is_plain w
-low-plain w =
+low_plain : (w : ℕ) → Low (w % 2147483648 + 8388607) ≡ is_plain w
+low_plain w =
     let a = w % 2147483648 in
-    elim (le-or-lt a 2139095040) [
-      | inl h ↦ rw (lt-ltb (a + 8388607) 2147483648 (omega arith)) (sym (le-leb a 2139095040 h) ∙ plain-is w)
-      | inr h ↦ rw (le-ltb (a + 8388607) 2147483648 (omega arith)) (sym (lt-leb a 2139095040 h) ∙ plain-is w)
+    elim (le_or_lt a 2139095040) [
+      | inl h ↦ rw (lt-ltb (a + 8388607) 2147483648 (omega arith)) (sym (le-leb a 2139095040 h) ∙ plain_is w)
+      | inr h ↦ rw (le-ltb (a + 8388607) 2147483648 (omega arith)) (sym (lt-leb a 2139095040 h) ∙ plain_is w)
     ]
 
 abbrev Inv-loop : InvT-loop
-Inv-loop bytes count k₀ above₀ k above = (k ≤ count) × (Low above ≡ allPlain bytes k)
+Inv-loop bytes count k₀ above₀ k above = (k ≤ count) × (Low above ≡ all_plain bytes k)
 
 abbrev μ-loop : MeasureT-loop
 μ-loop bytes count k₀ above₀ k above = count - k
@@ -38,7 +38,7 @@ abbrev μ-loop : MeasureT-loop
 loop-again : Need-loop-again Inv-loop μ-loop
 loop-again c =
     let at = c.before.before.loop in
-    (omega arith, low_or at.above _ ∙ rw (add-one at.k, low-plain _, c.word_at.ensures, at.inv.1))
+    (omega arith, low_or at.above _ ∙ rw (add-one at.k, low_plain _, c.word_at.ensures, at.inv.1))
 
 returns : Need-returns Inv-loop μ-loop
 returns c =
@@ -46,5 +46,5 @@ returns c =
     let e : at.k ≡ c.before.before.before.args.count = le_antisymm at.inv.0 (omega arith) in
     at.inv.1 ∙ rw e
 
-pub all-plain-spec : {M : Type 1} → statement M
-all-plain-spec = close (spec Inv-loop μ-loop (λ c. (omega arith, refl)) (λ c κs. omega arith) (λ c. search needs) (λ c. search needs) (λ c. omega arith) loop-again returns)
+pub all_plain_spec : {M : Type 1} → statement M
+all_plain_spec = close (spec Inv-loop μ-loop (λ c. (omega arith, refl)) (λ c κs. omega arith) (λ c. search needs) (λ c. search needs) (λ c. omega arith) loop-again returns)

@@ -3,22 +3,22 @@ use Rattle.laws.proofs.Prelude.{needs, ◌≡◌, refl, sym, subst, ◌∙◌, B
 use lib.Ieee.Bits.{nan_bits_is}
 use Rattle.words.proofs.read.float_of.{Statement.statement, Tie.{Need-float-from-bits-result, Need-returns-2, close, spec}}
 
-is-nan : (x : Float) → not (is_nan x) ≡ false → x ≡ nan
+is_nan_lem : (x : Float) → not (is_nan x) ≡ false → x ≡ nan
 unfolding is_nan
-is-nan nan e = refl
-is-nan (inf s) e = cc
-is-nan (fin s m x) e = cc
+is_nan_lem nan e = refl
+is_nan_lem (inf s) e = cc
+is_nan_lem (fin s m x) e = cc
 
 defined : Need-float-from-bits-result
 defined c =
     let p = c.before in let w = p.before.args.w in
     subst (λ (b : Bool). T (not b)) (sym (nan_bits_is binary32 w)) (subst T (sym (sym p.is_plain.ensures ∙ c.if1.taken)) tt)
 
-returns-nan : Need-returns-2
+returns_nan : Need-returns-2
 unfolding div of_bits
-returns-nan c =
+returns_nan c =
     let p = c.before in
-    sym (is-nan _ (sym p.is_plain.ensures ∙ c.if1.left))
+    sym (is_nan_lem _ (sym p.is_plain.ensures ∙ c.if1.left))
 
-pub float-of-spec : {M : Type 1} → statement M
-float-of-spec = close (spec (λ c κs. search needs) defined (λ c. search needs) returns-nan)
+pub float_of_spec : {M : Type 1} → statement M
+float_of_spec = close (spec (λ c κs. search needs) defined (λ c. search needs) returns_nan)

@@ -10,6 +10,6 @@ defined c =
     let plain : Plain true a.args.bytes.now = subst (λ (p : Bool). Plain p a.args.bytes.now) c.if1.taken a.pre.1 in
     rw (nan_bits_is binary32 w.word_at.result, w.word_at.ensures) (plain a.args.k a.pre.0)
 
-pub read-float-spec : {M : Type 1} → statement M
+pub read_float_spec : {M : Type 1} → statement M
 unfolding float
-read-float-spec = close (spec (λ c κs. search needs) defined (λ c κs. search needs) (λ c. cc) (λ c. cc))
+read_float_spec = close (spec (λ c κs. search needs) defined (λ c κs. search needs) (λ c. cc) (λ c. cc))

@@ -8,8 +8,8 @@ four l i h =
     let three : i + 3 ≡ suc (suc (suc i)) = omega arith in
     rw (one, two, three, drop-cons l i 0 (omega arith), drop-cons l (suc i) 0 (omega arith), drop-cons l (suc (suc i)) 0 (omega arith), drop-cons l (suc (suc (suc i))) 0 (omega arith))
 
-pub four-at-spec : {M : Type 1} → statement M
-four-at-spec =
+pub four_at_spec : {M : Type 1} → statement M
+four_at_spec =
     close (spec
     (λ c. search needs) (λ c. search needs) (λ c. search needs) (λ c. search needs) (λ c. search needs) (λ c. search needs) (λ c. search needs)
     (λ c. let start = c.before.before.before.before in four start.args.from.now start.args.i start.pre))

@@ -22,8 +22,8 @@ Inv-loop3 bytes₀ at from i₀ bytes i = Inv-loop2 bytes₀ at from i₀ bytes 
 abbrev μ-loop3 : MeasureT-loop3
 μ-loop3 bytes₀ at from i₀ bytes i = length from - i
 
-pub put-bytes-spec : {M : Type 1} → statement M
-put-bytes-spec =
+pub put_bytes_spec : {M : Type 1} → statement M
+put_bytes_spec =
     close (spec Inv-loop μ-loop Inv-loop2 μ-loop2 Inv-loop3 μ-loop3
     (λ c. (omega arith, refl))
     (λ c. search needs) (λ c. search needs)

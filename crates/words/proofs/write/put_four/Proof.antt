@@ -1,8 +1,8 @@
 use Rattle.laws.proofs.Prelude.{needs, length-set}
 use Rattle.words.proofs.{Written.stores, write.put_four.{Statement.statement, Tie.{close, spec}}}
 
-pub put-four-spec : {M : Type 1} → statement M
-put-four-spec =
+pub put_four_spec : {M : Type 1} → statement M
+put_four_spec =
     close (spec
     (λ c. search needs) (λ c. search needs)
     (λ c. simp length-set (search needs))

@@ -22,8 +22,8 @@ returns c =
     read.before.before.before.four-at.ensures read.before.before.four-at2.ensures read.before.four-at3.ensures read.four-at4.ensures
     first.put_four.ensures second.put-four2.ensures third.put-four3.ensures last.put-four4.ensures
 
-pub put-sixteen-spec : {M : Type 1} → statement M
-put-sixteen-spec =
+pub put_sixteen_spec : {M : Type 1} → statement M
+put_sixteen_spec =
     close (spec
     (λ c κs. search needs)
     (λ c. search needs) (λ c κs. search needs)

@@ -7,5 +7,5 @@ returns c =
     c.before.before.before.before.before.before.put-float2.ensures refl)
     c.before.before.put-float3.ensures refl
 
-pub put-three-spec : {M : Type 1} → statement M
-put-three-spec = close (spec (λ c κs. search needs) (λ c. search needs) (λ c κs. search needs) (λ c. search needs) (λ c κs. search needs) (λ c. search needs) returns)
+pub put_three_spec : {M : Type 1} → statement M
+put_three_spec = close (spec (λ c κs. search needs) (λ c. search needs) (λ c κs. search needs) (λ c. search needs) (λ c κs. search needs) (λ c. search needs) returns)

@@ -1,8 +1,8 @@
 use Rattle.laws.proofs.Prelude.{needs, ◌*◌, ◌/◌, ◌%◌, length-set}
 use Rattle.words.proofs.{Written.stores, write.put_word.{Statement.statement, Tie.{close, spec}}}
 
-pub put-word-spec : {M : Type 1} → statement M
-put-word-spec =
+pub put_word_spec : {M : Type 1} → statement M
+put_word_spec =
     close (spec
     (λ c. search needs) (λ c. search needs) (λ c. search needs) (λ c. search needs) (λ c. search needs)
     (λ c. simp length-set (search needs))

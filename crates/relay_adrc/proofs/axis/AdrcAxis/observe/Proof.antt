@@ -1,6 +1,6 @@
 -- The calls' answers put together, the last first. Assumes nothing.
 use Rattle.laws.proofs.Prelude.{needs}
-use Rattle.relay_adrc.specs.Inner.{axisObserve}
+use Rattle.relay_adrc.specs.Inner.{axis_observe}
 use Rattle.relay_adrc.proofs.axis.AdrcAxis.observe.{Statement.statement, Tie.{After-sanitise4, After-mend-b0, Need-returns, close, spec}}
 
 -- where the inputs and the gains are mended
@@ -8,7 +8,7 @@ abbrev mended : After-sanitise4 → After-mend-b0
 mended c = c.before.before.before.before.before.before.before.before.before
 
 returns : Need-returns
-unfolding axisObserve
+unfolding axis_observe
 returns c =
     simp (
       c.sanitise4.ensures,
@@ -21,7 +21,7 @@ returns c =
       (mended c).before.before.before.mend-dt.ensures,
     )
 
-pub observe-spec : {M : Type 1} → statement M
-observe-spec =
+pub observe_spec : {M : Type 1} → statement M
+observe_spec =
     close (spec (λ c κs. search needs) (λ c κs. search needs) (λ c κs. search needs) (λ c κs. search needs) (λ c κs. search needs)
     (λ c κs. search needs) (λ c κs. search needs) (λ c κs. search needs) returns)

@@ -1,10 +1,10 @@
 use Rattle.laws.proofs.Prelude.{needs}
-use Rattle.relay_adrc.specs.Biquad.{lowpassAt, lowpass}
+use Rattle.relay_adrc.specs.Biquad.{lowpass_at, lowpass}
 use Rattle.relay_adrc.proofs.biquad.Biquad.lowpass.{Statement.statement, Tie.{close, spec}}
 
-pub lowpass-spec : {M : Type 1} → statement M
-unfolding lowpass lowpassAt
-lowpass-spec =
+pub lowpass_spec : {M : Type 1} → statement M
+unfolding lowpass lowpass_at
+lowpass_spec =
     close (spec (λ c κs. search needs) (λ c κs. search needs)
     (λ c. simp (c.passthrough.ensures, ← c.before.before.passes-through.ensures, c.before.if1.taken))
     (λ c κs. search needs) (λ c κs. search needs)

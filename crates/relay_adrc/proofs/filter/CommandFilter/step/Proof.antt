@@ -1,9 +1,9 @@
 use Rattle.laws.proofs.Prelude.{needs}
-use Rattle.relay_adrc.specs.Filter.{filterStep}
+use Rattle.relay_adrc.specs.Filter.{filter_step}
 use Rattle.relay_adrc.proofs.filter.CommandFilter.step.{Statement.statement, Tie.{close, spec}}
 
 pub step_spec : {M : Type 1} → statement M
-unfolding filterStep
+unfolding filter_step
 step_spec =
     close (spec (λ c κs. search needs) (λ c κs. search needs) (λ c κs. search needs) (λ c κs. search needs) (λ c κs. search needs) (λ c κs. search needs)
     (λ c.

@@ -6,5 +6,5 @@ returns : Need-returns
 unfolding moment
 returns c = simp (c.opposed.ensures, c.before.gyroscopic.ensures, c.before.before.before.before.attitude-error.ensures)
 
-pub moment-spec : {M : Type 1} → statement M
-moment-spec = close (spec (λ c κs. search needs) (λ c κs. search needs) (λ c κs. search needs) returns)
+pub moment_spec : {M : Type 1} → statement M
+moment_spec = close (spec (λ c κs. search needs) (λ c κs. search needs) (λ c κs. search needs) returns)

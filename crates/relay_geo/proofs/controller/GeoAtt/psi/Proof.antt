@@ -2,6 +2,6 @@ use Rattle.laws.proofs.Prelude.{refl}
 use Rattle.relay_geo.specs.{Vectors.prod3, Controller.psi}
 use Rattle.relay_geo.proofs.controller.GeoAtt.psi.{Statement.statement, Tie.{close, spec}}
 
-pub psi-spec : {M : Type 1} → statement M
+pub psi_spec : {M : Type 1} → statement M
 unfolding psi prod3
-psi-spec = close (spec (λ c. refl))
+psi_spec = close (spec (λ c. refl))

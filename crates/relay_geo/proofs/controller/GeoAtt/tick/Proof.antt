@@ -8,5 +8,5 @@ returns c =
     let s = c.before.before in
     simp (c.torque-toward.ensures, c.before.thrust-attitude.ensures, s.sanitise32.ensures, s.before.sanitise3.ensures, s.before.before.quat-to-rotmat.ensures)
 
-pub tick-spec : {M : Type 1} → statement M
-tick-spec = close (spec (λ c κs. search needs) (λ c κs. search needs) (λ c κs. search needs) (λ c κs. search needs) (λ c κs. search needs) returns)
+pub tick_spec : {M : Type 1} → statement M
+tick_spec = close (spec (λ c κs. search needs) (λ c κs. search needs) (λ c κs. search needs) (λ c κs. search needs) (λ c κs. search needs) returns)

@@ -2,9 +2,9 @@ use Rattle.laws.proofs.Prelude.{needs}
 use Rattle.relay_geo.specs.Set.{margin}
 use Rattle.relay_geo.proofs.set.RecoverableSet.margin.{Statement.statement, Tie.{close, spec}}
 
-pub margin-spec : {M : Type 1} → statement M
+pub margin_spec : {M : Type 1} → statement M
 unfolding margin
-margin-spec = close (spec (λ c κs. search needs) (λ c κs. search needs)
+margin_spec = close (spec (λ c κs. search needs) (λ c κs. search needs)
     (λ c. simp (← c.before.before.unknown.ensures, c.before.if1.taken, c.minus-infinity.ensures))
     (λ c κs. search needs) (λ c κs. search needs) (λ c κs. search needs)
     (λ c.

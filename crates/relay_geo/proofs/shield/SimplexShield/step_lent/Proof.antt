@@ -11,7 +11,7 @@ use Rattle.laws.proofs.Walk.{Ises, Are, valss, owns_make, mem, float_vals, float
 use Rattle.laws.proofs.Walk.{Triple, ensured, lasts, entered, cited, says, Stays, stay_ref, stay_none, walk_of, AllGo, Goes-none, Goes-ref, Walks, ends_at, walked, walk_Meets, yes}
 use Rattle.laws.proofs.Lent.{opened, answered, closed}
 use Rattle.relay_math.specs.declared.BodyRate.{BodyRate}
-use Rattle.relay_geo.specs.{declared.{shield.{SimplexShield.SimplexShield, Shielded.Shielded}, lent.Picked.Picked}, Lent.pickedOf}
+use Rattle.relay_geo.specs.{declared.{shield.{SimplexShield.SimplexShield, Shielded.Shielded}, lent.Picked.Picked}, Lent.picked_of}
 use Rattle.relay_geo.specs.contracts.shield.SimplexShield.{step.Symbol.name as #step, step_lent.Key.name as #step-lent}
 use denote.Struct.Laws as LL
 use Rattle.relay_math.specs.contracts.BodyRate as B
@@ -54,8 +54,8 @@ abbrev stayed : Stays (lent.ended).signature.params (lent.ended).kept
 stayed = (stay_ref (0 ∷ []) tt (plain (λ _. T.the_row)), (stay_none (λ _. f32) yes, (stay_none (λ _. B.the_row) yes, (stay_none (λ _. B.the_row) yes, tt))))
 
 -- the parts of what `step` answers: the shield, and what is handed on
-parts : (n : Shielded) → Is N.the_row n (shielded n) → Is T.the_row n.shield (shielding n.shield) × Is R.the_row (pickedOf n) (picked (pickedOf n))
-parts n is = let each = LL.owed N.the_type N'.the_laws n (shielded n) is in (each.0, LL.owes R.the_type R'.the_laws (pickedOf n) each.1)
+parts : (n : Shielded) → Is N.the_row n (shielded n) → Is T.the_row n.shield (shielding n.shield) × Is R.the_row (picked_of n) (picked (picked_of n))
+parts n is = let each = LL.owed N.the_type N'.the_laws n (shielded n) is in (each.0, LL.owes R.the_type R'.the_laws (picked_of n) each.1)
 
 module _ {M : Type 1} {𝓤 : Ura M} (𝓛 : Logic 𝓤) (at_mem : Memory → SProp 𝓤) (run : Routine → Fun 𝓤) where
   -- the contract that the proof cites, and what it says of an answer
@@ -87,14 +87,14 @@ module _ {M : Type 1} {𝓤 : Ura M} (𝓛 : Logic 𝓤) (at_mem : Memory → SP
   made : ent 𝓤 (emp 𝓤) (sem 𝓛 (owns others a (low a)))
   made = let rates = LL.makes B.the_type B'.the_plain 𝓛 in owns_make 𝓛 others (Ises others) (float_Makes 𝓛 binary32, (rates, (rates, tt))) a (low a) are
 
-  exits : Is R.the_row (pickedOf n) (picked (pickedOf n)) → ent 𝓤 (sep 𝓤 (A.obs γ ((T.the_row).coded.code n.shield)) (sep 𝓤 (A.bor κ (Body (mem T.the_row) b o γ)) (A.lft κ q)))
-      (Post (LL.val R.the_type R'.the_laws (pickedOf n)))
+  exits : Is R.the_row (picked_of n) (picked (picked_of n)) → ent 𝓤 (sep 𝓤 (A.obs γ ((T.the_row).coded.code n.shield)) (sep 𝓤 (A.bor κ (Body (mem T.the_row) b o γ)) (A.lft κ q)))
+      (Post (LL.val R.the_type R'.the_laws (picked_of n)))
   exits is =
       qed 𝓛 (‵ (fobs γ ((T.the_row).coded.code n.shield)) ∷ ‵ (fbor κ (Body (mem T.the_row) b o γ)) ∷ ‵ (flft κ q) ∷ []) ∵
-      suffices ! _ (ends_at 𝓛 lent.ended stayed (lent.clauses 𝓛 at_mem run) (((κ, tt), (q, tt), tt, x, at), tt) (LL.val R.the_type R'.the_laws (pickedOf n)) (pickedOf n)
+      suffices ! _ (ends_at 𝓛 lent.ended stayed (lent.clauses 𝓛 at_mem run) (((κ, tt), (q, tt), tt, x, at), tt) (LL.val R.the_type R'.the_laws (picked_of n)) (picked_of n)
       (n.shield, (tt, (tt, (tt, tt)))) (tt, (tt, (tt, (tt, tt))))) $ says ! (refl, refl) $
       nothing ! $ move ! (3 ∷ 0 ∷ []) $ join ! $ frame ! $ feq_i ! (List Val) (vptr b o ∷ []) (vptr b o ∷ []) refl $ fjoin3 ! $ use0 𝓛 (‵ (owns others a (low a))) made $ move ! (1 ∷ 0 ∷ []) $ fjoin ! $
-      owned ! R.the_row (Is R.the_row) (LL.makes R.the_type R'.the_plain 𝓛) (pickedOf n) _ is $ move ! (1 ∷ 0 ∷ []) $ done !
+      owned ! R.the_row (Is R.the_row) (LL.makes R.the_type R'.the_plain 𝓛) (picked_of n) _ is $ move ! (1 ∷ 0 ∷ []) $ done !
 
   abbrev to_step : (Step 𝓛 at_mem run).Ghost
   to_step = ((tt, tt, tt, (h, a), (shielding h, low a)), tt)
@@ -127,7 +127,7 @@ module _ {M : Type 1} {𝓤 : Ura M} (𝓛 : Logic 𝓤) (at_mem : Memory → SP
         (store_raw ! 0 refl ((LL.lawful T.the_type T'.the_laws 𝓛).typed n.shield _ (parts n is).0).0) $
         assigns ! (agg ! (and_then ! (load ! (from ! (fld ! refl (stop !))) (look_in ! 8 (sub ! 1 refl (whole !))))
         (and_then ! (load ! (from ! (fld ! refl (stop !))) (look_in ! 8 (sub ! 2 refl (whole !)))) (no_more !)))) (from ! (stop !))
-        (init ! 18 refl ((LL.lawful R.the_type R'.the_laws 𝓛).typed (pickedOf n) _ (parts n is).1).0) $
+        (init ! 18 refl ((LL.lawful R.the_type R'.the_laws 𝓛).typed (picked_of n) _ (parts n is).1).0) $
         closed T.the_type T'.the_laws ! tt T'.the_plain n.shield b o (parts n is).0 $
         returns ! (look ! 17 refl) $ forget ! 5 refl $ forget ! 7 refl $ forget ! 9 refl $ forget ! 11 refl $ forget ! 13 refl $ forget ! 15 refl $ forget ! 17 refl $
         move ! (17 ∷ 18 ∷ []) $ free1 ! $ move ! (15 ∷ 16 ∷ []) $ free1 ! $ move ! (13 ∷ 14 ∷ []) $ free1 ! $ move ! (11 ∷ 12 ∷ []) $ free1 ! $ move ! (9 ∷ 10 ∷ []) $ free1 ! $ move !
@@ -137,9 +137,9 @@ module _ {M : Type 1} {𝓤 : Ura M} (𝓛 : Logic 𝓤) (at_mem : Memory → SP
 module _ {M : Type 1} {𝓤 : Ura M} (𝓛 : Logic 𝓤) (at_mem : Memory → SProp 𝓤) (run : Routine → Fun 𝓤) where
   open 𝓛 use {H}
 
-  lent-walks : (C : Calls 𝓤 H) (Λ : Loops 𝓤 H) → FmC 𝓤 H 𝓛.laws C → Triple 𝓤 (C #step) (Step 𝓛 at_mem run) → Walks 𝓛 lent.ended stayed (WpFn 𝓤 H C Λ code.function)
+  lent_walks : (C : Calls 𝓤 H) (Λ : Loops 𝓤 H) → FmC 𝓤 H 𝓛.laws C → Triple 𝓤 (C #step) (Step 𝓛 at_mem run) → Walks 𝓛 lent.ended stayed (WpFn 𝓤 H C Λ code.function)
       (lent.clauses 𝓛 at_mem run)
-  lent-walks C Λ fm known = walked 𝓛 lent.ended stayed (lent.clauses 𝓛 at_mem run) (WpFn 𝓤 H C Λ code.function)
+  lent_walks C Λ fm known = walked 𝓛 lent.ended stayed (lent.clauses 𝓛 at_mem run) (WpFn 𝓤 H C Λ code.function)
       (λ κs. (mut_vals, (float_vals binary32, (rated, (rated, tt)))))
       (λ κs. (mut_Tells (named 0) κs.0 T.the_row, (float_Tells binary32, (LL.tells B.the_type B'.the_laws, (LL.tells B.the_type B'.the_laws, tt)))))
       (λ κs qs bounds a g are. via 𝓤 _ (fst∗ 𝓤 _ (emp 𝓤)) (walk 𝓛 at_mem run κs.0 qs.0 a.0.ref_ptr.0 a.0.ref_ptr.1 a.0.ghost_name a.0.now a.1 are.1 C Λ fm known))
@@ -149,14 +149,14 @@ module _ {M : Type 1} {𝓤 : Ura M} (𝓛 : Logic 𝓤) (at_mem : Memory → SP
       let rates = Goes-none 𝓛 1 (λ _. B.the_row) yes (λ κs x f. refl) in
       (Goes-ref 𝓛 1 0 tt (plain (λ _. T.the_row)), (Goes-none 𝓛 1 (λ _. f32) yes (λ κs x f. refl), (rates, (rates, tt))))
 
-  lent-meets : (𝓣 : Tables 𝓤 H) → Triple 𝓤 (𝓣.C #step) (Step 𝓛 at_mem run) → Meets 𝓛 lent.signature (WpFn 𝓤 H 𝓣.C 𝓣.Λ code.function) (lent.spec 𝓛 at_mem run)
-  lent-meets 𝓣 known = walk_Meets 𝓛 lent.ended stayed goes (lent.clauses 𝓛 at_mem run) (WpFn 𝓤 H 𝓣.C 𝓣.Λ code.function) (WpFn-mono 𝓤 H 𝓛.laws 𝓣 code.function)
-      (lent-walks 𝓣.C 𝓣.Λ (fm_of 𝓤 H 𝓛.laws 𝓣) known)
+  lent_meets : (𝓣 : Tables 𝓤 H) → Triple 𝓤 (𝓣.C #step) (Step 𝓛 at_mem run) → Meets 𝓛 lent.signature (WpFn 𝓤 H 𝓣.C 𝓣.Λ code.function) (lent.spec 𝓛 at_mem run)
+  lent_meets 𝓣 known = walk_Meets 𝓛 lent.ended stayed goes (lent.clauses 𝓛 at_mem run) (WpFn 𝓤 H 𝓣.C 𝓣.Λ code.function) (WpFn-mono 𝓤 H 𝓛.laws 𝓣 code.function)
+      (lent_walks 𝓣.C 𝓣.Λ (fm_of 𝓤 H 𝓛.laws 𝓣) known)
 
-pub step-lent-spec : {M : Type 1} → stated.statement M
+pub step_lent_spec : {M : Type 1} → stated.statement M
 unfolding code.routine tables_of
-step-lent-spec 𝓤 𝓛 𝓜 𝓡 =
+step_lent_spec 𝓤 𝓛 𝓜 𝓡 =
     entered 𝓤 𝓛.H (triple_of 𝓛 lent.signature (lent.spec 𝓛 𝓜.mem 𝓡.run))
     (tables 𝓤 𝓛.H 𝓜 𝓡 code.env).C (tables 𝓤 𝓛.H 𝓜 𝓡 code.env).Λ #step-lent code.function (code.unfolded 𝓤 𝓛.H 𝓜 𝓡)
-    (lent-meets 𝓛 𝓜.mem 𝓡.run (tables_of 𝓤 𝓛.H 𝓜 (tables 𝓤 𝓛.H 𝓜 𝓡 code.env))
+    (lent_meets 𝓛 𝓜.mem 𝓡.run (tables_of 𝓤 𝓛.H 𝓜 (tables 𝓤 𝓛.H 𝓜 𝓡 code.env))
     (cited 𝓤 𝓛.H (Step 𝓛 𝓜.mem 𝓡.run) 𝓜 𝓡 code.env #step step-def.routine code.calls-relay-geo::shield::SimplexShield::step (step_thm.met 𝓤 𝓛 𝓜 𝓡)))

@@ -88,11 +88,11 @@ module _ {M : Type 1} {𝓤 : Ura M} (𝓛 : Logic 𝓤) (at_mem : Memory → SP
       nothing ! $ move ! (3 ∷ 0 ∷ []) $ join ! $ frame ! $ feq_i ! (List Val) (vptr b o ∷ []) (vptr b o ∷ []) refl $ fjoin3 ! $ use0 𝓛 (‵ (owns others a (low a))) made $ move ! (1 ∷ 0 ∷ []) $ fjoin ! $
       owned ! f32 (Is f32) (float_Makes 𝓛 binary32) n.time _ is $ move ! (1 ∷ 0 ∷ []) $ done !
 
-  abbrev to-advance : (Advance 𝓛 at_mem run).Ghost
-  to-advance = ((tt, tt, tt, (h, a), (governed h, low a)), tt)
+  abbrev to_advance : (Advance 𝓛 at_mem run).Ghost
+  to_advance = ((tt, tt, tt, (h, a), (governed h, low a)), tt)
 
-  goes-advance : Is T.the_row h (governed h) → ent 𝓤 (emp 𝓤) ((Advance 𝓛 at_mem run).pre to-advance)
-  goes-advance was =
+  goes_advance : Is T.the_row h (governed h) → ent 𝓤 (emp 𝓤) ((Advance 𝓛 at_mem run).pre to_advance)
+  goes_advance was =
       qed 𝓛 [] ∵ nothing ! $ use0 𝓛 (‵ (owns others a (low a))) made $ owned ! T.the_row (Is T.the_row)
       (LL.makes T.the_type T'.the_plain 𝓛) h _ was $ fjoin ! $ nothing ! $ join ! $ join ! $ done !
 
@@ -107,8 +107,8 @@ module _ {M : Type 1} {𝓤 : Ura M} (𝓛 : Logic 𝓤) (at_mem : Memory → SP
         move ! (13 ∷ []) $ fsplit ! $ fsplit3 ! $ drop ! $ move ! (15 ∷ []) $ split ! $ move ! (2 ∷ 3 ∷ 0 ∷ []) $ opened T.the_type T'.the_laws ! tt h b o (λ was.
         -- [the governor's cell; the open borrow; obs; auth; …; …; _5; …; _4; …; _3; …; _2; …; _1; …; _0; …]
         assigns ! (of_opd ! (load ! (from ! (hop ! (look ! 14 refl) (stop !))) (look_raw ! 0 refl))) (from ! (stop !)) (init ! 6 refl ((LL.lawful T.the_type T'.the_laws 𝓛).typed h _ was).0) $
-        use0 𝓛 (raw ((Advance 𝓛 at_mem run).pre to-advance)) (goes-advance was) $
-        calls_at ! fm (Advance 𝓛 at_mem run) known to-advance (and_then ! (load ! (from ! (stop !)) (look ! 7 refl))
+        use0 𝓛 (raw ((Advance 𝓛 at_mem run).pre to_advance)) (goes_advance was) $
+        calls_at ! fm (Advance 𝓛 at_mem run) known to_advance (and_then ! (load ! (from ! (stop !)) (look ! 7 refl))
         (and_then ! (load ! (from ! (stop !)) (look ! 13 refl)) (and_then ! (load ! (from ! (stop !)) (look ! 11 refl)) (no_more !)))) (λ v.
         use1 𝓛 (later (some (λ (r : Advanced). (‵ ftrue ⊛ ‵ ((N.the_row).own_val r (v ∷ []))) ⊛ raw (Said 𝓛 at_mem run h a r)))) (id⊢ 𝓤 _) $ answered N.the_type N'.the_laws ! v n
         (Said 𝓛 at_mem run h a) (said 𝓛 at_mem run h a) (λ is.
@@ -126,23 +126,23 @@ module _ {M : Type 1} {𝓤 : Ura M} (𝓛 : Logic 𝓤) (at_mem : Memory → SP
 module _ {M : Type 1} {𝓤 : Ura M} (𝓛 : Logic 𝓤) (at_mem : Memory → SProp 𝓤) (run : Routine → Fun 𝓤) where
   open 𝓛 use {H}
 
-  lent-walks : (C : Calls 𝓤 H) (Λ : Loops 𝓤 H) → FmC 𝓤 H 𝓛.laws C → Triple 𝓤 (C #advance) (Advance 𝓛 at_mem run) → Walks 𝓛 lent.ended stayed (WpFn 𝓤 H C Λ code.function)
+  lent_walks : (C : Calls 𝓤 H) (Λ : Loops 𝓤 H) → FmC 𝓤 H 𝓛.laws C → Triple 𝓤 (C #advance) (Advance 𝓛 at_mem run) → Walks 𝓛 lent.ended stayed (WpFn 𝓤 H C Λ code.function)
       (lent.clauses 𝓛 at_mem run)
-  lent-walks C Λ fm known = walked 𝓛 lent.ended stayed (lent.clauses 𝓛 at_mem run) (WpFn 𝓤 H C Λ code.function)
+  lent_walks C Λ fm known = walked 𝓛 lent.ended stayed (lent.clauses 𝓛 at_mem run) (WpFn 𝓤 H C Λ code.function)
       (λ κs. (mut_vals, (float_vals binary32, (float_vals binary32, tt)))) (λ κs. (mut_Tells (named 0) κs.0 T.the_row, (float_Tells binary32, (float_Tells binary32, tt))))
       (λ κs qs bounds a g are. via 𝓤 _ (fst∗ 𝓤 _ (emp 𝓤)) (walk 𝓛 at_mem run κs.0 qs.0 a.0.ref_ptr.0 a.0.ref_ptr.1 a.0.ghost_name a.0.now a.1 are.1 C Λ fm known))
 
   goes : AllGo 𝓛 1 (lent.signature).params (lent.ended).kept stayed
   goes = (Goes-ref 𝓛 1 0 tt (plain (λ _. T.the_row)), (Goes-none 𝓛 1 (λ _. f32) yes (λ κs x f. refl), (Goes-none 𝓛 1 (λ _. f32) yes (λ κs x f. refl), tt)))
 
-  lent-meets : (𝓣 : Tables 𝓤 H) → Triple 𝓤 (𝓣.C #advance) (Advance 𝓛 at_mem run) → Meets 𝓛 lent.signature (WpFn 𝓤 H 𝓣.C 𝓣.Λ code.function) (lent.spec 𝓛 at_mem run)
-  lent-meets 𝓣 known = walk_Meets 𝓛 lent.ended stayed goes (lent.clauses 𝓛 at_mem run) (WpFn 𝓤 H 𝓣.C 𝓣.Λ code.function) (WpFn-mono 𝓤 H 𝓛.laws 𝓣 code.function)
-      (lent-walks 𝓣.C 𝓣.Λ (fm_of 𝓤 H 𝓛.laws 𝓣) known)
+  lent_meets : (𝓣 : Tables 𝓤 H) → Triple 𝓤 (𝓣.C #advance) (Advance 𝓛 at_mem run) → Meets 𝓛 lent.signature (WpFn 𝓤 H 𝓣.C 𝓣.Λ code.function) (lent.spec 𝓛 at_mem run)
+  lent_meets 𝓣 known = walk_Meets 𝓛 lent.ended stayed goes (lent.clauses 𝓛 at_mem run) (WpFn 𝓤 H 𝓣.C 𝓣.Λ code.function) (WpFn-mono 𝓤 H 𝓛.laws 𝓣 code.function)
+      (lent_walks 𝓣.C 𝓣.Λ (fm_of 𝓤 H 𝓛.laws 𝓣) known)
 
-pub advance-lent-spec : {M : Type 1} → stated.statement M
+pub advance_lent_spec : {M : Type 1} → stated.statement M
 unfolding code.routine tables_of
-advance-lent-spec 𝓤 𝓛 𝓜 𝓡 =
+advance_lent_spec 𝓤 𝓛 𝓜 𝓡 =
     entered 𝓤 𝓛.H (triple_of 𝓛 lent.signature (lent.spec 𝓛 𝓜.mem 𝓡.run))
     (tables 𝓤 𝓛.H 𝓜 𝓡 code.env).C (tables 𝓤 𝓛.H 𝓜 𝓡 code.env).Λ #advance-lent code.function (code.unfolded 𝓤 𝓛.H 𝓜 𝓡)
-    (lent-meets 𝓛 𝓜.mem 𝓡.run (tables_of 𝓤 𝓛.H 𝓜 (tables 𝓤 𝓛.H 𝓜 𝓡 code.env))
+    (lent_meets 𝓛 𝓜.mem 𝓡.run (tables_of 𝓤 𝓛.H 𝓜 (tables 𝓤 𝓛.H 𝓜 𝓡 code.env))
     (cited 𝓤 𝓛.H (Advance 𝓛 𝓜.mem 𝓡.run) 𝓜 𝓡 code.env #advance advance-def.routine code.calls-relay-traj::governor::RefGovernor::advance (advance-thm.met 𝓤 𝓛 𝓜 𝓡)))

@@ -1,0 +1,74 @@
+// One record more, in the caller's buffer. Nothing is asked of the caller; a refused call changes no byte. The work is the same whatever the log's
+// length.
+ghost use Rattle.std.specs.Prelude.{◌≡◌, ◌+◌, ◌*◌, ◌<◌, ◌≤◌, length};
+ghost use Rattle.words.specs.Words.{Put};
+ghost use Rattle.image.specs.Layout.{INPUT_BYTES, ANSWER_BYTES};
+ghost use Rattle.outcome.specs.Outcomes.{left};
+ghost use Rattle.flight_log.specs.Form.{RECORD_BYTES, LOG_TRAILER_BYTES, MOST_RECORDS, trailer_words};
+ghost use Rattle.flight_log.specs.Entry.{append_refusal, with_record, append_call};
+
+use super::form::{MOST_RECORDS, RECORD_BYTES, is_log, record_count};
+use image::{ANSWER_BYTES, INPUT_BYTES};
+use outcome::{Outcome, is_done};
+use words::{put_bytes, put_word};
+
+// What an append would be refused for.
+fn append_refusal(buffer: &[u8], log_len: usize, input_len: usize, answer_len: usize) -> Outcome
+    ensures { result ≡ append_refusal buffer.now log_len input_len answer_len }
+{
+    if input_len != INPUT_BYTES {
+        return Outcome::InputLength;
+    }
+    if answer_len != ANSWER_BYTES {
+        return Outcome::AnswerLength;
+    }
+    if log_len > buffer.len() {
+        return Outcome::BrokenLog;
+    }
+    let log = &buffer[..log_len];
+    if !is_log(log) {
+        return Outcome::BrokenLog;
+    }
+    if buffer.len() - log_len < RECORD_BYTES {
+        return Outcome::NoRoom;
+    }
+    if record_count(log) == MOST_RECORDS {
+        return Outcome::NoRoom;
+    }
+    Outcome::Done
+}
+
+// The trailer of so many records, from word k on.
+fn put_trailer(buffer: &mut [u8], k: usize, count: usize)
+    requires { (4 * k + LOG_TRAILER_BYTES ≤ length buffer.old) × (count ≤ MOST_RECORDS) }
+    ensures { Put buffer.old k (trailer_words count) buffer.new }
+{
+    put_word(buffer, k, count as u32);
+    put_word(buffer, k + 1, (RECORD_BYTES * count) as u32);
+    put_word(buffer, k + 2, RECORD_BYTES as u32);
+}
+
+// The record of an input and an answer after so many others, and the trailer after it. Bytes are copied as they stand.
+fn put_record(buffer: &mut [u8], count: usize, input: &[u8], answer: &[u8])
+    requires input_len { (length input.now ≡ INPUT_BYTES) × (length answer.now ≡ ANSWER_BYTES) }
+    requires count_in_bounds { (RECORD_BYTES * count + RECORD_BYTES + LOG_TRAILER_BYTES ≤ length buffer.old) × (count < MOST_RECORDS) }
+    ensures { buffer.new ≡ with_record buffer.old (RECORD_BYTES * count) (count + 1) input.now answer.now }
+{
+    let at = RECORD_BYTES * count;
+    put_bytes(buffer, at, input);
+    put_bytes(buffer, at + INPUT_BYTES, answer);
+    put_trailer(buffer, (at + RECORD_BYTES) / 4, count + 1);
+}
+
+// The record takes the place of the old trailer.
+pub fn append(buffer: &mut [u8], log_len: usize, input: &[u8], answer: &[u8]) -> Outcome
+    ensures { left result buffer.new ≡ append_call buffer.old log_len input.now answer.now }
+{
+    let refusal = append_refusal(buffer, log_len, input.len(), answer.len());
+    if !is_done(refusal) {
+        return refusal;
+    }
+    let count = record_count(&buffer[..log_len]);
+    put_record(buffer, count, input, answer);
+    Outcome::Done
+}

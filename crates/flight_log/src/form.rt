@@ -1,0 +1,49 @@
+// How a log stands in bytes: records of a tick's input and answer, then a trailer of three words, the count, how many bytes back the first record
+// starts, and the bytes of a record.
+ghost use Rattle.std.specs.Prelude.{◌≡◌, ◌≤◌, length};
+ghost use Rattle.flight_log.specs.Form.{LOG_TRAILER_BYTES, from_end, record_count, is_log};
+
+use image::{ANSWER_BYTES, INPUT_BYTES};
+use words::four_bytes;
+
+pub const RECORD_BYTES: usize = INPUT_BYTES + ANSWER_BYTES;
+
+pub const TRAILER_BYTES: usize = 12;
+
+pub const MOST_RECORDS: usize = 65535;
+
+// The word that starts so many bytes before the end.
+fn from_end(log: &[u8], back: usize) -> usize
+    requires { (4 ≤ back) × (back ≤ length log.now) }
+    ensures { result ≡ from_end log.now back }
+{
+    four_bytes(log, log.len() - back) as usize
+}
+
+pub(crate) fn record_count(log: &[u8]) -> usize
+    requires { LOG_TRAILER_BYTES ≤ length log.now }
+    ensures { result ≡ record_count log.now }
+{
+    from_end(log, TRAILER_BYTES)
+}
+
+// The count is tested before it is multiplied: 108 times 2^30 is 0 in 32 bits.
+pub fn is_log(log: &[u8]) -> bool
+    ensures { result ≡ is_log log.now }
+{
+    let length = log.len();
+    if length < TRAILER_BYTES {
+        return false;
+    }
+    if from_end(log, 4) != RECORD_BYTES {
+        return false;
+    }
+    let count = record_count(log);
+    if count > MOST_RECORDS {
+        return false;
+    }
+    if from_end(log, 8) != RECORD_BYTES * count {
+        return false;
+    }
+    length == RECORD_BYTES * count + TRAILER_BYTES
+}

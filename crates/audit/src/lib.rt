@@ -1,5 +1,7 @@
 // Logs from other boxes (request Ten of document 02): whether a log's flags are those that its own margins demand, and its commands those that its flags
 // demand. One pass over the lent log, which is only read.
+#![tactic(auto)]
+
 ghost use Rattle.std.specs.Prelude.{◌≡◌, true, ◌<◌, length};
 ghost use Rattle.std.specs.Float.Ieee.{lt};
 ghost use Rattle.outcome.specs.Outcomes.{left};
@@ -27,7 +29,7 @@ const FLAG: usize = INPUT_WORDS + image::FLAG;
 const MARGIN: usize = INPUT_WORDS + image::MARGIN;
 
 // What is said of a log: the place of a wrong record is counted from 0.
-#[derive(Drop)]
+#[derive(Clone, Copy)]
 pub enum Verdict {
     AllRight,
     FirstWrong(u32),

@@ -16,7 +16,7 @@ use outcome::{Outcome, is_done};
 use words::{float_at, put_float, put_word, vec_at, word_at};
 
 // How a call on a desk ends. The core's outcome is handed on as it is; the two of the desk's own come before it.
-#[derive(Drop)]
+#[derive(Clone, Copy)]
 pub enum DeskOutcome {
     DeskLength, // the desk's state
     SticksLength, // what is said of the sticks: their set-up, or where they stand

@@ -18,7 +18,7 @@ const FILTER_WORDS: usize = 5;
 const NEW_WORDS: usize = 3;
 
 // Named by what the value of each is for.
-#[derive(Drop)]
+#[derive(Clone, Copy)]
 pub struct Desk {
     pub heading: CommandFilter,
     pub turn: CommandFilter, // the heading's rate

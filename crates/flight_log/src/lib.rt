@@ -1,4 +1,6 @@
 // The flight log (request Two of document 02): records of one accepted tick each, written into a lent buffer and read back.
+#![tactic(auto)]
+
 mod entry; // entry.rt: one record more
 mod form; // form.rt: how a log stands in bytes, and which bytes are one
 mod into; // into.rt: the count and a record into lent buffers

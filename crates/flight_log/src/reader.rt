@@ -5,7 +5,7 @@ ghost use Rattle.flight_log.specs.Records.{record_at, place_after};
 
 use super::record::{place_after, record_at};
 
-#[derive(Drop)]
+#[derive(Clone, Copy)]
 pub struct Reader<'a> {
     pub log: &'a [u8],
     pub place: usize,

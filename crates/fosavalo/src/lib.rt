@@ -1,4 +1,6 @@
 // The C face: what a simulator links. Exported wrappers over the proved crates, and nothing else; include/fosavalo.h declares them.
+#![tactic(auto)]
+
 ghost use Rattle.std.specs.Prelude.{◌≡◌};
 ghost use Rattle.relay_math.specs.Exact.{Limit, IsSine, IsCosine};
 ghost use Rattle.relay_math.specs.Steps.{sinf, cosf};

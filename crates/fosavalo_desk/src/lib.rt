@@ -1,4 +1,6 @@
 // The desk's C face: exported wrappers over `desk`, and nothing else; include/fosavalo_desk.h declares them.
+#![tactic(auto)]
+
 ghost use Rattle.std.specs.Prelude.{◌≡◌};
 ghost use Rattle.outcome.specs.Outcomes.{left};
 ghost use Rattle.desk.specs.Entry.{desk_numbered, desk_set_up_call, centre_call, lent_to_desk, OnSegment, OnRoute, desk_tick_call};

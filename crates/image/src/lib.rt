@@ -1,4 +1,6 @@
 // The state in bytes: the image, what set-up and a tick are given, what a tick answers (added by document 01).
+#![tactic(auto)]
+
 mod inputs; // inputs.rt: what set-up and a tick are given, and what a tick answers
 mod image; // image.rt: the state image
 mod layout; // layout.rt: where each number stands

@@ -1,4 +1,6 @@
 // The joint tick over values (added by document 01): the state, set-up, and the tick in stages. Crate `calls` has the bytes.
+#![tactic(auto)]
+
 mod profile; // profile.rt: which rules a tick flies by
 mod setup; // setup.rt: the first state, and the exchange of its segment
 mod stages; // stages.rt: the tick, stage by stage

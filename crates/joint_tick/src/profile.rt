@@ -3,7 +3,7 @@ ghost use Rattle.std.specs.Prelude.{◌≡◌};
 ghost use Rattle.joint_tick.specs.Profile.{profile_word, is_profile, profile_of};
 
 // The old rules, or those of a craft that lost a rotor and can no longer hold yaw.
-#[derive(Drop)]
+#[derive(Clone, Copy)]
 pub enum Profile {
     Whole,
     LostRotor,

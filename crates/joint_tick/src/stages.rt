@@ -17,7 +17,7 @@ use relay_traj::{Sample3, Segment3};
 
 // What moves, with its fractions, filters and clock moved on, the filtered rate and the governor's time.
 #[repr(C)]
-#[derive(Drop)]
+#[derive(Clone, Copy)]
 pub struct Prepared {
     pub moving: Moving,
     pub rate: BodyRate,
@@ -26,7 +26,7 @@ pub struct Prepared {
 
 // The acceleration and the jerk that the trajectory asks for.
 #[repr(C)]
-#[derive(Drop)]
+#[derive(Clone, Copy)]
 pub struct Reference {
     pub acc: Vec3,
     pub jerk: Vec3,
@@ -34,7 +34,7 @@ pub struct Reference {
 
 // The two commands to choose from, the attitude error and the margin.
 #[repr(C)]
-#[derive(Drop)]
+#[derive(Clone, Copy)]
 pub struct Guided {
     pub fallback: BodyRate,
     pub psi: f32,
@@ -44,7 +44,7 @@ pub struct Guided {
 
 // What ADRC's observers see, axis by axis.
 #[repr(C)]
-#[derive(Drop)]
+#[derive(Clone, Copy)]
 pub struct Observed3 {
     pub roll: Observed,
     pub pitch: Observed,
@@ -53,7 +53,7 @@ pub struct Observed3 {
 
 // What comes of a tick after it was prepared. All else stays as it was prepared.
 #[repr(C)]
-#[derive(Drop)]
+#[derive(Clone, Copy)]
 pub struct Ticked {
     pub engaged: bool,
     pub rate: AdrcRate,

@@ -7,7 +7,7 @@ use relay_traj::{RefGovernor, Segment3};
 
 // What ticks never change.
 #[repr(C)]
-#[derive(Drop)]
+#[derive(Clone, Copy)]
 pub struct Fixed {
     pub gains: GeoGains,
     pub set: RecoverableSet,
@@ -19,7 +19,7 @@ pub struct Fixed {
 
 // What every tick moves on.
 #[repr(C)]
-#[derive(Drop)]
+#[derive(Clone, Copy)]
 pub struct Moving {
     pub engaged: bool,
     pub governor: RefGovernor,
@@ -29,7 +29,7 @@ pub struct Moving {
 
 // Everything that goes from tick to tick.
 #[repr(C)]
-#[derive(Drop)]
+#[derive(Clone, Copy)]
 pub struct State {
     pub fixed: Fixed,
     pub moving: Moving,
@@ -37,7 +37,7 @@ pub struct State {
 
 // One leg as it is given: start, end and duration, before mending.
 #[repr(C)]
-#[derive(Drop)]
+#[derive(Clone, Copy)]
 pub struct Leg {
     pub p0: Vec3,
     pub v0: Vec3,
@@ -50,7 +50,7 @@ pub struct Leg {
 
 // What set-up is given.
 #[repr(C)]
-#[derive(Drop)]
+#[derive(Clone, Copy)]
 pub struct SetUp {
     pub gains: GeoGains,
     pub set: RecoverableSet,
@@ -70,7 +70,7 @@ pub struct SetUp {
 
 // What a tick is given. `agile` is the planner's command, `fraction` how much of the last torque was delivered, axis by axis.
 #[repr(C)]
-#[derive(Drop)]
+#[derive(Clone, Copy)]
 pub struct TickInput {
     pub gyro: BodyRate,
     pub quat: Quat,
@@ -84,7 +84,7 @@ pub struct TickInput {
 
 // What a tick answers. `fallback` is the flag: the command is the fallback's.
 #[repr(C)]
-#[derive(Drop)]
+#[derive(Clone, Copy)]
 pub struct Answer {
     pub torque: Torque,
     pub command: BodyRate,

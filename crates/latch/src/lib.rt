@@ -1,4 +1,6 @@
 // The latch between the planner and the fallback, on margins alone: who has control (the shield of 000 steps by it).
+#![tactic(auto)]
+
 ghost use Rattle.std.specs.Prelude.{◌≡◌};
 ghost use Rattle.latch.specs.Latch.{engages, latch};
 

@@ -1,6 +1,4 @@
 -- Laws of no module. Assumes nothing.
 pub mod Tests
 pub mod Determined
-pub mod Lent
-pub mod Walk
 pub mod Prelude

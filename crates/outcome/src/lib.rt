@@ -1,9 +1,11 @@
 // How a call ends. Document 01 numbers the first five, requests One, Two, Six, Twelve and Fourteen of document 02 the next eight. The numbers above 12 are our own:
 // no document gives one to "there is no such record", nor to a wrong buffer for one.
+#![tactic(auto)]
+
 ghost use Rattle.std.specs.Prelude.{◌≡◌};
 ghost use Rattle.outcome.specs.Outcomes.{number, is_done};
 
-#[derive(Drop)]
+#[derive(Clone, Copy)]
 pub enum Outcome {
     Done,
     ImageLength,

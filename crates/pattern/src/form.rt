@@ -9,7 +9,7 @@ use image::LEG_BYTES;
 pub const LEG_ITEM_BYTES: usize = 1 + LEG_BYTES;
 
 // What an item starts with: a leg, a repeat with its count and the length of its inner bytes, or neither.
-#[derive(Drop)]
+#[derive(Clone, Copy)]
 pub enum Head {
     Neither,
     Leg,

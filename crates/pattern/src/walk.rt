@@ -10,7 +10,7 @@ use super::form::{Head, LEG_ITEM_BYTES, head_at};
 use route::MOST_LEGS;
 
 // How far the walk came, and how many legs it has found: 33 stands for more than 32.
-#[derive(Drop)]
+#[derive(Clone, Copy)]
 pub enum Walked {
     Broken,
     Past(usize, usize),

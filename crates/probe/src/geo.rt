@@ -17,21 +17,21 @@ use relay_math::{BodyRate, Torque, Vec3};
 // ---- answers that may be a refusal
 
 #[repr(C)]
-#[derive(Drop)]
+#[derive(Clone, Copy)]
 pub struct AxisAnswer {
     pub given: bool,
     pub axis: Vec3,
 }
 
 #[repr(C)]
-#[derive(Drop)]
+#[derive(Clone, Copy)]
 pub struct AttitudeAnswer {
     pub given: bool,
     pub matrix: Mat3,
 }
 
 #[repr(C)]
-#[derive(Drop)]
+#[derive(Clone, Copy)]
 pub struct RateAnswer {
     pub given: bool,
     pub rate: BodyRate,

@@ -7,7 +7,7 @@ ghost use Rattle.relay_adrc.specs.Inner.{axis_observe, axis_act};
 use crate::gains::AdrcGains;
 
 #[repr(C)]
-#[derive(Drop)]
+#[derive(Clone, Copy)]
 pub struct AdrcAxis {
     pub z1: f32, // the rate's estimate
     pub z2: f32, // the disturbance's estimate
@@ -19,7 +19,7 @@ pub struct AdrcAxis {
 
 // What the observer sees: the rate, the disturbance, and what the actuator delivers.
 #[repr(C)]
-#[derive(Drop)]
+#[derive(Clone, Copy)]
 pub struct Observed {
     pub z1: f32,
     pub z2: f32,
@@ -27,7 +27,7 @@ pub struct Observed {
 }
 
 #[repr(C)]
-#[derive(Drop)]
+#[derive(Clone, Copy)]
 pub struct AxisTick {
     pub axis: AdrcAxis,
     pub u: f32,

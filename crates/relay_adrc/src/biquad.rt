@@ -10,7 +10,7 @@ const PI: f32 = 3.14159274;
 const FRAC_1_SQRT_2: f32 = 0.70710677;
 
 #[repr(C)]
-#[derive(Drop)]
+#[derive(Clone, Copy)]
 pub struct Biquad {
     pub b0: f32,
     pub b1: f32,
@@ -24,7 +24,7 @@ pub struct Biquad {
 }
 
 #[repr(C)]
-#[derive(Drop)]
+#[derive(Clone, Copy)]
 pub struct Filtered {
     pub biquad: Biquad,
     pub y: f32,
@@ -107,7 +107,7 @@ impl Biquad {
 }
 
 #[repr(C)]
-#[derive(Drop)]
+#[derive(Clone, Copy)]
 pub struct GyroLpf {
     pub roll: Biquad,
     pub pitch: Biquad,
@@ -115,7 +115,7 @@ pub struct GyroLpf {
 }
 
 #[repr(C)]
-#[derive(Drop)]
+#[derive(Clone, Copy)]
 pub struct GyroFiltered {
     pub lpf: GyroLpf,
     pub rate: BodyRate,

@@ -30,7 +30,7 @@ pub fn clamp_sym(x: f32, m: f32) -> f32
 }
 
 #[repr(C)]
-#[derive(Drop)]
+#[derive(Clone, Copy)]
 pub struct CommandFilter {
     pub omega_n: f32, // the bandwidth, rad/s
     pub max_mag: f32,
@@ -40,7 +40,7 @@ pub struct CommandFilter {
 }
 
 #[repr(C)]
-#[derive(Drop)]
+#[derive(Clone, Copy)]
 pub struct Stepped {
     pub filter: CommandFilter,
     pub y: f32,
@@ -110,7 +110,7 @@ impl CommandFilter {
 }
 
 #[repr(C)]
-#[derive(Drop)]
+#[derive(Clone, Copy)]
 pub struct CommandFilter3 {
     pub roll: CommandFilter,
     pub pitch: CommandFilter,
@@ -118,7 +118,7 @@ pub struct CommandFilter3 {
 }
 
 #[repr(C)]
-#[derive(Drop)]
+#[derive(Clone, Copy)]
 pub struct Stepped3 {
     pub filter: CommandFilter3,
     pub y: BodyRate,

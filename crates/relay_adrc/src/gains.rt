@@ -3,7 +3,7 @@ ghost use Rattle.std.specs.Prelude.{◌≡◌};
 ghost use Rattle.relay_adrc.specs.Gains.{gains_new, with_tau, from_bandwidth, well_separated, eso_dt_stable};
 
 #[repr(C)]
-#[derive(Drop)]
+#[derive(Clone, Copy)]
 pub struct AdrcGains {
     pub omega_o: f32, // the observer's bandwidth, rad/s
     pub omega_c: f32, // the controller's bandwidth, rad/s

@@ -1,5 +1,7 @@
 // Linear ADRC rate loop, one axis and three; the gyro's low-pass; the command filter (002).
 // Every routine is total: any bit pattern of any argument is taken, and what is bad is mended where the Rust mends it.
+#![tactic(auto)]
+
 mod gains; // gains.rt: AdrcGains
 mod axis; // axis.rt: one axis of ADRC
 mod biquad; // biquad.rt: the low-pass of one axis and of the gyro

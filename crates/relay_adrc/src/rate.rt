@@ -7,7 +7,7 @@ use crate::gains::AdrcGains;
 use relay_math::{BodyRate, Torque, Vec3};
 
 #[repr(C)]
-#[derive(Drop)]
+#[derive(Clone, Copy)]
 pub struct AdrcRate {
     pub roll: AdrcAxis,
     pub pitch: AdrcAxis,
@@ -15,7 +15,7 @@ pub struct AdrcRate {
 }
 
 #[repr(C)]
-#[derive(Drop)]
+#[derive(Clone, Copy)]
 pub struct RateTick {
     pub rate: AdrcRate,
     pub torque: Torque,

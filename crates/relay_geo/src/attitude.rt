@@ -10,14 +10,14 @@ use super::vectors::{
 use relay_math::{BodyRate, Vec3, is_finite, sincos, sqrtf};
 
 // A rotation from body to NED, or a plain refusal that carries no number.
-#[derive(Drop)]
+#[derive(Clone, Copy)]
 pub enum Attitude {
     Matrix(Mat3),
     Refused,
 }
 
 // A feedforward body rate, or a plain refusal that carries no number.
-#[derive(Drop)]
+#[derive(Clone, Copy)]
 pub enum Feedforward {
     Rate(BodyRate),
     Refused,
@@ -25,7 +25,7 @@ pub enum Feedforward {
 
 // g - a and its length: what the attitude and the feedforward of one acceleration share, so that its root is taken once.
 #[repr(C)]
-#[derive(Drop)]
+#[derive(Clone, Copy)]
 pub struct Thrust {
     pub force: Vec3,
     pub norm: f32,

@@ -8,7 +8,7 @@ use relay_math::{BodyRate, Torque, Vec3};
 
 // The gains and the diagonal inertia (kg m^2), each axis by axis.
 #[repr(C)]
-#[derive(Drop)]
+#[derive(Clone, Copy)]
 pub struct GeoGains {
     pub k_r: Vec3,
     pub k_omega: Vec3,
@@ -33,7 +33,7 @@ impl GeoGains {
 }
 
 #[repr(C)]
-#[derive(Drop)]
+#[derive(Clone, Copy)]
 pub struct GeoAtt {
     pub gains: GeoGains,
 }

@@ -8,7 +8,7 @@ use relay_math::BodyRate;
 
 // What the Rust's `step` returns: the command that the shield passes on, and whether that is the fallback.
 #[repr(C)]
-#[derive(Drop)]
+#[derive(Clone, Copy)]
 pub struct Picked {
     pub command: BodyRate,
     pub fallback: bool,

@@ -1,5 +1,7 @@
 // The geometric attitude controller on SO(3) and the simplex shield (000). The Rust's one file has its sections in the order vectors, attitude,
 // controller, set, shield. Each is a file here; `lent` is ours. The lists below go by the alphabet.
+#![tactic(auto)]
+
 mod attitude; // attitude.rt: attitudes from quaternions, axes and headings
 mod controller; // controller.rt: errors, torques and rates
 mod lent; // lent.rt: the shield's step over a lent shield

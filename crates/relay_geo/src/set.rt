@@ -5,7 +5,7 @@ ghost use Rattle.relay_geo.specs.Set.{minus_infinity, unknown, smaller, new_set,
 use relay_math::{finite_or, is_finite};
 
 #[repr(C)]
-#[derive(Drop)]
+#[derive(Clone, Copy)]
 pub struct RecoverableSet {
     pub k_r: f32, // attitude gain of the Lyapunov function
     pub lambda_j: f32, // largest eigenvalue of the body's inertia

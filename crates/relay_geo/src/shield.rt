@@ -9,14 +9,14 @@ use relay_math::{BodyRate, finite_above};
 
 // Below `enter` the fallback takes over, above `exit` it hands back.
 #[repr(C)]
-#[derive(Drop)]
+#[derive(Clone, Copy)]
 pub struct Thresholds {
     pub enter: f32,
     pub exit: f32,
 }
 
 #[repr(C)]
-#[derive(Drop)]
+#[derive(Clone, Copy)]
 pub struct SimplexShield {
     pub set: RecoverableSet,
     pub engaged: bool,
@@ -26,7 +26,7 @@ pub struct SimplexShield {
 
 // The shield after a step, the command that it passes on, and whether that is the fallback.
 #[repr(C)]
-#[derive(Drop)]
+#[derive(Clone, Copy)]
 pub struct Shielded {
     pub shield: SimplexShield,
     pub command: BodyRate,

@@ -6,16 +6,16 @@ use relay_math::{Vec3, finite_above, finite_or, sqrtf_near_one};
 
 // Row-major: the Rust's `m[2][1]` is `m.2.1`.
 #[repr(C)]
-#[derive(Drop)]
+#[derive(Clone, Copy)]
 pub struct Mat3(pub Vec3, pub Vec3, pub Vec3);
 
 // w, x, y, z.
 #[repr(C)]
-#[derive(Drop)]
+#[derive(Clone, Copy)]
 pub struct Quat(pub f32, pub f32, pub f32, pub f32);
 
 // A direction of length one, or a plain refusal that carries no number.
-#[derive(Drop)]
+#[derive(Clone, Copy)]
 pub enum Direction {
     Axis(Vec3),
     Refused,

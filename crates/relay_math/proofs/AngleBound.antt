@@ -45,6 +45,9 @@ tiny_near s m e F K =
 -- a limit above 0 is above the zero
 zero_under : (limit : Float) → T (positive limit) → le Zero limit ≡ true
 zero_under (fin false m d) p = le_is 0 (pos 0) m d ∙ le-leb (0 * 1 * down d) (m * up d * 1) (omega arith)
+zero_under nan p = elim p [ ]
+zero_under (inf _) p = elim p [ ]
+zero_under (fin true m d) p = elim p [ ]
 
 abbrev Zeros : SineCosine → Type 0
 Zeros r = (r.sine ≡ fin false 0 (pos 0)) × (r.cosine ≡ fin false 0 (pos 0))

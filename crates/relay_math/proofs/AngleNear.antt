@@ -42,6 +42,8 @@ near_neg : (y : Float) (v : Value) → Near 23 y v → Near 23 (neg y) (negated 
 unfolding neg
 near_neg (fin true m e) v h = rw (← mirrored (m * up e) (down e) v.minus v.plus v.over) h
 near_neg (fin false m e) v h = rw (mirrored (m * up e) (down e) v.plus v.minus v.over) h
+near_neg nan v h = elim h [ ]
+near_neg (inf _) v h = elim h [ ]
 
 near_signed : (s : Bool) (y : Float) (v : Value) → Near 23 y v → Near 23 (signed s y) (negated_if s v)
 near_signed true y v h = near_neg y v h

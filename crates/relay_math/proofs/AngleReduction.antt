@@ -52,6 +52,8 @@ unfolding fabsf le lt eq
 known (fin s m e) f h k =
     parts s m e f (omega (arith, leb→le (1 * 1 * down e) (m * up e * 4096) (subst T (le_is 1 (negsuc 11) m e) h)))
     (omega (arith, leb→le (m * up e * 1) (1 * 8192 * down e) (subst T (le_is m e 1 (pos 13)) k)))
+known nan f h k = elim h [ ]
+known (inf _) f h k = elim k [ ]
 
 -- ---- what u grains turn to: n modulo 4, the rest, and whether it is negative
 pub record Turn (u n R : ℕ) (b : Bool) : Type 0 where

@@ -1,5 +1,5 @@
 -- Laws for callers: what `finite_or` gives, and that sine and cosine are finite for every f32. Assumes nothing.
-use Rattle.laws.proofs.Prelude.{◌≡◌, refl, sym, subst, Bool, true, false, not, cond, T, Float, fin, binary32, fits, of_bits, held}
+use Rattle.laws.proofs.Prelude.{inf, nan, ◌≡◌, refl, sym, subst, Bool, true, false, not, cond, T, Float, fin, binary32, fits, of_bits, held}
 use lib.Ieee.Bits.{is_true}
 use Rattle.relay_math.specs.{Exact.{Value, Near, in_range}, F32.{0·0, is_finite, finite_or}, Steps.{sinf, cosf}}
 use Rattle.relay_math.proofs.AngleBound.{sincos_far, sinf_rule, cosf_rule}
@@ -25,6 +25,8 @@ sin_cos_far x h = sincos_far x h
 near_finite : (y : Float) (v : Value) → Near 20 y v → T (is_finite y)
 unfolding is_finite
 near_finite (fin s m e) v h = tt
+near_finite nan v h = elim h [ ]
+near_finite (inf _) v h = elim h [ ]
 
 pub sin_cos_finite : (x : Float) → T (fits binary32 x) → T (is_finite (sinf x)) × T (is_finite (cosf x))
 unfolding is_finite in_range of_bits

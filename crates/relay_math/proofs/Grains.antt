@@ -1,5 +1,5 @@
 -- A finite f32 is a whole number of grains: q * 2 ^ k of them, with a q below 2 ^ 24, and its bit pattern is then k * 2 ^ 23 + q. Assumes nothing.
-use Rattle.laws.proofs.Prelude.{◌≡◌, refl, sym, ap, ◌∙◌, ℕ, zero, suc, ◌+◌, ◌-◌, ◌*◌, ◌/◌, ◌%◌, ◌^◌, ◌≤◌, ◌<◌, le_trans, le_of_eq, lt_of_lt_of_le, lt_of_le_of_lt, lt_of_not-le, not-le_of_lt, zero-add}
+use Rattle.laws.proofs.Prelude.{inf, nan, true, ◌≡◌, refl, sym, ap, ◌∙◌, ℕ, zero, suc, ◌+◌, ◌-◌, ◌*◌, ◌/◌, ◌%◌, ◌^◌, ◌≤◌, ◌<◌, le_trans, le_of_eq, lt_of_lt_of_le, lt_of_le_of_lt, lt_of_not-le, not-le_of_lt, zero-add}
 use Rattle.laws.proofs.Prelude.{zero-mul, one-mul, mul-one, mul_assoc, mul_right_comm, mul-pos, mul-le-mul_right, mul-lt-mul_of_pos_right, le_of_mul-le-mul_right, arith, Bool, false, ◌&&◌, ℤ, pos}
 use Rattle.laws.proofs.Prelude.{negsuc, T, leb, ltb, eqb, lit<, leb→le, pow-add, pow_pos, pow_mono, shl_lt, Float, fin, binary32, up, down, fits, size, of_bits, to_bits}
 use Rattle.std.proofs.Common.{lt_of_mul-lt-mul_right, mul-div_cancel}
@@ -11,6 +11,8 @@ use Rattle.relay_math.proofs.Signs.{of_value}
 pub grains_of : (x : Float) (s : Bool) (G : ℕ) → HasValue x s G (2 ^ 149) → grains x ≡ G
 unfolding grains
 grains_of (fin t m e) s G v = ap (λ (a : ℕ). a / down e) v.1 ∙ mul-div_cancel G (down_pos e)
+grains_of nan s G v = elim v [ ]
+grains_of (inf _) s G v = elim v [ ]
 
 pub shift : (m j k : ℕ) → k ≤ j → m * 2 ^ j ≡ m * 2 ^ (j - k) * 2 ^ k
 shift m j k h = ap (λ (x : ℕ). m * x) (ap (λ (x : ℕ). 2 ^ x) (sym (back j k h)) ∙ pow-add 2 (j - k) k) ∙ sym (mul_assoc m (2 ^ (j - k)) (2 ^ k))
@@ -102,3 +104,9 @@ same_grains x y p q f g h = sym (of_bits-to_bits binary32 x f) ∙ ap (of_bits b
   where
     bits : (x y : Float) → T (natural x) → T (natural y) → grains x ≡ grains y → to_bits binary32 x ≡ to_bits binary32 y
     bits (fin false m d) (fin false n c) p q e = unfold to_bits grains in rw e
+    bits nan _ p q e = elim p [ ]
+    bits (inf _) _ p q e = elim p [ ]
+    bits (fin false m d) nan p q e = elim q [ ]
+    bits (fin false m d) (inf _) p q e = elim q [ ]
+    bits (fin false m d) (fin true n c) p q e = elim q [ ]
+    bits (fin true m d) _ p q e = elim p [ ]

@@ -63,11 +63,13 @@ pub finite_number : (x : Float) → T (is_finite x) → Number x
 unfolding is_finite is_nan
 finite_number (inf s) h = tt
 finite_number (fin s m e) h = tt
+finite_number nan h = elim h [ ]
 
 pub le_left : (x y : Float) → T (le x y) → Number x
 unfolding le is_nan
 le_left (inf s) y h = tt
 le_left (fin s m e) y h = tt
+le_left nan y h = elim h [ ]
 
 pub le_right : (x y : Float) → T (le x y) → Number y
 unfolding le is_nan
@@ -75,6 +77,9 @@ le_right (inf s) (inf t) h = tt
 le_right (inf s) (fin t n d) h = tt
 le_right (fin s m e) (inf t) h = tt
 le_right (fin s m e) (fin t n d) h = tt
+le_right nan y h = elim h [ ]
+le_right (inf s) nan h = elim h [ ]
+le_right (fin s m e) nan h = elim h [ ]
 
 pub le_is_not_above : (x y : Float) → Number x → Number y → le y x ≡ not (lt x y)
 unfolding is_nan lt le eq
@@ -87,6 +92,10 @@ le_is_not_above (inf false) (fin t n d) p q = refl
 le_is_not_above (fin s m e) (inf true) p q = refl
 le_is_not_above (fin s m e) (inf false) p q = refl
 le_is_not_above (fin s m e) (fin t n d) p q = signs s (m * up e * down d) t (n * up d * down e)
+le_is_not_above nan y p q = elim p [ ]
+le_is_not_above (inf false) nan p q = elim q [ ]
+le_is_not_above (inf true) nan p q = elim q [ ]
+le_is_not_above (fin s m e) nan p q = elim q [ ]
 
 -- so of two numbers one is at most the other
 pub le_of_not_lt : (x y : Float) → Number x → Number y → lt x y ≡ false → T (le y x)
@@ -111,6 +120,17 @@ le_trans (inf false) (inf false) z h k = k
 le_trans (fin s m e) (inf false) (inf false) h k = tt
 le_trans (fin s m e) (fin t n d) (inf false) h k = tt
 le_trans (fin s m e) (fin t n d) (fin u l c) h k = finite_trans s m e t n d u l c h k
+le_trans nan y z h k = elim h [ ]
+le_trans (inf false) nan z h k = elim h [ ]
+le_trans (inf false) (inf true) z h k = elim h [ ]
+le_trans (inf false) (fin t n d) z h k = elim h [ ]
+le_trans (fin s m e) nan z h k = elim h [ ]
+le_trans (fin s m e) (inf false) nan h k = elim k [ ]
+le_trans (fin s m e) (inf false) (inf true) h k = elim k [ ]
+le_trans (fin s m e) (inf false) (fin u l c) h k = elim k [ ]
+le_trans (fin s m e) (inf true) z h k = elim h [ ]
+le_trans (fin s m e) (fin t n d) nan h k = elim k [ ]
+le_trans (fin s m e) (fin t n d) (inf true) h k = elim k [ ]
 
 pub le_of_lt : (x y : Float) → lt x y ≡ true → T (le x y)
 unfolding le
@@ -162,6 +182,12 @@ within_finite lo hi (fin s m e) p q w = tt
 within_finite (fin s m e) hi nan p q w = absurd w.0
 within_finite (fin s m e) hi (inf true) p q w = absurd w.0
 within_finite (fin s m e) (fin t n d) (inf false) p q w = absurd w.1
+within_finite nan hi nan p q w = elim p [ ]
+within_finite (inf _) hi nan p q w = elim p [ ]
+within_finite nan hi (inf _) p q w = elim p [ ]
+within_finite (inf _) hi (inf _) p q w = elim p [ ]
+within_finite (fin s m e) nan (inf false) p q w = elim q [ ]
+within_finite (fin s m e) (inf _) (inf false) p q w = elim q [ ]
 
 module _ (lo hi : Float) (h : T (le lo hi)) where
   pub low_within : Within lo hi lo

@@ -1,5 +1,5 @@
 -- `nearest_root n` is the one whole number nearest to √n; and where N is n * 4 ^ k, no f32 is as near √N grains as its 2 ^ k-fold. Assumes nothing.
-use Rattle.laws.proofs.Prelude.{◌≡◌, refl, sym, ◌∙◌, ◌⊎◌, inl, inr, ℕ, zero, suc, ◌+◌, ◌-◌, ◌*◌, ◌/◌, ◌^◌, ◌≤◌, ◌<◌, le_of_eq, lt_of_lt_of_le, lt_of_not-le, le_trans, le_of_suc-le-suc, eq-or-lt_of_le}
+use Rattle.laws.proofs.Prelude.{inf, nan, ◌≡◌, refl, sym, ◌∙◌, ◌⊎◌, inl, inr, ℕ, zero, suc, ◌+◌, ◌-◌, ◌*◌, ◌/◌, ◌^◌, ◌≤◌, ◌<◌, le_of_eq, lt_of_lt_of_le, lt_of_not-le, le_trans, le_of_suc-le-suc, eq-or-lt_of_le}
 use Rattle.laws.proofs.Prelude.{mul-le-mul, mul-le-mul_right, mul-lt-mul_of_pos_right, mul-pos, zero-lt-suc, pow-suc, arith, Bool, true, false, not, cond, T, leb, leb→le, pow-add, pow_pos, pow_mono}
 use Rattle.laws.proofs.Prelude.{shl_lt, Float, fin, binary32, fits, le_or_lt}
 use Rattle.std.proofs.Common.{div-lt_iff_lt-mul, lt_of_mul-lt-mul_right}
@@ -61,6 +61,9 @@ on_grid k (fin false m e) t p =
       | inl a ↦ inl (w.q * 2 ^ (w.k - k), w.is ∙ shift w.q w.k k a)
       | inr a ↦ inr (rw w.is (lt_of_lt_of_le (shl_lt 24 w.k w.few) (le_trans (pow_mono (omega arith)) (le_of_eq (pow-add 2 23 k)))))
     ]
+on_grid k nan t p = elim p [ ]
+on_grid k (inf _) t p = elim p [ ]
+on_grid k (fin true m e) t p = elim p [ ]
 
 -- ---- the squares: r * G is nearer than a Y above it, and than a Y below it
 module _ (n r G N Y : ℕ) (p : 0 < G) (e : N ≡ n * (G * G)) (y : Grid G Y) (c : Closest n r) (low : 2 ^ 23 ≤ r) (least : 2 ^ 46 ≤ n) where

@@ -1,5 +1,5 @@
 -- A float against zero, and what it is written as. Assumes nothing.
-use Rattle.laws.proofs.Prelude.{◌≡◌, refl, sym, subst, Bool, true, false, not, cond, ℕ, zero, suc, ◌+◌, ◌*◌, ◌^◌, ◌<◌, mul-pos, zero-lt-suc, arith, lt-ltb, le-ltb, ne_eqb, ℤ, pos, T, leb, ltb, Float}
+use Rattle.laws.proofs.Prelude.{nan, ◌≡◌, refl, sym, subst, Bool, true, false, not, cond, ℕ, zero, suc, ◌+◌, ◌*◌, ◌^◌, ◌<◌, mul-pos, zero-lt-suc, arith, lt-ltb, le-ltb, ne_eqb, ℤ, pos, T, leb, ltb, Float}
 use Rattle.laws.proofs.Prelude.{inf, fin, binary32, fits, is_nan, up, down, round, units, odd, lt, le, eq}
 use lib.Ieee.{Back.whole_unique, Exact.HasValue, Fits.{up_pos, round_is}, Positive.positive}
 use Rattle.laws.proofs.Tests.{ordered}
@@ -40,9 +40,15 @@ le_is m e n d = ordered (m * up e * down d) (n * up d * down e)
 -- ---- what a float is written as: a positive one, one of the value a / c, one that was rounded
 pub of_positive : (P : Float → Type 0) → ((m : ℕ) (e : ℤ) → T (fits binary32 (fin false (suc m) e)) → P (fin false (suc m) e)) → (x : Float) → T (fits binary32 x) → T (positive x) → P x
 of_positive P h (fin false (suc m) e) f p = h m e f
+of_positive P h nan f p = elim p [ ]
+of_positive P h (inf _) f p = elim p [ ]
+of_positive P h (fin false zero e) f p = elim p [ ]
+of_positive P h (fin true _ e) f p = elim p [ ]
 
 pub of_value : (P : Float → Type 0) (s : Bool) (a c : ℕ) → ((m : ℕ) (e : ℤ) → HasValue (fin s m e) s a c → P (fin s m e)) → (x : Float) → HasValue x s a c → P x
 of_value P s a c h (fin t m e) v = subst (λ (t : Bool). HasValue (fin t m e) s a c → P (fin t m e)) (sym v.0) (h m e) v
+of_value P s a c h nan v = elim v [ ]
+of_value P s a c h (inf _) v = elim v [ ]
 
 of_units : (P : Float → Type 0) (s : Bool) → ((m : ℕ) (e : ℤ) → P (fin s m e)) → P (inf s) → (q k : ℕ) → P (units binary32 s q k)
 unfolding units odd

@@ -13,6 +13,8 @@ Small x = T (le (fabsf x) 1·0)
 pub size_finite : (x : Float) → T (le (fabsf x) 1·0) → T (is_finite x)
 unfolding is_finite fabsf le lt eq of_bits
 size_finite (fin s m e) h = tt
+size_finite nan h = elim h [ ]
+size_finite (inf _) h = elim h [ ]
 
 -- a fraction of at most 1 rounds to at most 1
 round_small : (a c : ℕ) → 0 < c → a ≤ c → Small (round binary32 false a c)
@@ -75,3 +77,7 @@ product_finite (fin s m e) (fin t n d) h k =
     let a = m * up e * (n * up d) in let c = down e * down d in
     let r : Small (round binary32 false a c) = round_small a c (mul-pos (down_pos e) (down_pos d)) (mul-le-mul (as_fraction m e h) (as_fraction n d k)) in
     size_finite (round binary32 (unlike s t) a c) (rw (round_signed (unlike s t) a c) (signed_small (unlike s t) (round binary32 false a c) r))
+product_finite nan y h k = elim h [ ]
+product_finite (inf _) y h k = elim h [ ]
+product_finite (fin s m e) nan h k = elim k [ ]
+product_finite (fin s m e) (inf _) h k = elim k [ ]

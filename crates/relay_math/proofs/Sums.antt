@@ -1,6 +1,6 @@
 -- Rounded fractions, products and sums of floats that are not below zero: a product is not below zero, a sum is no less than what was added to,
 -- and adding a zero changes nothing. Assumes nothing.
-use Rattle.laws.proofs.Prelude.{◌≡◌, refl, sym, ap, ◌∙◌, subst, Bool, true, false, ◌&&◌, cond, ℕ, zero, suc, ◌+◌, ◌-◌, ◌*◌, ◌^◌, ◌≤◌, ◌<◌, compare, zero-mul, mul-zero, mul-one, mul-pos, mul_comm}
+use Rattle.laws.proofs.Prelude.{nan, ◌≡◌, refl, sym, ap, ◌∙◌, subst, Bool, true, false, ◌&&◌, cond, ℕ, zero, suc, ◌+◌, ◌-◌, ◌*◌, ◌^◌, ◌≤◌, ◌<◌, compare, zero-mul, mul-zero, mul-one, mul-pos, mul_comm}
 use Rattle.laws.proofs.Prelude.{mul_assoc, mul_right_comm, mul-le-mul_right, zero-add, add-zero, sub-zero, arith, le-ltb, ltb-false, T, ltb, lit<, ℤ, pos, Float, inf, fin, binary32, fits, up, down}
 use Rattle.laws.proofs.Prelude.{unlike, round, sum, add, mul, le, lt, eq, is_nan, nearest, of_bits, no}
 use native.Mathlib.Nat.{zero-div, zero-mod, eq_of_mul-eq-mul_right}
@@ -77,11 +77,19 @@ product_not_below (fin true m e) (fin true n d) f g p q = round_not_below (m * u
 product_not_below (fin false m e) (fin false n d) f g p q = round_not_below (m * up e * (n * up d)) (down e * down d) (mul-pos (down_pos e) (down_pos d))
 product_not_below (fin true m e) (fin false n d) f g p q = rounds_zero true (m * up e * (n * up d)) (down e * down d) (rw (none m e true p refl) (zero-mul (n * up d)))
 product_not_below (fin false m e) (fin true n d) f g p q = rounds_zero true (m * up e * (n * up d)) (down e * down d) (rw (none n d true q refl) (mul-zero (m * up e)))
+product_not_below nan y f g p q = elim f [ ]
+product_not_below (inf _) y f g p q = elim f [ ]
+product_not_below (fin false m e) nan f g p q = elim g [ ]
+product_not_below (fin false m e) (inf _) f g p q = elim g [ ]
+product_not_below (fin true m e) nan f g p q = elim g [ ]
+product_not_below (fin true m e) (inf _) f g p q = elim g [ ]
 
 -- anything finite times +0 is a zero
 pub zero_times : (x : Float) → T (is_finite x) → (b : Bool) × (x ⊗ 0·0 ≡ fin b 0 (pos 0))
 unfolding mul is_finite of_bits
 zero_times (fin s m e) f = (unlike s false, rw mul-zero (round_zero (unlike s false) (down e * 1)))
+zero_times nan f = elim f [ ]
+zero_times (inf _) f = elim f [ ]
 
 -- ---- a sum
 
@@ -125,6 +133,12 @@ sum_grows (fin true m e) (fin true n d) f p q =
     let a = scaled m e d (none m e true p refl) in let b = scaled n d e (none n d true q refl) in
     let w = m * up e * down d + n * up d * down e in
     rw (plus_is true m e true n d p q) (minus_first m e (round binary32 true w (over e d)) (rounds_zero true w (over e d) (omega arith)))
+sum_grows nan y f p q = elim p [ ]
+sum_grows (inf false) nan f p q = elim q [ ]
+sum_grows (inf false) (inf true) f p q = elim q [ ]
+sum_grows (inf true) y f p q = elim p [ ]
+sum_grows (fin s m e) nan f p q = elim q [ ]
+sum_grows (fin s m e) (inf true) f p q = elim q [ ]
 
 -- a zero added: to a float with no minus sign it gives that float, bit for bit
 pub zero_adds_nothing : (x : Float) (b : Bool) → T (fits binary32 x) → T (unsigned x) → x ⊕ fin b 0 (pos 0) ≡ x
@@ -132,6 +146,8 @@ unfolding add
 zero_adds_nothing (inf s) b f u = refl
 zero_adds_nothing (fin false m e) b f u = sum_is false (m * up e * 1) b (0 * down e) (down e * 1) (λ h. no h) (λ h. zero-mul (down e))
     ∙ rw (zero-mul (down e), add-zero (m * up e * 1), mul-one (m * up e), mul-one (down e)) (round_own m e f)
+zero_adds_nothing nan b f u = elim u [ ]
+zero_adds_nothing (fin true m e) b f u = elim u [ ]
 
 -- and the same number, if -0 is one
 pub zero_keeps_number : (x : Float) (b : Bool) → T (fits binary32 x) → T (le 0·0 x) → T (eq x (x ⊕ fin b 0 (pos 0)))
@@ -141,3 +157,5 @@ zero_keeps_number (fin false m e) b f p = rw (zero_adds_nothing (fin false m e) 
 zero_keeps_number (fin true m e) b f p =
     let z : fin true m e ⊕ fin b 0 (pos 0) ≡ fin b 0 (pos 0) = plus_is true m e b 0 (pos 0) p (zero_level b).0 ∙ rw (none m e true p refl, zero-mul (down e)) (round_zero b (down e * 1)) in
     rw z (eq_of_le (fin true m e) (fin b 0 (pos 0)) (minus_first m e (fin b 0 (pos 0)) (zero_level b).0) (le_trans (fin b 0 (pos 0)) 0·0 (fin true m e) (zero_level b).1 p))
+zero_keeps_number nan b f p = elim p [ ]
+zero_keeps_number (inf true) b f p = elim p [ ]

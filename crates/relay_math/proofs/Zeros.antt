@@ -1,5 +1,5 @@
 -- Zeros of either sign: what is made of them, or by a product with one, is one again. Assumes nothing.
-use Rattle.laws.proofs.Prelude.{refl, subst, Bool, true, false, not, ◌&&◌, ℕ, zero, suc, ◌*◌, zero-mul, mul-zero, ℤ, pos, T, Float, fin, binary32, up, down, unlike, round, neg, add, sub, mul, eq}
+use Rattle.laws.proofs.Prelude.{inf, nan, refl, subst, Bool, true, false, not, ◌&&◌, ℕ, zero, suc, ◌*◌, zero-mul, mul-zero, ℤ, pos, T, Float, fin, binary32, up, down, unlike, round, neg, add, sub, mul, eq}
 use Rattle.laws.proofs.Prelude.{of_bits}
 use Rattle.relay_math.specs.F32.{◌⊕◌, ◌⊖◌, ◌⊗◌, 0·0, is_finite}
 use Rattle.relay_math.proofs.{Signs.not_zero, Sums.{round_zero, sum_is}}
@@ -17,6 +17,8 @@ pub is_zero : (x : Float) → T (eq x 0·0) → IsZero x
 unfolding eq of_bits
 is_zero (fin s zero e) h = none s e
 is_zero (fin s (suc m) e) h = absurd (subst T (not_zero m e s) h)
+is_zero nan h = elim h [ ]
+is_zero (inf _) h = elim h [ ]
 
 pub finite : {x : Float} → IsZero x → T (is_finite x)
 unfolding is_finite
@@ -30,10 +32,14 @@ rounded s c = rw (round_zero s c) (none s (pos 0))
 pub times : (x : Float) {y : Float} → T (is_finite x) → IsZero y → IsZero (x ⊗ y)
 unfolding mul is_finite
 times (fin s m e) f (none t d) = simp (zero-mul, mul-zero) (rounded (unlike s t) (down e * down d))
+times nan {y = y} f _ = elim f [ ]
+times (inf _) {y = y} f _ = elim f [ ]
 
 pub by : {x : Float} (y : Float) → IsZero x → T (is_finite y) → IsZero (x ⊗ y)
 unfolding mul is_finite
 by (fin t n d) (none s e) f = simp zero-mul (rounded (unlike s t) (down e * down d))
+by nan _ f = elim f [ ]
+by (inf _) _ f = elim f [ ]
 
 pub plus : {x y : Float} → IsZero x → IsZero y → IsZero (x ⊕ y)
 unfolding add

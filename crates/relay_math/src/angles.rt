@@ -37,14 +37,14 @@ const COSINE_2: u64 = 0x5B05B0;
 const COSINE_3: u64 = 0x19D60;
 
 #[repr(C)]
-#[derive(Drop)]
+#[derive(Clone, Copy)]
 pub struct SineCosine {
     pub sine: f32,
     pub cosine: f32,
 }
 
 // What is left of a size when the nearest multiple n of P is taken off: n modulo 4, the rest's size in units of 2^-48, its square in units of 2^-32, and whether n P is the larger.
-#[derive(Drop)]
+#[derive(Clone, Copy)]
 struct Reduced {
     n: u64,
     r: u64,

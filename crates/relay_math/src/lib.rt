@@ -1,5 +1,7 @@
 // Numbers (004): square root, sine, cosine, absolute value and finiteness of an f32, for every bit pattern.
 // Vectors, body rates and torques are declared here too, so that every crate above has one kind of each.
+#![tactic(auto)]
+
 ghost use Rattle.std.specs.Prelude.{◌≡◌};
 ghost use Rattle.relay_math.specs.F32.{is_finite, finite_or, finite_above, clamp, fabsf};
 
@@ -12,17 +14,17 @@ pub use sqrt::{sqrtf, sqrtf_near_one};
 
 // Three numbers with no meaning of their own: the Rust's `[f32; 3]`, and `v.0`, `v.1`, `v.2` for its `v[0]`, `v[1]`, `v[2]`.
 #[repr(C)]
-#[derive(Drop)]
+#[derive(Clone, Copy)]
 pub struct Vec3(pub f32, pub f32, pub f32);
 
 // An angular velocity in the body's axes, rad/s.
 #[repr(C)]
-#[derive(Drop)]
+#[derive(Clone, Copy)]
 pub struct BodyRate(pub Vec3);
 
 // A torque about the body's axes.
 #[repr(C)]
-#[derive(Drop)]
+#[derive(Clone, Copy)]
 pub struct Torque(pub Vec3);
 
 // The size of x: its sign dropped. Of a zero comes +0.0, for 0.0 - 0.0 is that. One test and no more: the compiler makes one instruction of it, where a

@@ -1,10 +1,12 @@
 // Of 003, `euler_to_quaternion` alone: document 01 leaves out the rest, the position controller.
+#![tactic(auto)]
+
 ghost use Rattle.std.specs.Prelude.{◌≡◌};
 ghost use Rattle.relay_pos.specs.Euler.{euler_to_quaternion};
 
 // w, x, y, z: the Rust's `[f32; 4]`.
 #[repr(C)]
-#[derive(Drop)]
+#[derive(Clone, Copy)]
 pub struct Quaternion(pub f32, pub f32, pub f32, pub f32);
 
 // Angles in rad: the turn by yaw, then pitch, then roll. Sine and cosine of a half-angle share one reduction.

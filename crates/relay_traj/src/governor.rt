@@ -4,7 +4,7 @@ ghost use Rattle.relay_traj.specs.Governor.{low_end, clamp_to, ramp, no_band, ga
 
 // s is the governed time in seconds; the gate falls from 1 to g_min as the tracking error goes from err_lo to err_hi.
 #[repr(C)]
-#[derive(Drop)]
+#[derive(Clone, Copy)]
 pub struct RefGovernor {
     pub s: f32,
     pub err_lo: f32,
@@ -14,7 +14,7 @@ pub struct RefGovernor {
 
 // What `advance` leaves, and the time that it returns.
 #[repr(C)]
-#[derive(Drop)]
+#[derive(Clone, Copy)]
 pub struct Advanced {
     pub governor: RefGovernor,
     pub time: f32,

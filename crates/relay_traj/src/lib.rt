@@ -1,4 +1,5 @@
 // Trajectories (001): a jerk-minimizing quintic per axis, a segment of three axes, and the governor that slows the reference clock where the craft falls behind.
+#![tactic(auto)]
 
 mod quintic; // quintic.rt: one axis
 mod segment; // segment.rt: three axes

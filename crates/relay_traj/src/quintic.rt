@@ -8,7 +8,7 @@ const SHORTEST: f32 = 1e-3;
 
 // The position c5 t^5 + .. + c1 t + c0, from 0 to t_end seconds. `new` alone answers for finite numbers in it: a caller may hold any.
 #[repr(C)]
-#[derive(Drop)]
+#[derive(Clone, Copy)]
 pub struct Quintic {
     pub c5: f32,
     pub c4: f32,
@@ -21,7 +21,7 @@ pub struct Quintic {
 
 // Position, velocity, acceleration and jerk of one axis at one time.
 #[repr(C)]
-#[derive(Drop)]
+#[derive(Clone, Copy)]
 pub struct Sample {
     pub p: f32,
     pub v: f32,
@@ -30,7 +30,7 @@ pub struct Sample {
 }
 
 // What `Quintic::new` goes by: the seven numbers of one axis of a leg, mended.
-#[derive(Drop)]
+#[derive(Clone, Copy)]
 pub struct Mended {
     pub p0: f32,
     pub v0: f32,
@@ -43,7 +43,7 @@ pub struct Mended {
 
 // The jerk is jc2 t^2 + jc1 t + jc0.
 #[repr(C)]
-#[derive(Drop)]
+#[derive(Clone, Copy)]
 pub struct JerkCoeffs {
     pub jc2: f32,
     pub jc1: f32,

@@ -7,11 +7,11 @@ use relay_math::Vec3;
 
 // `self.0`, `self.1`, `self.2` are the Rust's `axes[0]`, `axes[1]`, `axes[2]`.
 #[repr(C)]
-#[derive(Drop)]
+#[derive(Clone, Copy)]
 pub struct Segment3(pub Quintic, pub Quintic, pub Quintic);
 
 #[repr(C)]
-#[derive(Drop)]
+#[derive(Clone, Copy)]
 pub struct Sample3 {
     pub pos: Vec3,
     pub vel: Vec3,

@@ -9,7 +9,7 @@ use words::{float_at, word_at};
 pub(crate) const NO_NUMBER: u32 = 99;
 
 // How many words of a buffer are stored, and how many bytes of it are lent.
-#[derive(Drop)]
+#[derive(Clone, Copy)]
 pub(crate) struct Size {
     pub words: usize,
     pub lent: usize,

@@ -1,5 +1,7 @@
 // Runs the oracle's stored answers again, from standard input. docs/ORACLE.md has the form of the list and says how it was made.
 // For each section of the list a line: its name, how many answers were compared, how many differ. Before it, a line for each row that differs.
+#![tactic(auto)]
+
 mod adrc; // adrc.rt: 002
 mod desks; // desks.rt: the desk's calls
 mod geo; // geo.rt: 000
@@ -16,7 +18,7 @@ use words::word_at;
 // The word that a list begins with: ANSW.
 const MAGIC: u32 = 0x5753_4e41;
 
-#[derive(Drop)]
+#[derive(Clone, Copy)]
 enum Verdict {
     Same,
     Differs,
@@ -85,7 +87,7 @@ fn routine(n: u32, given: usize, answered: usize) -> Verdict {
 // ---- sections
 
 // What a section's head says, but for its name.
-#[derive(Drop)]
+#[derive(Clone, Copy)]
 struct Head {
     number: u32,
     given: usize,
@@ -103,7 +105,7 @@ fn one(h: Head) -> Verdict {
     }
 }
 
-#[derive(Drop)]
+#[derive(Clone, Copy)]
 struct Tally {
     compared: u64,
     differ: u64,

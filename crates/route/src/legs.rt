@@ -14,14 +14,14 @@ use words::{finite_at, float_at};
 const DURATION: usize = 18;
 
 // How many legs a time is past, and where the last of them ends.
-#[derive(Drop)]
+#[derive(Clone, Copy)]
 pub struct Behind {
     pub legs: usize,
     pub end: f32,
 }
 
 // Where the craft should be: the leg flown, counted from 0, and its sample.
-#[derive(Drop)]
+#[derive(Clone, Copy)]
 pub struct Sampled {
     pub leg: usize,
     pub sample: Sample3,

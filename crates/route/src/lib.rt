@@ -1,4 +1,6 @@
 // Routes of several legs (request One of document 02): their form, the leg flown, and a tick on a route in place of the image's segment.
+#![tactic(auto)]
+
 mod entry; // entry.rt: the route tick on lent bytes, and what it refuses
 mod form; // form.rt: how a route stands in bytes, and which are refused
 mod legs; // legs.rt: the leg flown

@@ -1,5 +1,7 @@
 // Document 01's table: a blank image is refused by a tick, then a fresh shield with enter 0.5 and exit 1 steps by nine margins.
 // Line one is the refusal's number; each later line is the step, the margin's bits and the flag (1 fallback).
+#![tactic(auto)]
+
 use libc::STDOUT_FILENO;
 use relay_geo::{RecoverableSet, SimplexShield};
 use relay_math::{BodyRate, Vec3};

@@ -1,5 +1,7 @@
 // The slow shield (request Nine of document 02), for those who explain flights: a list of margins in, a flag for each out. It keeps no latch. For each tick
 // it looks back through the list, so that it is a second opinion on the shield that steps.
+#![tactic(auto)]
+
 ghost use Rattle.std.specs.Prelude.{◌≡◌, true, map, ◌+◌, ◌*◌, ◌≤◌, length};
 ghost use Rattle.std.specs.Float.Ieee.{lt};
 ghost use Rattle.relay_math.specs.F32.{is_finite};

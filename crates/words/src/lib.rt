@@ -1,4 +1,6 @@
 // Little-endian words in lent bytes: u32, and f32 as their bits. A word is named by its number, so word k is the bytes 4k to 4k + 3.
+#![tactic(auto)]
+
 mod read; // read.rt: words, floats and vectors out of bytes
 mod write; // write.rt: the same into bytes
 

@@ -80,7 +80,7 @@ pub fn make_canonical(bytes: &mut [u8], count: usize, plain: bool)
 }
 
 // Four bytes on their way from one place to another.
-#[derive(Drop)]
+#[derive(Clone, Copy)]
 struct Four(u8, u8, u8, u8);
 
 fn four_at(from: &[u8], i: usize) -> Four

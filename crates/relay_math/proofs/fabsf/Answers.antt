@@ -1,10 +1,10 @@
 -- `relay_math::fabsf`: what is not above zero is taken from zero, which drops its sign. Assumes nothing.
-use Rattle.laws.proofs.Prelude.{◌≡◌, refl, sym, ◌∙◌, subst, true, false, cond, ℕ, zero, suc, ◌*◌, zero-mul, one-mul, mul-one, zero-add, T, ℤ, Float, nan, inf, fin, binary32, fits, up, down, lt, sub}
-use Rattle.laws.proofs.Prelude.{of_bits, held, no}
+use Rattle.laws.proofs.Prelude.{◌≡◌, refl, sym, ◌∙◌, subst, true, false, cond, ℕ, zero, suc, ◌*◌, zero-mul, one-mul, mul-one, zero-add, T, ℤ, Float, nan, inf, fin, binary32, fits, up, down, lt, sub, of_bits, held, no}
 use Rattle.relay_math.specs.F32.{◌⊖◌, 0·0, fabsf}
-use Rattle.relay_math.proofs.{Signs.{zero_is, is_above}, Sums.{sum_is, round_own}, fabsf.{Statement.statement, Tie.{close, spec}}}
+use Rattle.relay_math.proofs.Signs.{zero_is, is_above}
+use Rattle.relay_math.proofs.Sums.{sum_is, round_own}
+use Rattle.relay_math.proofs.fabsf.Goals as goal
 
--- zero less what has a minus sign is the sum of zero and the size, and a size rounds to itself
 less_minus : (m : ℕ) (e : ℤ) → T (fits binary32 (fin true m e)) → 0·0 ⊖ fin true m e ≡ fin false m e
 unfolding sub of_bits fits
 less_minus m e f =
@@ -23,7 +23,8 @@ by_test_lem (fin true m e) f = less_minus m e f
 by_test_lem (fin false zero e) f = subst (λ (x : Float). by_test x ≡ fabsf x) (sym (zero_is false e f)) refl
 by_test_lem (fin false (suc m) e) f = rw (is_above m e false)
 
-pub fabsf_spec : {M : Type 1} → statement M
-fabsf_spec =
-    close (spec (λ c. simp c.if1.taken at (by_test_lem c.before.args.x (held c.before.good.0.1)))
-    (λ c. simp c.if1.left at (by_test_lem c.before.args.x (held c.before.good.0.1))))
+pub returns-then-x : goal.returns-then-x
+returns-then-x c = simp c.if-x.true at (by_test_lem c.args.x (held c.well_formed.0.1))
+
+pub returns-else-x : goal.returns-else-x
+returns-else-x c = simp c.if-x.false at (by_test_lem c.args.x (held c.well_formed.0.1))

@@ -1,5 +1,0 @@
--- `angles::pick_of`: each arm is a case of the definition. Assumes nothing.
-use Rattle.relay_math.proofs.angles.pick_of.{Statement.statement, Tie.{close, spec}}
-
-pub pick_of_spec : {M : Type 1} → statement M
-pick_of_spec = close (spec (λ c. simp c.if1.taken) (λ c. simp c.if1.left))

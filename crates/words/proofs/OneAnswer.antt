@@ -1,56 +1,57 @@
 -- Of each public function here: no second answer fits its promise. Assumes nothing.
 use Rattle.laws.proofs.Prelude.{refl}
 use Rattle.laws.proofs.Determined.{OneAnswer, no_second, both}
+use Rattle.words.specs.contracts as promised
 use Rattle.words.proofs.read
 use Rattle.words.proofs.write
 
-pub four_bytes_once : OneAnswer read.four_bytes.ended read.four_bytes.Reads.Post
+pub four_bytes_once : OneAnswer promised.read.four_bytes.ended read.four_bytes.Reads.Post
 four_bytes_once κs a x y v w p q = (no_second p q, refl)
 
-pub word_at_once : OneAnswer read.word_at.ended read.word_at.Reads.Post
+pub word_at_once : OneAnswer promised.read.word_at.ended read.word_at.Reads.Post
 word_at_once κs a x y v w p q = (no_second p q, refl)
 
-pub all_plain_once : OneAnswer read.all_plain.ended read.all_plain.Reads.Post
+pub all_plain_once : OneAnswer promised.read.all_plain.ended read.all_plain.Reads.Post
 all_plain_once κs a x y v w p q = (no_second p q, refl)
 
-pub float_of_once : OneAnswer read.float_of.ended read.float_of.Reads.Post
+pub float_of_once : OneAnswer promised.read.float_of.ended read.float_of.Reads.Post
 float_of_once κs a x y v w p q = (no_second p q, refl)
 
-pub read_float_once : OneAnswer read.read_float.ended read.read_float.Reads.Post
+pub read_float_once : OneAnswer promised.read.read_float.ended read.read_float.Reads.Post
 read_float_once κs a x y v w p q = (no_second p q, refl)
 
-pub read_vec_once : OneAnswer read.read_vec.ended read.read_vec.Reads.Post
+pub read_vec_once : OneAnswer promised.read.read_vec.ended read.read_vec.Reads.Post
 read_vec_once κs a x y v w p q = (no_second p q, refl)
 
-pub finite_at_once : OneAnswer read.finite_at.ended read.finite_at.Reads.Post
+pub finite_at_once : OneAnswer promised.read.finite_at.ended read.finite_at.Reads.Post
 finite_at_once κs a x y v w p q = (no_second p q, refl)
 
-pub float_at_once : OneAnswer read.float_at.ended read.float_at.Reads.Post
+pub float_at_once : OneAnswer promised.read.float_at.ended read.float_at.Reads.Post
 float_at_once κs a x y v w p q = (no_second p q, refl)
 
-pub vec_at_once : OneAnswer read.vec_at.ended read.vec_at.Reads.Post
+pub vec_at_once : OneAnswer promised.read.vec_at.ended read.vec_at.Reads.Post
 vec_at_once κs a x y v w p q = (no_second p q, refl)
 
-pub bits_of_once : OneAnswer write.bits_of.ended write.bits_of.Reads.Post
+pub bits_of_once : OneAnswer promised.write.bits_of.ended write.bits_of.Reads.Post
 bits_of_once κs a x y v w p q = (no_second p q, refl)
 
-pub put_word_once : OneAnswer write.put_word.ended write.put_word.Reads.Post
+pub put_word_once : OneAnswer promised.write.put_word.ended write.put_word.Reads.Post
 put_word_once κs a x y v w p q = (refl, both (no_second p.is q.is) refl)
 
-pub put_flag_once : OneAnswer write.put_flag.ended write.put_flag.Reads.Post
+pub put_flag_once : OneAnswer promised.write.put_flag.ended write.put_flag.Reads.Post
 put_flag_once κs a x y v w p q = (refl, both (no_second p.is q.is) refl)
 
-pub put_float_once : OneAnswer write.put_float.ended write.put_float.Reads.Post
+pub put_float_once : OneAnswer promised.write.put_float.ended write.put_float.Reads.Post
 put_float_once κs a x y v w p q = (refl, both (no_second p.is q.is) refl)
 
-pub put_three_once : OneAnswer write.put_three.ended write.put_three.Reads.Post
+pub put_three_once : OneAnswer promised.write.put_three.ended write.put_three.Reads.Post
 put_three_once κs a x y v w p q = (refl, both (no_second p.is q.is) refl)
 
-pub put_vec_once : OneAnswer write.put_vec.ended write.put_vec.Reads.Post
+pub put_vec_once : OneAnswer promised.write.put_vec.ended write.put_vec.Reads.Post
 put_vec_once κs a x y v w p q = (refl, both (no_second p.is q.is) refl)
 
-pub make_canonical_once : OneAnswer write.make_canonical.ended write.make_canonical.Reads.Post
+pub make_canonical_once : OneAnswer promised.write.make_canonical.ended write.make_canonical.Reads.Post
 make_canonical_once κs a x y v w p q = (refl, both (no_second p q) refl)
 
-pub put_bytes_once : OneAnswer write.put_bytes.ended write.put_bytes.Reads.Post
+pub put_bytes_once : OneAnswer promised.write.put_bytes.ended write.put_bytes.Reads.Post
 put_bytes_once κs a x y v w p q = (refl, both (no_second p q) refl)

@@ -1,8 +1,0 @@
-use Rattle.laws.proofs.Prelude.{needs}
-use Rattle.relay_adrc.proofs.axis.mend_dt.{Statement.statement, Tie.{close, spec}}
-
-pub mend_dt_spec : {M : Type 1} → statement M
-mend_dt_spec =
-    close (spec (λ c κs. search needs) (λ c κs. search needs)
-    (λ c. simp (c.clamp.ensures, ← c.before.before.is_finite.ensures, c.before.if1.taken))
-    (λ c. simp (← c.before.is_finite.ensures, c.if1.left)))

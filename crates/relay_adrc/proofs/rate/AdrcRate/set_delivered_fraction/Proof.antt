@@ -1,7 +1,0 @@
-use Rattle.laws.proofs.Prelude.{needs}
-use Rattle.relay_adrc.proofs.rate.AdrcRate.set_delivered_fraction.{Statement.statement, Tie.{close, spec}}
-
-pub set_delivered_fraction_spec : {M : Type 1} → statement M
-set_delivered_fraction_spec =
-    close (spec (λ c κs. search needs) (λ c κs. search needs) (λ c κs. search needs)
-    (λ c. simp (c.set-delivered-fraction3.ensures, c.before.set-delivered-fraction2.ensures, c.before.before.set-delivered-fraction.ensures)))

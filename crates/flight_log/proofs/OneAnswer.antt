@@ -5,26 +5,27 @@ use denote.{Ref.now, Triple.{Entry.{Args, Res}, Clauses.{Ended, Lasts, at_exit}}
 use Rattle.laws.proofs.Determined.{Promise, OneAnswer, Says, no_second, both}
 use Rattle.outcome.specs.Outcomes.{Filled}
 use Rattle.flight_log.specs.{declared.reader.Reader.Reader, Records.{record_at, place_after}}
+use Rattle.flight_log.specs.contracts as promised
 use Rattle.flight_log.proofs.form
 use Rattle.flight_log.specs.contracts.reader.next as next
 use Rattle.flight_log.specs.contracts.reader.moved as moved
 use Rattle.flight_log.proofs.entry
 use Rattle.flight_log.proofs.into
 
-pub is_log_once : OneAnswer form.is_log.ended form.is_log.Reads.Post
+pub is_log_once : OneAnswer promised.form.is_log.ended form.is_log.Reads.Post
 is_log_once κs a x y v w p q = (no_second p q, refl)
 
-pub append_once : OneAnswer entry.append.ended entry.append.Reads.Post
+pub append_once : OneAnswer promised.entry.append.ended entry.append.Reads.Post
 append_once κs a x y v w p q =
     let e = no_second p q in
     (ap (λ (l : Filled). l.outcome) e, both (ap (λ (l : Filled). l.later) e) refl)
 
-pub count_into_once : OneAnswer into.count_into.ended into.count_into.Reads.Post
+pub count_into_once : OneAnswer promised.into.count_into.ended into.count_into.Reads.Post
 count_into_once κs a x y v w p q =
     let e = no_second p q in
     (ap (λ (l : Filled). l.outcome) e, both refl (both (ap (λ (l : Filled). l.later) e) refl))
 
-pub record_into_once : OneAnswer into.record_into.ended into.record_into.Reads.Post
+pub record_into_once : OneAnswer promised.into.record_into.ended into.record_into.Reads.Post
 record_into_once κs a x y v w p q =
     let e = no_second p q in
     (ap (λ (l : Filled). l.outcome) e, both refl (both refl (both (ap (λ (l : Filled). l.later) e) refl)))
@@ -59,5 +60,5 @@ reader_once p q i = record { log = no_second p.0 q.0 i; place = no_second p.1 q.
 pub next_once : OneSeen next.ended (λ κs r. now r) Next
 next_once κs a x y v w p q = (no_second p q, refl)
 
-pub moved_once : OneAnswer moved.ended Moved
+pub moved_once : OneAnswer promised.moved.ended Moved
 moved_once κs a x y v w p q = (reader_once {d = record { log = a.0.log; place = place_after (now a.0.log) a.0.place }} p q, refl)

@@ -35,7 +35,7 @@ unfolding set_up_refusal is_profile word float lt le mul of_bits
 level_sets_up = refl
 
 tick_accepted : (image input : List ℕ) → Unbroken image → length input ≡ input_bytes
-    → tick_call image input blank_answer ≡ left Done (lent (leaves image input) (answer_of (tick (image input).answer)))
+    → tick_call image input blank_answer ≡ left Done (lent (leaves image input) (answer_of (tick image input).answer))
 unfolding tick_call tick_from leaves
 tick_accepted image input u e = rw (← unbroken_taken image (length input) (length blank_answer) u e refl)
 
@@ -54,7 +54,7 @@ fresh_state : state_at fresh ≡ s
 fresh_state = decode_encode s (set_up_fits level_set_up)
 
 abbrev flag_of : List ℕ → List ℕ → Bool
-flag_of image input = tick (image input).answer.fallback
+flag_of image input = (tick image input).answer.fallback
 
 -- also for the two shams that fall to demand 3 alone (crate `runs`, proofs/Shams.antt)
 pub planner_flies : flag_of fresh level_input ≡ false
@@ -87,7 +87,7 @@ module _ (p : Program) (k : Keeps p) where
   sets_up = k.set_up blank_image level_set_up ∙ set_up_accepted level_set_up level_sets_up
 
   ticks : (image input : List ℕ) → Unbroken image → length input ≡ input_bytes
-      → p.tick image input blank_answer ≡ left Done (lent (leaves image input) (answer_of (tick (image input).answer)))
+      → p.tick image input blank_answer ≡ left Done (lent (leaves image input) (answer_of (tick image input).answer))
   ticks image input a e = k.tick image input blank_answer ∙ tick_accepted image input a e
 
   -- "refusing all calls": demand 2, the table says when

@@ -74,7 +74,7 @@ pub written : (buffer : List ℕ) (len : ℕ) (input answer : List ℕ) {o : Out
 unfolding append_call
 written buffer len input answer {o} {t} e d f c p =
     let at : len - log_trailer_bytes ≡ record_bytes * record_count (take len buffer) = omega (arith, (taken buffer len (length input) (length answer) (accepted e d f)).len_is) in
-    rw (← e, ← d, not-false t f, at, p, c)
+    rw (← e, ← d, f, at, p, c)
 
 -- ---- the input, the answer and the trailer, written one after another, are one run
 

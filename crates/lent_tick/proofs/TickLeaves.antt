@@ -10,8 +10,8 @@ use Rattle.lent_tick.specs.{Unbroken.{unbroken, Unbroken}, Tick.{tick_table, tic
 use Rattle.lent_tick.proofs.RowFour.{own_words}
 
 -- an image of which a function, asked whether it is unbroken, said b
-pub is_unbroken : {image : List ℕ} {b : Bool} → length image ≡ image_bytes → b ≡ unbroken image → not b ≡ false → Unbroken image
-is_unbroken {image} {b} l e n = record { whole = l; row_four_lem = sym e ∙ not-false b n }
+pub is_unbroken : {image : List ℕ} {b : Bool} → length image ≡ image_bytes → b ≡ unbroken image → b ≡ true → Unbroken image
+is_unbroken {image} {b} l e n = record { whole = l; row_four_lem = sym e ∙ n }
 
 -- a tick of right lengths is done exactly if its image is unbroken
 pub unbroken_taken : (image : List ℕ) (inputLen answerLen : ℕ) → Unbroken image → inputLen ≡ input_bytes → answerLen ≡ answer_bytes → Done ≡ tick_refusal image inputLen answerLen
@@ -29,12 +29,12 @@ pub read_of : {f g : Fixed} → f ≡ g → ReadOf f.segment f.enter f.exit g
 read_of e = (ap (λ (f : Fixed). f.segment) e, ap (λ (f : Fixed). f.enter) e, ap (λ (f : Fixed). f.exit) e)
 
 -- a tick of which something was said, o, that is r, and that was not refused (t is whether o is done)
-pub flown : (source : Float → Reference) (image input answer : List ℕ) {o r : Outcome} {t : Bool} → o ≡ r → t ≡ is_done o → not t ≡ false
+pub flown : (source : Float → Reference) (image input answer : List ℕ) {o r : Outcome} {t : Bool} → o ≡ r → t ≡ is_done o → t ≡ true
     → {given : TickInput} {f : Fixed} {p : Prepared} {wanted : Reference} {done : Ticked} {later answered : List ℕ}
     → given ≡ input_at input → f ≡ fixed_at image → p ≡ prepare f.profile (moving_at image) given → wanted ≡ source p.time → done ≡ guide_pick_follow f p wanted given
     → Leaves (fixed_at image) p.moving.governor p.moving.lpf done later answered → left Done (lent later answered) ≡ tick_from source r image input answer
 unfolding tick_from ticked
-flown source image input answer {o} {r} {t} e d n i k q w h l = rw (← e, ← d, not-false t n, l.image, l.answer, h, w, q, k, i)
+flown source image input answer {o} {r} {t} e d n i k q w h l = rw (← e, ← d, n, l.image, l.answer, h, w, q, k, i)
 
 -- ---- what a tick leaves as it stood
 

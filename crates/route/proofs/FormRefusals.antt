@@ -53,10 +53,10 @@ module _ (route : List ℕ) {f : Outcome} {t : Bool} (e : f ≡ form_refusal rou
   pub form_decides : (image : List ℕ) (inputLen answerLen : ℕ) → Done ≡ tick_refusal image inputLen answerLen → f ≡ route_refusal image inputLen answerLen route
   form_decides image inputLen answerLen h = e ∙ sym (in_their_turn image inputLen answerLen route ∙ rw (sym h))
 
-  pub formless : (image input answer : List ℕ) → Done ≡ tick_refusal image (length input) (length answer) → not t ≡ true → left f (lent image answer) ≡ route_call image input route answer
+  pub formless : (image input answer : List ℕ) → Done ≡ tick_refusal image (length input) (length answer) → t ≡ false → left f (lent image answer) ≡ route_call image input route answer
   formless image input answer h n =
       let p = form_decides image (length input) (length answer) h in
-      rw p (sym (refused_changes_nothing image input route answer (ap is_done (sym p) ∙ sym d ∙ not-true t n)))
+      rw p (sym (refused_changes_nothing image input route answer (ap is_done (sym p) ∙ sym d ∙ n)))
 
   -- so where a sample's length is right
   pub form_decides_sample : (n : ℕ) → n ≡ sample_byte_count → f ≡ sample_refusal route n

@@ -19,7 +19,7 @@ pub record_count-count-requires : goal.record_count-count-requires
 record_count-count-requires c = let e = c.before in let t = taken _ _ _ _ (accepted e.append_refusal-refusal.ensures e.is_done.ensures e.if-not-is_done.false) in (is_a_log _ t.log).trailer
 
 pub put_record-requires : goal.put_record-requires
-put_record-requires c = let e = c.before.before.before in let t = taken _ _ _ _ (accepted e.append_refusal-refusal.ensures e.is_done.ensures e.if-not-is_done.false) in rw c.record_count-count.ensures ((t.input_length, t.answer_length), (t.room, t.one_more))
+put_record-requires c = let e = c.before.before.before in let t = taken _ _ _ _ (accepted e.append_refusal-refusal.ensures e.is_done.ensures e.if-not-is_done.false) in rw c.record_count-count.ensures record { input_len = (t.input_length, t.answer_length); count_in_bounds = (t.room, t.one_more) }
 
 pub returns : goal.returns
 returns c = let n = c.before.before.before.before in let e = n.before.before in written _ _ _ _ e.append_refusal-refusal.ensures e.is_done.ensures e.if-not-is_done.false n.record_count-count.ensures c.put_record.ensures

@@ -120,15 +120,13 @@ fn scope(text: &str) -> HashMap<String, String> {
     used.flat_map(|(file, names)| names.split(", ").map(move |name| (name.to_string(), file.to_string()))).collect()
 }
 
-/// What of a lent argument a contract speaks of.
-const HELD: [&str; 3] = [".now", ".old", ".new"];
-
-/// A clause's words and brackets, and what of a lent argument is meant apart from it. The marks around a name say nothing more.
+/// A clause's words and brackets, and the parts of what is named apart from it, as `self` and `.now`. The marks around a name say nothing more.
 pub fn tokens(said: &str) -> Vec<String> {
     let spaced = said.replace(['«', '»'], "").replace('(', " ( ").replace(')', " ) ").replace(',', " , ");
-    let apart = |word: &str| match HELD.iter().find_map(|held| word.strip_suffix(held).map(|lent| (lent.to_string(), held.to_string()))) {
-        Some((lent, held)) if !lent.is_empty() => vec![lent, held],
-        _ => vec![word.to_string()],
+    let apart = |word: &str| -> Vec<String> {
+        let mut parts = word.split('.');
+        let first = parts.next().unwrap_or_default().to_string();
+        [first].into_iter().filter(|first| !first.is_empty()).chain(parts.map(|part| format!(".{part}"))).collect()
     };
     spaced.split_whitespace().flat_map(apart).collect()
 }
@@ -140,6 +138,7 @@ pub fn shown(clause: &[String]) -> String {
         match (word.as_str(), words.last_mut()) {
             (".new", Some(lent)) => lent.push('′'),
             (".old" | ".now", Some(_)) => {}
+            (part, Some(whole)) if part.starts_with('.') => whole.push_str(part),
             _ => words.push(word.clone()),
         }
     }

@@ -98,7 +98,9 @@ impl Logic {
                 }
                 logic.items.push(item);
             }
-            logic.unread.extend(text.lines().filter(|line| is_unread(line)).map(|line| format!("{file}: {}", line.trim())));
+            // what answers the goals of a function states nothing that a page could name
+            let states = !file.split_once("/proofs/").is_some_and(|(_, file)| file.contains('/'));
+            logic.unread.extend(text.lines().filter(|_| states).filter(|line| is_unread(line)).map(|line| format!("{file}: {}", line.trim())));
             logic.functions.insert(file.clone(), text.lines().filter_map(function).collect());
             logic.scopes.insert(file, scope);
         }

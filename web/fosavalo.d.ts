@@ -18,7 +18,7 @@ export const RECORD_BYTES: 108;
 export const LOG_TRAILER_BYTES: 12;
 export const MOST_RECORDS: 65535;
 /** The most that a LogSeries puts into a log. */
-export const MOST_IN_SERIES: 65534;
+export const IN_SERIES_MOST: 65534;
 export const MOST_MARGINS: 65535;
 export const LOG_RIGHT: 0xffffffff;
 export const DESK_BYTES: 60;

@@ -12,7 +12,7 @@ export const [IMAGE_BYTES, SETUP_BYTES, TICK_BYTES, ANSWER_BYTES] = [396, 204, 6
 export const [LEG_BYTES, ROUTE_TRAILER_BYTES, MOST_LEGS, SAMPLE_BYTES, DEEPEST_REPEAT] = [76, 8, 32, 52, 4];
 export const [RECORD_BYTES, LOG_TRAILER_BYTES, MOST_RECORDS, MOST_MARGINS, LOG_RIGHT] = [108, 12, 65535, 65535, 0xffffffff];
 /** What a LogSeries puts into a log, one fewer than fit: so each can be checked behind one record more. */
-export const MOST_IN_SERIES = MOST_RECORDS - 1;
+export const IN_SERIES_MOST = MOST_RECORDS - 1;
 export const [DESK_BYTES, DESK_SETUP_BYTES, STICKS_BYTES] = [60, 36, 12];
 
 const MEANINGS = [
@@ -437,7 +437,7 @@ export class LogSeries {
     constructor(core) { [this.#core, this.#logs] = [core, [new Log(core)]]; }
     append(input, answer) {
         const last = this.#logs.at(-1);
-        if (last.length < MOST_IN_SERIES) return last.append(input, answer);
+        if (last.length < IN_SERIES_MOST) return last.append(input, answer);
         const next = new Log(this.#core);
         next.append(input, answer);
         this.#logs.push(next);

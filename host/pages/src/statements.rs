@@ -24,6 +24,9 @@ const PAGES: [&str; 9] = [
     "include/fosavalo_desk.h",
 ];
 
+/// The page of all edits, which a program writes.
+const EDITS: &str = "crates/EDITS.md";
+
 /// The notes on the requests. They tell of names that are gone too.
 const NOTES: &str = "docs/history/requests";
 
@@ -246,6 +249,7 @@ impl Reader<'_> {
         for (at, _) in page.match_indices("/must-fail/") {
             let krate = page[..at].rsplit(|letter: char| !(letter.is_ascii_lowercase() || letter == '_')).next().unwrap_or_default();
             let rest = &page[at + "/must-fail/".len()..];
+            let rest = rest.strip_prefix("more/").unwrap_or(rest);
             let label = rest
                 .split(|letter: char| !(letter.is_ascii_lowercase() || letter.is_ascii_digit() || letter == '_'))
                 .next()
@@ -270,7 +274,9 @@ pub fn named(logic: &Logic) -> Result<Named, String> {
     let page = |name: String| text(&name).map(|text| (name, text));
     let pages = PAGES.iter().map(|name| page(name.to_string())).collect::<Result<Vec<Page>, _>>()?;
     let notes = entries(NOTES)?.iter().map(|name| page(format!("{NOTES}/{name}"))).collect::<Result<Vec<Page>, _>>()?;
-    Ok(in_pages(logic, &in_sources()?, &text(THEOREMS)?, &pages, &notes, &edits()?))
+    // which lists them all
+    let listed = text(EDITS)?;
+    Ok(in_pages(logic, &in_sources()?, &text(THEOREMS)?, &pages, &notes, &listed, &edits()?))
 }
 
 fn in_pages(
@@ -279,6 +285,7 @@ fn in_pages(
     theorems: &str,
     pages: &[Page],
     notes: &[Page],
+    listed: &str,
     edits: &BTreeSet<String>,
 ) -> Named {
     let mut reader = Reader { logic, others, named: Named { items: BTreeSet::new(), edits: BTreeSet::new(), faults: Vec::new() } };
@@ -307,11 +314,14 @@ fn in_pages(
             reader.passage(&page.0, cell, "", strict);
         }
     }
-    for text in notes.iter().map(|(_, text)| text.as_str()).chain([theorems]) {
+    for text in notes.iter().map(|(_, text)| text.as_str()).chain([theorems, listed]) {
         reader.edits(text);
     }
     let mut named = reader.named;
     named.faults.extend(logic.unread.iter().map(|line| format!("what stands beneath a statement may be more than is read here: {line}")));
+    named
+        .faults
+        .extend(edits.difference(&named.edits).map(|edit| format!("crates/{edit} is named neither in {THEOREMS} nor in a request's note")));
     named.faults.extend(
         named.edits.difference(edits).map(|edit| format!("{THEOREMS} or a request's note names the edit {edit}, and there is none")),
     );
@@ -465,7 +475,7 @@ mod tests {
     }
 
     fn named(logic: &Logic, page: &str) -> Named {
-        in_pages(logic, &BTreeSet::new(), page, &[], &[], &BTreeSet::from(["a/must-fail/wrong".to_string()]))
+        in_pages(logic, &BTreeSet::new(), page, &[], &[], "", &BTreeSet::from(["a/must-fail/wrong".to_string()]))
     }
 
     fn page(specs: &str, proofs: &str) -> String {
@@ -543,11 +553,14 @@ mod tests {
     }
 
     #[test]
-    fn an_edit_that_is_named_is_there() {
+    fn an_edit_is_named() {
         let told = |page: &str| named(&logic(SPECS, &[("proofs/P", PROOFS)]), page).faults;
         assert_eq!(
             told(&PAGE.replace("/wrong", "/right")),
-            ["docs/THEOREMS.md or a request's note names the edit a/must-fail/right, and there is none"]
+            [
+                "crates/a/must-fail/wrong is named neither in docs/THEOREMS.md nor in a request's note",
+                "docs/THEOREMS.md or a request's note names the edit a/must-fail/right, and there is none"
+            ]
         );
     }
 }

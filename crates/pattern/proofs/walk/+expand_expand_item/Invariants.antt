@@ -14,3 +14,6 @@ decreases-expand_item l = l.depth + l.depth
 
 abbrev pub invariant-expand-loop-at : goal.invariant-expand-loop-at
 invariant-expand-loop-at l = (l.at ≤ l.end) × (length l.places ≡ most_legs) × Going l.b (read l.depth (slice l.from l.end l.b)) (read l.depth (slice l.at l.end l.b)) l.count l.initial.places l.n l.places
+
+abbrev pub decreases-expand-loop-at : goal.decreases-expand-loop-at
+decreases-expand-loop-at l = l.end - l.at

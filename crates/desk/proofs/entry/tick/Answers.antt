@@ -19,9 +19,5 @@ returns-then-input-ne-INPUT_BYTES c =
 
 pub returns : goal.returns
 returns c =
-    let e = c.before.before.before.before in
-    let k = e.before.before.before.before.before.before.before in
-    let s = k.before.before.before.before.before.before in let w = s.before.before.before in
-    let l = w.before.before.before.before in
-    leaves _ _ _ _ _ _ l.if-desk-ne-DESK_BYTES.false l.if-sticks-ne-STICKS_BYTES.false (λ i. omega (arith, l.slice_known-3-1.given i))
-    w.word_at-yaw.ensures w.word_at-yaw_rate.ensures s.step_into-moved.ensures k.tick-ended.ensures e.end.ensures
+    leaves _ _ _ _ _ _ c.if-desk-ne-DESK_BYTES.false c.if-sticks-ne-STICKS_BYTES.false (λ i. omega (arith, c.slice_known-3-1.given i))
+    c.word_at-yaw.ensures c.word_at-yaw_rate.ensures c.step_into-moved.ensures c.tick-ended.ensures c.end.ensures

@@ -10,18 +10,18 @@ returns-then-not-in_band c =
     let band = c.before.before in let read = band.before in let turn = read.before in
     let pre = turn.requires in
     ap not c.finite_above.ensures
-    ∙ sym (decides _ _ pre.1.0 pre.1.1 _ _ turn.loop-i-test.true (omega arith) _ read.float_at-margin.ensures
-    (sym band.in_band.ensures ∙ not-true band.in_band.result c.if-not-in_band.true))
-    ∙ turn.loop-i.inv.1
+    ∙ sym (decides _ _ pre.enter_value.0 pre.enter_value.1 _ _ turn.loop-i-test.true (omega arith) _ read.float_at-margin.ensures
+    (sym band.in_band.ensures ∙ c.if-not-in_band.true))
+    ∙ turn.loop-i.invariant.1
 
 pub loop-i-preserved : goal.loop-i-preserved
 loop-i-preserved c =
     let band = c.before in let read = band.before in let turn = read.before in
     let pre = turn.requires in (
       omega arith,
-      goes_on _ _ pre.1.0 pre.1.1 _ _ turn.loop-i-test.true (omega arith) _ read.float_at-margin.ensures (sym band.in_band.ensures ∙ not-false band.in_band.result c.if-not-in_band.false)
-          ∙ turn.loop-i.inv.1,
+      goes_on _ _ pre.enter_value.0 pre.enter_value.1 _ _ turn.loop-i-test.true (omega arith) _ read.float_at-margin.ensures (sym band.in_band.ensures ∙ c.if-not-in_band.false)
+          ∙ turn.loop-i.invariant.1,
     )
 
 pub returns : goal.returns
-returns c = sym (at_start _ _ _ _ c.loop-i-test.false) ∙ c.loop-i.inv.1
+returns c = sym (at_start _ _ _ _ c.loop-i-test.false) ∙ c.loop-i.invariant.1

@@ -32,7 +32,7 @@ loop-i-init c =
     let hi = c.before.before in let lo = hi.before in let start = lo.before.before in
     let pre = start.requires in let e = c.blocks_passed_over-i.ensures in (
       e.0,
-      over _ _ pre.1.0 pre.1.1 (held start.well_formed.1.0.1) (held start.well_formed.1.1.0.1) _ _ lo.bits_of-lo.ensures hi.bits_of-hi.ensures (omega arith) _ _ _ e.0 pre.0
+      over _ _ pre.enter_value.0 pre.enter_value.1 (held start.well_formed.1.0.1) (held start.well_formed.1.1.0.1) _ _ lo.bits_of-lo.ensures hi.bits_of-hi.ensures (omega arith) _ _ _ e.0 pre.count_in_bounds
           e.1,
     )
 
@@ -42,7 +42,7 @@ loop-i-preserved c =
     let lo = hi.before in let start = lo.before.before in
     let pre = start.requires in (
       omega arith,
-      one _ _ pre.1.0 pre.1.1 (held start.well_formed.1.0.1) (held start.well_formed.1.1.0.1) _ _ lo.bits_of-lo.ensures hi.bits_of-hi.ensures (omega arith) _ _ _ (omega arith)
+      one _ _ pre.enter_value.0 pre.enter_value.1 (held start.well_formed.1.0.1) (held start.well_formed.1.1.0.1) _ _ lo.bits_of-lo.ensures hi.bits_of-hi.ensures (omega arith) _ _ _ (omega arith)
           (omega arith) (omega (arith, read.word_at-w.ensures)) (omega (arith, read.word_at-w.ensures))
-          ∙ turn.loop-i.inv.1,
+          ∙ turn.loop-i.invariant.1,
     )

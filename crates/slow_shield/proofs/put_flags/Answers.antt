@@ -12,8 +12,8 @@ loop-i-init c = (omega arith, refl, refl)
 
 pub loop-i-preserved : goal.loop-i-preserved
 loop-i-preserved c =
-    let inv = c.loop-i.inv in
+    let inv = c.loop-i.invariant in
     (omega arith, simp length-set inv.1, rw (inv.2, c.flag_after.ensures) (one_more _ _ _ _ _))
 
 pub returns : goal.returns
-returns c = let inv = c.loop-i.inv in inv.2 ∙ all_flags _ _ _ _ _ c.requires.margins_len inv.0 (omega arith)
+returns c = let inv = c.loop-i.invariant in inv.2 ∙ all_flags _ _ _ _ _ c.requires.margins_len inv.0 (omega arith)

@@ -1,7 +1,7 @@
 -- What the answer can hold: of its numbers only psi can be a NaN. Assumes nothing.
 use Rattle.laws.proofs.Prelude.{sym, subst, inl, inr, Bool, true, false, not, cond, T, Float, is_nan, of_bits, held}
 use Rattle.relay_math.{specs.{F32.is_finite, declared.{Vec3.Vec3, BodyRate.BodyRate}}, proofs.Order.finite_number}
-use Rattle.relay_adrc.{specs.declared.rate.AdrcRate.AdrcRate, proofs.AxisTick.tick_finite}
+use Rattle.relay_adrc.{specs.declared.rate.AdrcRate.AdrcRate, proofs.Ticks.tick_finite}
 use Rattle.relay_geo.specs.{declared.{controller.GeoGains.GeoGains, set.RecoverableSet.RecoverableSet}, Vectors.{sanitise3, Finite3}, Attitude.{quat_to_rotmat, thrust_axis_ned}, Set.minus_infinity}
 use Rattle.relay_geo.proofs.{Sanitised.sanitise3_finite, MarginRange.{Ranges, margin_finite_or_minus_infinity}}
 use Rattle.relay_traj.{specs.Governor.Running, proofs.GovernorClock.never_nan}

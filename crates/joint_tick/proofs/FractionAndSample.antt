@@ -2,7 +2,7 @@
 use Rattle.laws.proofs.Prelude.{◌≡◌, refl, true, false, Float, nan, inf, fin, eq, of_bits, no}
 use Rattle.relay_math.specs.F32.{◌⊗◌, 0·0, is_finite, finite_or}
 use Rattle.relay_adrc.specs.{declared.{gains.AdrcGains.AdrcGains, axis.AdrcAxis.AdrcAxis}, Axis.{mend_dt, lag, delivered_fraction, axis_set_delivered_fraction}}
-use Rattle.relay_adrc.proofs.AxisTick.{fraction-scales-the-command-before}
+use Rattle.relay_adrc.proofs.Ticks.{fraction-scales-the-command-before}
 use Rattle.relay_traj.specs.{declared.segment.Segment3.Segment3, Segment.duration}
 use Rattle.joint_tick.specs.declared.{profile.Profile.TheVariants.Whole, state.{State.State, TickInput.TickInput}, stages.Reference.Reference}
 use Rattle.joint_tick.specs.Tick.{prepare, sample_time, follow, pick, guide_pick_follow, ticked, state_after}

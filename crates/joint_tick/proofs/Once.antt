@@ -10,7 +10,7 @@ use Rattle.joint_tick.specs.declared.{profile.Profile.{Profile, TheVariants.{Who
 use Rattle.joint_tick.specs.declared.stages.{Guided.Guided, Observed3.Observed3}
 use Rattle.joint_tick.specs.Tick.{cleaned, with_feedforward, rate_error, rate_sq, psi_of, margin_of, guide_whole, rate_toward_axis, psi_to_axis, tilt_rate_sq, margin_to_axis, guide_lost_rotor, shielded}
 use Rattle.joint_tick.specs.{Tick.{tick_third, follow, pick}, Inner.{observe_third, observe, act_third, follow_on, pick_on}}
-use Rattle.relay_adrc.{specs.{declared.{axis.{AdrcAxis.AdrcAxis, Observed.Observed}, rate.AdrcRate.AdrcRate}, Inner.axis_act}, proofs.AxisTick.tick_in_halves}
+use Rattle.relay_adrc.{specs.{declared.{axis.{AdrcAxis.AdrcAxis, Observed.Observed}, rate.AdrcRate.AdrcRate}, Inner.axis_act}, proofs.Ticks.tick_in_halves}
 use Rattle.relay_geo.specs.declared.vectors.Direction.TheVariants as direction
 
 -- `desired_rate` cleans its acceleration, which is clean already: its R_d is the tick's

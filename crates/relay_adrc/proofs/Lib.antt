@@ -1,5 +1,5 @@
 pub mod Mended
-pub mod AxisTick
+pub mod Ticks
 pub mod Lowpass
 pub mod Shut
 pub mod FilterLimits

@@ -2,7 +2,7 @@
 use Rattle.laws.proofs.Prelude.{T, Float}
 use Rattle.relay_math.specs.{F32.is_finite, declared.{Vec3.Vec3, BodyRate.BodyRate}}
 use Rattle.relay_adrc.specs.{declared.{rate.AdrcRate.AdrcRate, biquad.GyroLpf.GyroLpf}, Biquad.gyro_filter, Rate.rate_tick}
-use Rattle.relay_adrc.proofs.{AxisTick.tick_finite, Lowpass.output_finite}
+use Rattle.relay_adrc.proofs.{Ticks.tick_finite, Lowpass.output_finite}
 
 abbrev AllFinite : Vec3 → Type 0
 AllFinite v = T (is_finite v.0) × T (is_finite v.1) × T (is_finite v.2)

@@ -6,7 +6,7 @@ use Rattle.relay_adrc.specs.declared.axis.Observed.{Observed}
 use Rattle.relay_adrc.specs.declared.axis.AxisTick.{AxisTick}
 use Rattle.relay_adrc.specs.Axis.{10·0, positive_or, mend_dt, mend_b0, lag}
 
--- ---- an axis's tick in two halves, the observer's and the control's: `tick_in_halves` of proofs/AxisTick.antt
+-- ---- an axis's tick in two halves, the observer's and the control's: `tick_in_halves` of proofs/Ticks.antt
 
 unfoldable pub axis_observe : AdrcAxis → Float → Float → Observed
 axis_observe a omegaMeas dtGiven =

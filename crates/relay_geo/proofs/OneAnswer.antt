@@ -121,8 +121,8 @@ Stepped κs a r e =
     let next = step a.0.now a.1.0 a.1.1.0 a.1.1.1.0 in
     (r ≡ picked_of next) × (e.0.now ≡ next.shield)
 
-pub step_lent_says : Says lent.ended (λ M 𝓤. lent.clauses 𝓤) Stepped
+pub step_lent_says : Says lent.ended (λ M 𝓤. lent.clauses) Stepped
 step_lent_says M 𝓤 𝓛 mem run κs a g r e = refl
 
-pub step_lent_once : OneAnswer promised.lent.ended Stepped
+pub step_lent_once : OneAnswer lent.ended Stepped
 step_lent_once κs a x y v w p q = (no_second p.0 q.0, both (no_second p.1 q.1) refl)

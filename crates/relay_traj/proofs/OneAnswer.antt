@@ -74,8 +74,8 @@ Moved κs a r e =
     let next = advance a.0.now a.1.0 a.1.1.0 in
     (r ≡ next.time) × (e.0.now ≡ next.governor)
 
-pub advance_lent_says : Says lent.ended (λ M 𝓤. lent.clauses 𝓤) Moved
+pub advance_lent_says : Says lent.ended (λ M 𝓤. lent.clauses) Moved
 advance_lent_says M 𝓤 𝓛 mem run κs a g r e = refl
 
-pub advance_lent_once : OneAnswer promised.lent.ended Moved
+pub advance_lent_once : OneAnswer lent.ended Moved
 advance_lent_once κs a x y v w p q = (no_second p.0 q.0, both (no_second p.1 q.1) refl)

@@ -1,9 +1,6 @@
-
 use Rattle.relay_geo.specs.Attitude.{body_rate}
 use Rattle.relay_geo.proofs.attitude.rate_from.Goals as goal
 
 pub returns : goal.returns
 unfolding body_rate
-returns c =
-    let w = c.before.before in let x = w.before.before.before.before in
-    simp (c.sanitise3.ensures, w.transposed_times-w_body.ensures, x.cross-bxj.ensures, x.r_d-1.given.1)
+returns c = simp (c.in-Matrix.is, c.sanitise3.ensures, c.transposed_times-w_body.ensures, c.cross-bxj.ensures)

@@ -1,15 +1,15 @@
 -- what the first test was
-use Rattle.laws.proofs.Prelude.{◌≡◌, inl, inr, not, ◌||◌, lt}
+use Rattle.laws.proofs.Prelude.{◌≡◌, not, ◌||◌, lt}
 use Rattle.relay_math.specs.F32.{is_finite}
 use Rattle.relay_traj.specs.Governor.{clamp_to}
 use Rattle.relay_traj.proofs.governor.clamp_to.Goals as goal
-use Rattle.relay_traj.proofs.governor.clamp_to.Goals.{Joined-not-is_finite}
+use Rattle.relay_traj.proofs.governor.clamp_to.Goals.{Joined-not-is_finite, then-not-is_finite, else-not-is_finite}
 
-tested : (c : Joined-not-is_finite) → c.if-not-is_finite.if-x-lo ≡ (not (is_finite c.args.x) || lt c.args.x c.low_end-lo.result)
+tested : (c : Joined-not-is_finite) → c.if-not-is_finite.value ≡ (not (is_finite c.args.x) || lt c.args.x c.low_end-lo.result)
 tested c =
     elim c.if-not-is_finite.branch [
-      | inl p ↦ simp (← c.is_finite.ensures, p.1, p.0.true)
-      | inr p ↦ simp (← c.is_finite.ensures, p.1, p.0.false)
+      | then-not-is_finite w ↦ simp (← c.is_finite.ensures, w.value-is, w.if-not-is_finite.true)
+      | else-not-is_finite w ↦ simp (← c.is_finite.ensures, w.value-is, w.if-not-is_finite.false)
     ]
 
 pub returns-then-x-lo : goal.returns-then-x-lo

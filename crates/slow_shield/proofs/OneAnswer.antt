@@ -2,9 +2,10 @@
 use Rattle.laws.proofs.Prelude.{refl, ap}
 use Rattle.laws.proofs.Determined.{OneAnswer, no_second, both}
 use Rattle.outcome.specs.Outcomes.{Filled}
+use Rattle.slow_shield.specs.contracts as promised
 use Rattle.slow_shield.proofs.flags_into
 
-pub flags_into_once : OneAnswer flags_into.ended flags_into.Reads.Post
+pub flags_into_once : OneAnswer promised.flags_into.ended flags_into.Reads.Post
 flags_into_once κs a x y v w p q =
     let e = no_second p q in
     (ap (λ (l : Filled). l.outcome) e, both refl (both refl (both refl (both (ap (λ (l : Filled). l.later) e) refl))))

@@ -1,0 +1,22 @@
+-- `slow_shield::flags_into`: refused as it stands, or every flag by the mended thresholds. Assumes nothing.
+use Rattle.laws.proofs.Prelude.{lt-ltb, le-ltb, ne_eqb, held}
+use Rattle.slow_shield.specs.Entry.{flags_call}
+use Rattle.slow_shield.proofs.FlagsCall.{mended, finished}
+use Rattle.slow_shield.proofs.flags_into.Goals as goal
+
+pub returns-then-flags-gt-MOST_MARGINS : goal.returns-then-flags-gt-MOST_MARGINS
+unfolding flags_call
+returns-then-flags-gt-MOST_MARGINS c = simp (lt-ltb _ _ c.if-flags-gt-MOST_MARGINS.true)
+
+pub returns-then-margins-flags : goal.returns-then-margins-flags
+unfolding flags_call
+returns-then-margins-flags c = simp (ne_eqb _ _ c.if-margins-flags.true, le-ltb _ _ c.if-flags-gt-MOST_MARGINS.false)
+
+pub put_flags-requires : goal.put_flags-requires
+unfolding flags_call
+put_flags-requires c = let m = c.before in record { margins_len = m.if-margins-flags.false; enter_value = mended _ _ (held m.well_formed.1.0.1) m.mend-t.ensures }
+
+pub returns : goal.returns
+returns c =
+    let put = c.before.before in let m = put.before.before in
+    finished _ _ _ _ m.if-margins-flags.false m.if-flags-gt-MOST_MARGINS.false m.mend-t.ensures put.put_flags.ensures

@@ -4,7 +4,7 @@ use Rattle.laws.proofs.Prelude.{not-false, ltb, Float, nan, lt, length, get_or, 
 use Rattle.latch.{specs.Latch.{releases, engages, latch}, proofs.LatchFlies.released_is_calm}
 use Rattle.joint_tick.specs.declared.profile.Profile.{Profile}
 use Rattle.slow_shield.specs.Back.{look_back}
-use Rattle.flight_log.{specs.{Form.{RECORD_BYTES, LOG_TRAILER_BYTES, MOST_RECORDS, record_count, is_log}, Records.{bytes_at, records, has_record, record_at}}, proofs.LogForm.is_a_log}
+use Rattle.flight_log.{specs.{Form.{record_bytes, log_trailer_bytes, most_records, record_count, is_log}, Records.{bytes_at, records, has_record, record_at}}, proofs.LogForm.is_a_log}
 use Rattle.flight_log.proofs.Reading.{records_count, record_is}
 use Rattle.audit.specs.{declared.Verdict.TheVariants.FirstWrong, Right.{margin_in, margins_in, right, right_at}, Verdict.verdict_from}
 
@@ -33,33 +33,33 @@ margin_at_lem (r ∷ rs) (suc i) h = margin_at_lem rs i (le_of_suc-le-suc h)
 -- ---- the record that a turn looks at
 
 abbrev pub part : List ℕ → ℕ → List ℕ
-part b i = take (RECORD_BYTES * i + RECORD_BYTES - RECORD_BYTES * i) (drop (RECORD_BYTES * i) b)
+part b i = take (record_bytes * i + record_bytes - record_bytes * i) (drop (record_bytes * i) b)
 
 pub record Turn (b : List ℕ) (i : ℕ) : Type 0 where
-  pub few : i < MOST_RECORDS
-  pub within : RECORD_BYTES * i + RECORD_BYTES ≤ length b
+  pub few : i < most_records
+  pub within : record_bytes * i + record_bytes ≤ length b
   pub within_list : i < length (records b)
-  pub whole : length (part b i) ≡ RECORD_BYTES
+  pub whole : length (part b i) ≡ record_bytes
   pub is : part b i ≡ get_or (records b) i []
 
-pub turn : (b : List ℕ) (i : ℕ) → is_log b ≡ true → i < (length b - LOG_TRAILER_BYTES) / RECORD_BYTES → Turn b i
+pub turn : (b : List ℕ) (i : ℕ) → is_log b ≡ true → i < (length b - log_trailer_bytes) / record_bytes → Turn b i
 unfolding record_at has_record
 turn b i l h =
     let log = is_a_log b l in
     let m : i < record_count b = omega (arith, log.whole) in
-    let e : RECORD_BYTES * i + RECORD_BYTES - RECORD_BYTES * i ≡ RECORD_BYTES = omega arith in
+    let e : record_bytes * i + record_bytes - record_bytes * i ≡ record_bytes = omega arith in
     let there : cond (is_log b && ltb i (record_count b)) (bytes_at b i) [] ≡ get_or (records b) i [] = record_is b i l m in
-    let w : RECORD_BYTES * i + RECORD_BYTES ≤ length b = omega (arith, log.whole) in
+    let w : record_bytes * i + record_bytes ≤ length b = omega (arith, log.whole) in
     record {
       few = omega (arith, log.few);
       within = w;
       within_list = rw (records_count b l) m;
-      whole = rw e (length-take-le RECORD_BYTES (drop (RECORD_BYTES * i) b) (omega (arith, length-drop (RECORD_BYTES * i) b)));
+      whole = rw e (length-take-le record_bytes (drop (record_bytes * i) b) (omega (arith, length-drop (record_bytes * i) b)));
       is = rw e (rw (l, lt-ltb i (record_count b) m) at there);
     }
 
 -- as many turns as records
-pub all_turns : (b : List ℕ) (i : ℕ) → is_log b ≡ true → i ≤ length (records b) → (length b - LOG_TRAILER_BYTES) / RECORD_BYTES ≤ i → length (records b) - i ≡ 0
+pub all_turns : (b : List ℕ) (i : ℕ) → is_log b ≡ true → i ≤ length (records b) → (length b - log_trailer_bytes) / record_bytes ≤ i → length (records b) - i ≡ 0
 all_turns b i l h k = omega (arith, (is_a_log b l).whole, records_count b l)
 
 -- ---- one turn: what was demanded last, the margin that is read, what is demanded now, and whether the record is right

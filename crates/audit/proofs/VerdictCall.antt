@@ -4,7 +4,7 @@ use Rattle.words.{specs.Words.{word, bytes_of}, proofs.WordsBack.word_bytes_of}
 use Rattle.relay_geo.{specs.{declared.shield.Thresholds.Thresholds, Shield.mend_thresholds}, proofs.SetUp.enter_below_exit}
 use Rattle.joint_tick.specs.{declared.profile.Profile.Profile, Profile.{is_profile, profile_of}}
 use Rattle.outcome.{specs.{declared.Outcome.TheVariants.{Done, BrokenLog, PassThrough}, Outcomes.{first_of, left, Filled}}, proofs.Tables.never_given}
-use Rattle.flight_log.{specs.{Form.{MOST_RECORDS, empty_log, from_end, is_log}, Records.records}, proofs.{LogForm.is_a_log, Reading.records_count, Refused.empty_log_lem}}
+use Rattle.flight_log.{specs.{Form.{most_records, empty_log, from_end, is_log}, Records.records}, proofs.{LogForm.is_a_log, Reading.records_count, Refused.empty_log_lem}}
 use Rattle.audit.specs.{declared.Verdict.{Verdict, TheVariants.{AllRight, FirstWrong}}, Verdict.{verdict_of, verdict_word, Says}, Entry.{verdict_on, check_table, check_call}}
 use Rattle.audit.proofs.Said.{verdict_says, empty_right}
 
@@ -24,7 +24,7 @@ same_number AllRight (FirstWrong k) p q e = absurd (omega arith)
 same_number (FirstWrong k) AllRight p q e = absurd (omega arith)
 same_number (FirstWrong j) (FirstWrong k) p q e = ap FirstWrong e
 
-placed : (profile : Profile) (enter exit : Float) (rs : List (List ℕ)) → length rs ≤ MOST_RECORDS → (v : Verdict) → Says profile enter exit rs v → Placed v
+placed : (profile : Profile) (enter exit : Float) (rs : List (List ℕ)) → length rs ≤ most_records → (v : Verdict) → Says profile enter exit rs v → Placed v
 placed profile enter exit rs h AllRight s = tt
 placed profile enter exit rs h (FirstWrong k) s = omega (arith, s.0)
 
@@ -47,7 +47,7 @@ module _ (log : List ℕ) (profile : ℕ) (enter exit : Float) (into : List ℕ)
   abbrev t : Thresholds
   t = mend_thresholds enter exit
 
-  pub few : length (records log) ≤ MOST_RECORDS
+  pub few : length (records log) ≤ most_records
   few = rw (records_count log l) (is_a_log log l).few
 
   -- "Answer yes exactly if all hold, else the first wrong record": the word that is written says so of the log's records

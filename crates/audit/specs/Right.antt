@@ -4,7 +4,7 @@ use Rattle.relay_math.specs.F32.{is_finite}
 use Rattle.words.specs.Words.{word, float, float_of}
 use Rattle.joint_tick.specs.declared.profile.Profile.{Profile}
 use Rattle.joint_tick.specs.declared.profile.Profile.TheVariants.{Whole, LostRotor}
-use Rattle.image.specs.Layout.{INPUT_WORDS, AGILE, COMMAND, FLAG, MARGIN}
+use Rattle.image.specs.Layout.{input_words, AGILE, COMMAND, FLAG, MARGIN}
 use Rattle.image.specs.Passed.{passed_on, planner_word}
 use Rattle.latch.specs.Latch.{FliesAt}
 use Rattle.slow_shield.specs.Back.{look_back}
@@ -15,13 +15,13 @@ abbrev pub agile_word : List ℕ → ℕ → ℕ
 agile_word r axis = word r (AGILE + axis)
 
 abbrev pub command_word : List ℕ → ℕ → ℕ
-command_word r axis = word r (INPUT_WORDS + COMMAND + axis)
+command_word r axis = word r (input_words + COMMAND + axis)
 
 abbrev pub flag_word : List ℕ → ℕ
-flag_word r = word r (INPUT_WORDS + FLAG)
+flag_word r = word r (input_words + FLAG)
 
 abbrev pub margin_in : List ℕ → Float
-margin_in r = float r (INPUT_WORDS + MARGIN)
+margin_in r = float r (input_words + MARGIN)
 
 -- ---- what each flag asks of the command, in bits
 

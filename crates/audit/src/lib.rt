@@ -5,7 +5,7 @@
 ghost use Rattle.std.specs.Prelude.{◌≡◌, true, ◌<◌, length};
 ghost use Rattle.std.specs.Float.Ieee.{lt};
 ghost use Rattle.outcome.specs.Outcomes.{left};
-ghost use Rattle.flight_log.specs.Form.{RECORD_BYTES, is_log};
+ghost use Rattle.flight_log.specs.Form.{record_bytes, is_log};
 ghost use Rattle.flight_log.specs.Records.{records};
 ghost use Rattle.image.specs.Passed.{passed_on};
 ghost use Rattle.audit.specs.Right.{passes, passes_third, planners, finite_on, finites, right};
@@ -52,14 +52,14 @@ fn passed_on(w: u32) -> u32
 
 // The command's word on an axis is the planner's, in bits: as numbers -0.0 would do for 0.0.
 fn passes(bytes: &[u8], axis: usize) -> bool
-    requires { (length bytes.now ≡ RECORD_BYTES) × (axis < 3) }
+    requires { (length bytes.now ≡ record_bytes) × (axis < 3) }
     ensures { result ≡ passes bytes.now axis }
 {
     word_at(bytes, COMMAND + axis) == passed_on(word_at(bytes, AGILE + axis))
 }
 
 fn passes_third(bytes: &[u8], profile: Profile) -> bool
-    requires { length bytes.now ≡ RECORD_BYTES }
+    requires { length bytes.now ≡ record_bytes }
     ensures { result ≡ passes_third profile bytes.now }
 {
     match profile {
@@ -69,7 +69,7 @@ fn passes_third(bytes: &[u8], profile: Profile) -> bool
 }
 
 fn planners(bytes: &[u8], profile: Profile) -> bool
-    requires { length bytes.now ≡ RECORD_BYTES }
+    requires { length bytes.now ≡ record_bytes }
     ensures { result ≡ planners profile bytes.now }
 {
     if !passes(bytes, 0) {
@@ -82,14 +82,14 @@ fn planners(bytes: &[u8], profile: Profile) -> bool
 }
 
 fn finite_on(bytes: &[u8], axis: usize) -> bool
-    requires { (length bytes.now ≡ RECORD_BYTES) × (axis < 3) }
+    requires { (length bytes.now ≡ record_bytes) × (axis < 3) }
     ensures { result ≡ finite_on bytes.now axis }
 {
     is_finite(float_at(bytes, COMMAND + axis))
 }
 
 fn finites(bytes: &[u8]) -> bool
-    requires { length bytes.now ≡ RECORD_BYTES }
+    requires { length bytes.now ≡ record_bytes }
     ensures { result ≡ finites bytes.now }
 {
     if !finite_on(bytes, 0) {
@@ -103,7 +103,7 @@ fn finites(bytes: &[u8]) -> bool
 
 // By the flag that is demanded of it.
 fn right(bytes: &[u8], profile: Profile, engaged: bool) -> bool
-    requires { length bytes.now ≡ RECORD_BYTES }
+    requires { length bytes.now ≡ record_bytes }
     ensures { result ≡ right profile engaged bytes.now }
 {
     let flag = word_at(bytes, FLAG);

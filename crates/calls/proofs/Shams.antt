@@ -6,7 +6,7 @@ use Rattle.words.specs.Words.{word, float}
 use Rattle.relay_geo.specs.Shield.{new_shield}
 use Rattle.joint_tick.{specs.{declared.{state.State.State, stages.Ticked.Ticked}, Profile.is_profile, SetUp.set_up, Tick.{reference_at, ticked, state_after}}, proofs.Shielding.tick_keeps_flag}
 use Rattle.outcome.specs.{declared.Outcome.TheVariants.Done, Outcomes.{left, Filled, lent, Called}}
-use Rattle.image.specs.{Layout.{COUNT, ENGAGED, SETUP_PROFILE, INPUT_BYTES}, Image.{state_at, image_of}, Inputs.{setup_at, input_at, answer_of}}
+use Rattle.image.specs.{Layout.{COUNT, ENGAGED, setup_profile, input_bytes}, Image.{state_at, image_of}, Inputs.{setup_at, input_at, answer_of}}
 use Rattle.image.proofs.Decoded.{count_written, engaged_written, decode_encode}
 use Rattle.lent_tick.{specs.{Unbroken.Unbroken, Tick.tick_from}, proofs.{NeverRefused.{set_up_fits, set_up_never_refused}, TickLeaves.unbroken_taken}}
 use Rattle.calls.specs.Entry.{set_up_refusal, SetsUp, on_segment, set_up_call, tick_call}
@@ -26,7 +26,7 @@ set_up_accepted : (b : List ℕ) → SetsUp b → set_up_call blank_image b ≡ 
 unfolding set_up_call
 set_up_accepted b e = rw e
 
-pub level_profile : is_profile (word level_set_up SETUP_PROFILE) ≡ true
+pub level_profile : is_profile (word level_set_up setup_profile) ≡ true
 unfolding is_profile word
 level_profile = refl
 
@@ -34,8 +34,8 @@ pub level_sets_up : SetsUp level_set_up
 unfolding set_up_refusal is_profile word float lt le mul of_bits
 level_sets_up = refl
 
-tick_accepted : (image input : List ℕ) → Unbroken image → length input ≡ INPUT_BYTES
-    → tick_call image input blank_answer ≡ left Done (lent (leaves image input) (answer_of (tick (image input).answer)))
+tick_accepted : (image input : List ℕ) → Unbroken image → length input ≡ input_bytes
+    → tick_call image input blank_answer ≡ left Done (lent (leaves image input) (answer_of (tick image input).answer))
 unfolding tick_call tick_from leaves
 tick_accepted image input u e = rw (← unbroken_taken image (length input) (length blank_answer) u e refl)
 
@@ -54,7 +54,7 @@ fresh_state : state_at fresh ≡ s
 fresh_state = decode_encode s (set_up_fits level_set_up)
 
 abbrev flag_of : List ℕ → List ℕ → Bool
-flag_of image input = tick (image input).answer.fallback
+flag_of image input = (tick image input).answer.fallback
 
 -- also for the two shams that fall to demand 3 alone (crate `runs`, proofs/Shams.antt)
 pub planner_flies : flag_of fresh level_input ≡ false
@@ -86,8 +86,8 @@ module _ (p : Program) (k : Keeps p) where
   sets_up : p.set_up blank_image level_set_up ≡ left Done fresh
   sets_up = k.set_up blank_image level_set_up ∙ set_up_accepted level_set_up level_sets_up
 
-  ticks : (image input : List ℕ) → Unbroken image → length input ≡ INPUT_BYTES
-      → p.tick image input blank_answer ≡ left Done (lent (leaves image input) (answer_of (tick (image input).answer)))
+  ticks : (image input : List ℕ) → Unbroken image → length input ≡ input_bytes
+      → p.tick image input blank_answer ≡ left Done (lent (leaves image input) (answer_of (tick image input).answer))
   ticks image input a e = k.tick image input blank_answer ∙ tick_accepted image input a e
 
   -- "refusing all calls": demand 2, the table says when

@@ -6,7 +6,7 @@ use Rattle.joint_tick.specs.declared.stages.Reference.{Reference}
 use Rattle.joint_tick.specs.Profile.{is_profile}
 use Rattle.joint_tick.specs.SetUp.{set_up, exchange}
 use Rattle.joint_tick.specs.Tick.{reference_at}
-use Rattle.image.specs.Layout.{IMAGE_BYTES, SETUP_FC, SETUP_FS, SETUP_PROFILE, SETUP_BYTES, LEG_BYTES}
+use Rattle.image.specs.Layout.{image_bytes, setup_fc, setup_fs, setup_profile, setup_bytes, leg_bytes}
 use Rattle.image.specs.Parts.{leg_at}
 use Rattle.image.specs.Image.{fixed_at, state_at, image_of}
 use Rattle.image.specs.Inputs.{setup_at}
@@ -21,17 +21,17 @@ use Rattle.lent_tick.specs.Tick.{tick_refusal, tick_from}
 -- of set-up, which does not look at the image's bytes
 abbrev pub set_up_table : ℕ → List ℕ → Table
 set_up_table imageLen input =
-    (differs imageLen IMAGE_BYTES, ImageLength)
-    ∷ (differs (length input) SETUP_BYTES, InputLength)
-    ∷ (not (is_profile (word input SETUP_PROFILE)), BadProfile)
-    ∷ (passes_through (float input SETUP_FC) (float input SETUP_FS), PassThrough)
+    (differs imageLen image_bytes, ImageLength)
+    ∷ (differs (length input) setup_bytes, InputLength)
+    ∷ (not (is_profile (word input setup_profile)), BadProfile)
+    ∷ (passes_through (float input setup_fc) (float input setup_fs), PassThrough)
     ∷ []
 
 -- of an exchange, whose image is judged as a tick's is
 abbrev pub exchange_table : List ℕ → ℕ → Table
 exchange_table image segmentLen =
-    (differs (length image) IMAGE_BYTES, ImageLength)
-    ∷ (differs segmentLen LEG_BYTES, InputLength)
+    (differs (length image) image_bytes, ImageLength)
+    ∷ (differs segmentLen leg_bytes, InputLength)
     ∷ (not (unbroken image), BrokenImage)
     ∷ []
 
@@ -43,7 +43,7 @@ exchange_refusal image segmentLen = first_of (exchange_table image segmentLen)
 
 -- a set-up's input that is not refused
 abbrev pub SetsUp : List ℕ → Type 0
-SetsUp setup = set_up_refusal IMAGE_BYTES setup ≡ Done
+SetsUp setup = set_up_refusal image_bytes setup ≡ Done
 
 -- ---- what a call leaves
 

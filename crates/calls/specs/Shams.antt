@@ -1,7 +1,7 @@
 -- Sham builds: programs that look like this one and do nothing of what it is for. Definitions only.
 use Rattle.std.specs.Prelude.{ℕ, suc, ◌≡◌, List, [], ◌∷◌, ◌++◌, length, replicate}
 use Rattle.words.specs.Words.{bytes_of}
-use Rattle.image.specs.Layout.{IMAGE_BYTES, ANSWER_BYTES, INPUT_BYTES}
+use Rattle.image.specs.Layout.{image_bytes, answer_bytes, input_bytes}
 use Rattle.outcome.specs.declared.Outcome.TheVariants.{Done}
 use Rattle.outcome.specs.Outcomes.{Filled, Called}
 use Rattle.calls.specs.Entry.{SetsUp, set_up_call, tick_call}
@@ -41,10 +41,10 @@ pub record LeavesTicked (p : Program) : Type 0 where
 
 -- an answer buffer, and an image to set up on
 abbrev pub blank_answer : List ℕ
-blank_answer = replicate ANSWER_BYTES 0
+blank_answer = replicate answer_bytes 0
 
 abbrev pub blank_image : List ℕ
-blank_image = replicate IMAGE_BYTES 0
+blank_image = replicate image_bytes 0
 
 -- the image after a run of ticks, each on the image that the last one left
 abbrev pub ran : Program → List ℕ → List (List ℕ) → List ℕ
@@ -56,7 +56,7 @@ answered p image input = (p.tick image input blank_answer).later.answer
 
 -- from set-up: after a first tick and n more, one more tick answers as the first did, whatever its input. An echo does so for every n; one n is enough.
 pub record EchoesAfter (p : Program) (n : ℕ) : Type 0 where
-  pub again : (b first later : List ℕ) → SetsUp b → length first ≡ INPUT_BYTES → length later ≡ INPUT_BYTES →
+  pub again : (b first later : List ℕ) → SetsUp b → length first ≡ input_bytes → length later ≡ input_bytes →
       answered p (ran p (p.set_up blank_image b).later (replicate (suc n) first)) later ≡ answered p (p.set_up blank_image b).later first
 
 -- ---- a run in which the planner is given control and then loses it

@@ -1,15 +1,15 @@
 -- What a call on a desk leaves: a refused one leaves all as it was, and an accepted tick is the core's tick of the input that it leaves. Assumes nothing.
 use Rattle.laws.proofs.Prelude.{◌≡◌, refl, sym, ap, ◌∙◌, Bool, true, false, cond, List, ℕ, length, no}
 use Rattle.outcome.{specs.{declared.Outcome.{Outcome, TheVariants.Done}, Outcomes.{is_done, differs, Left, left, lent}}, proofs.Tables.by_test_lem}
-use Rattle.image.specs.Layout.{INPUT_BYTES, ANSWER_BYTES}
+use Rattle.image.specs.Layout.{input_bytes, answer_bytes}
 use Rattle.lent_tick.{specs.{Unbroken.Unbroken, Tick.tick_refusal}, proofs.TickLeaves.unbroken_taken}
 use Rattle.route.{specs.{Form.form_refusal, Entry.route_refusal}, proofs.FormRefusals.{in_their_turn, form_decides}}
-use Rattle.desk.specs.{declared.entry.DeskOutcome.{DeskOutcome, TheVariants.{DeskLength, SticksLength, Core}}, Filters.{DESK_BYTES, STICKS_BYTES, desk_at, desk_of, desk_centre}}
+use Rattle.desk.specs.{declared.entry.DeskOutcome.{DeskOutcome, TheVariants.{DeskLength, SticksLength, Core}}, Filters.{desk_bytes, sticks_bytes, desk_at, desk_of, desk_centre}}
 use Rattle.desk.specs.Entry.{desk_done, centre_call, flown_input, LentToDesk, lent_to_desk, DeskCourse, OnSegment, OnRoute, core_refusal, core_call, tick_refusal_at, desk_tick_call, GoodCourse}
 use Rattle.desk.proofs.DeskTickLeaves.{flown_length, core_done}
 
 -- the button of a desk of the right length
-pub centred : (desk : List ℕ) → length desk ≡ DESK_BYTES → centre_call desk ≡ left (Core Done) (desk_of (desk_centre (desk_at desk)))
+pub centred : (desk : List ℕ) → length desk ≡ desk_bytes → centre_call desk ≡ left (Core Done) (desk_of (desk_centre (desk_at desk)))
 unfolding centre_call
 centred desk p = rw p
 
@@ -31,14 +31,14 @@ module _ (course : DeskCourse) (desk sticks image input answer : List ℕ) where
       (λ e f. no (sym f)) (λ e f. refl)
 
   -- where the desk's own lengths are right, "the core's number is handed on"
-  pub core_handed_on : length desk ≡ DESK_BYTES → length sticks ≡ STICKS_BYTES → refusal ≡ Core core
+  pub core_handed_on : length desk ≡ desk_bytes → length sticks ≡ sticks_bytes → refusal ≡ Core core
   unfolding tick_refusal_at
   core_handed_on p q = rw (p, q)
 
   -- an accepted tick has the right lengths, and the core's consent
   pub done_asked : desk_done refusal ≡ true → is_done core ≡ true
   unfolding tick_refusal_at
-  done_asked = go (differs (length desk) DESK_BYTES) (differs (length sticks) STICKS_BYTES)
+  done_asked = go (differs (length desk) desk_bytes) (differs (length sticks) sticks_bytes)
     where
       go : (a b : Bool) → desk_done (cond a DeskLength (cond b SticksLength (Core core))) ≡ true → is_done core ≡ true
       go true b e = no e
@@ -63,13 +63,13 @@ module _ (course : DeskCourse) (desk sticks image input answer : List ℕ) where
   unfolding desk_tick_call
   input_length = by_test_lem (λ (l : Left DeskOutcome LentToDesk). length l.later.input ≡ length input) (desk_done refusal) (λ e. flown_length desk sticks input) (λ e. refl)
 
-  tick_taken : length desk ≡ DESK_BYTES → length sticks ≡ STICKS_BYTES → Done ≡ core → call.outcome ≡ Core Done
+  tick_taken : length desk ≡ desk_bytes → length sticks ≡ sticks_bytes → Done ≡ core → call.outcome ≡ Core Done
   unfolding desk_tick_call tick_refusal_at
   tick_taken p q c = rw (p, q, ← c)
 
 -- with right lengths, an unbroken image and, on a route, a route of its form, a desk tick is accepted
-pub tick_accepted : (course : DeskCourse) (desk sticks image input answer : List ℕ) → GoodCourse course → length desk ≡ DESK_BYTES → length sticks ≡ STICKS_BYTES → length input ≡ INPUT_BYTES
-    → length answer ≡ ANSWER_BYTES → Unbroken image → (desk_tick_call course desk sticks image input answer).outcome ≡ Core Done
+pub tick_accepted : (course : DeskCourse) (desk sticks image input answer : List ℕ) → GoodCourse course → length desk ≡ desk_bytes → length sticks ≡ sticks_bytes → length input ≡ input_bytes
+    → length answer ≡ answer_bytes → Unbroken image → (desk_tick_call course desk sticks image input answer).outcome ≡ Core Done
 tick_accepted course desk sticks image input answer g p q i a u = tick_taken course desk sticks image input answer p q (takes course g (unbroken_taken image (length input) (length answer) u i a))
   where
     takes : (course : DeskCourse) → GoodCourse course → Done ≡ tick_refusal image (length input) (length answer) → Done ≡ core_refusal course image (length input) (length answer)
@@ -81,7 +81,7 @@ pub route_last : (route : List ℕ) (deskLen sticksLen : ℕ) (image : List ℕ)
     → let t = tick_refusal_at OnSegment deskLen sticksLen image inputLen answerLen in
     tick_refusal_at (OnRoute route) deskLen sticksLen image inputLen answerLen ≡ cond (desk_done t) (Core (form_refusal route)) t
 unfolding tick_refusal_at
-route_last route deskLen sticksLen image inputLen answerLen = go (differs deskLen DESK_BYTES) (differs sticksLen STICKS_BYTES)
+route_last route deskLen sticksLen image inputLen answerLen = go (differs deskLen desk_bytes) (differs sticksLen sticks_bytes)
   where
     plain : Outcome
     plain = tick_refusal image inputLen answerLen

@@ -1,14 +1,14 @@
 -- What a desk tick leaves by what its calls gave, on either course. Of the core it takes the promises and two laws: it is done unless `core_refusal` refuses, and then changes nothing. Assumes nothing.
 use Rattle.laws.proofs.Prelude.{◌≡◌, refl, sym, ap, ◌∙◌, Bool, true, false, List, [], ◌∷◌, ℕ, suc, ◌*◌, Float, length, length-sets}
 use Rattle.words.{specs.Words.{word, bits, bytes_of, Put}, proofs.{Written.{then, put_over}, Standing.{Bytes, word_stands}}}
-use Rattle.image.specs.Layout.{YAW, INPUT_BYTES}
+use Rattle.image.specs.Layout.{YAW, input_bytes}
 use Rattle.outcome.specs.{declared.Outcome.{Outcome, TheVariants.Done}, Outcomes.{is_done, Left, left, lent, Called}}
 use Rattle.lent_tick.{specs.Tick.{tick_refusal, tick_from}, proofs.TickLeaves.taken_unbroken}
 use Rattle.calls.specs.Entry.{tick_call}
 use Rattle.calls.proofs.Asked
 use Rattle.route.specs.Entry.{route_call}
 use Rattle.route.proofs.FormRefusals
-use Rattle.desk.specs.{declared.{filters.Desk.Desk, entry.DeskOutcome.{DeskOutcome, TheVariants.Core}}, Filters.{DESK_BYTES, STICKS_BYTES}, Inner.Ends}
+use Rattle.desk.specs.{declared.{filters.Desk.Desk, entry.DeskOutcome.{DeskOutcome, TheVariants.Core}}, Filters.{desk_bytes, sticks_bytes}, Inner.Ends}
 use Rattle.desk.specs.Entry.{with_heading, moved, flown_input, LentToDesk, lent_to_desk, DeskCourse, OnSegment, OnRoute, core_refusal, core_call, tick_refusal_at, desk_tick_call}
 
 -- the lent input keeps its length
@@ -53,7 +53,7 @@ unfolding with_heading
 restored input x y h g p q b =
     (put_over {b = input} {u = bits x ∷ bits y ∷ []} record { is = g } b refl).is ∙ rw (p, q) (sym (then (word_stands input YAW h) (word_stands input (suc YAW) h) refl).is)
 
-module _ (course : DeskCourse) (desk sticks image input answer : List ℕ) (p : length desk ≡ DESK_BYTES) (q : length sticks ≡ STICKS_BYTES) where
+module _ (course : DeskCourse) (desk sticks image input answer : List ℕ) (p : length desk ≡ desk_bytes) (q : length sticks ≡ sticks_bytes) where
   abbrev refusal : Outcome
   refusal = core_refusal course image (length input) (length answer)
 
@@ -65,7 +65,7 @@ module _ (course : DeskCourse) (desk sticks image input answer : List ℕ) (p : 
   refused n = rw (p, q, n)
 
   -- an input of another length, by what a tick says of that
-  pub no_input : {o : Outcome} → o ≡ tick_refusal image (length input) (length answer) → (length input ≡ INPUT_BYTES → ⊥) → left (Core o) (lent_to_desk desk image input answer) ≡ called
+  pub no_input : {o : Outcome} → o ≡ tick_refusal image (length input) (length answer) → (length input ≡ input_bytes → ⊥) → left (Core o) (lent_to_desk desk image input answer) ≡ called
   no_input {o} e n = go (is_done (tick_refusal image (length input) (length answer))) refl
     where
       go : (t : Bool) → is_done (tick_refusal image (length input) (length answer)) ≡ t → left (Core o) (lent_to_desk desk image input answer) ≡ called

@@ -5,7 +5,7 @@ use lib.Ieee.Bits.{of_bits-to_bits}
 use Rattle.words.{specs.Words.{word, float, vec, float_of, bits, bytes_of, Put}, proofs.{WordsBack.bits_lt, Written.{sets_other, put_word}}}
 use Rattle.relay_math.{specs.F32.{0·0, is_finite, finite_or}, proofs.FiniteOr.or_zero_finite}
 use Rattle.relay_adrc.specs.{declared.filter.CommandFilter.CommandFilter, Filter.{clamp_sym, filter_step}}
-use Rattle.image.specs.{Layout.{YAW, YAW_RATE, DT, INPUT_BYTES}, Fits.F32}
+use Rattle.image.specs.{Layout.{YAW, yaw_rate_word, DT, input_bytes}, Fits.F32}
 use Rattle.desk.specs.{declared.filters.Desk.Desk, Filters.{desk_at, desk_step}, Entry.{with_heading, moved, flown_input}}
 use Rattle.desk.proofs.Read.{FitsDesk, stepped_fits}
 
@@ -44,7 +44,7 @@ module _ (input : List ℕ) (x y : Float) where
   unfolding with_heading
   put = record { is = refl }
 
-  pub heading_written : length input ≡ INPUT_BYTES → F32 x → F32 y → (float (with_heading input x y) YAW ≡ x) × (float (with_heading input x y) YAW_RATE ≡ y)
+  pub heading_written : length input ≡ input_bytes → F32 x → F32 y → (float (with_heading input x y) YAW ≡ x) × (float (with_heading input x y) yaw_rate_word ≡ y)
   unfolding float
   heading_written p f g =
       let at : (i : ℕ) → i < 2 → word (with_heading input x y) (YAW + i) ≡ get_or ws i 0 % 4294967296 = put_word put (omega arith) in (
@@ -53,7 +53,7 @@ module _ (input : List ℕ) (x y : Float) where
       )
 
   -- "the first two over the yaw and yaw rate words", and nothing else
-  pub others_kept : (k : ℕ) → (k < YAW) ⊎ (YAW_RATE < k) → word (with_heading input x y) k ≡ word input k
+  pub others_kept : (k : ℕ) → (k < YAW) ⊎ (yaw_rate_word < k) → word (with_heading input x y) k ≡ word input k
   unfolding with_heading word
   others_kept k h =
       let at : (i : ℕ) → (4 * k < i + 1) → (i < 4 * k + 4) → get_or (sets input (4 * YAW) (bytes_of ws)) i 0 ≡ get_or input i 0 =
@@ -62,7 +62,7 @@ module _ (input : List ℕ) (x y : Float) where
 
 -- ---- the input that is flown
 
-module _ (desk sticks input : List ℕ) (p : length input ≡ INPUT_BYTES) where
+module _ (desk sticks input : List ℕ) (p : length input ≡ input_bytes) where
   abbrev d : Desk
   d = moved desk sticks input
 
@@ -70,11 +70,11 @@ module _ (desk sticks input : List ℕ) (p : length input ≡ INPUT_BYTES) where
   unfolding moved
   fits = stepped_fits desk (vec sticks 0) (float input DT)
 
-  pub flown_heading : (float (flown_input desk sticks input) YAW ≡ d.heading.y) × (float (flown_input desk sticks input) YAW_RATE ≡ d.turn.y)
+  pub flown_heading : (float (flown_input desk sticks input) YAW ≡ d.heading.y) × (float (flown_input desk sticks input) yaw_rate_word ≡ d.turn.y)
   unfolding flown_input
   flown_heading = heading_written input d.heading.y d.turn.y p fits.0.1.1.1.0 fits.1.1.1.1.0
 
   -- "each value stays within its limit" only of limits that are limits; but whatever the limits are, the core never flies by a heading that is no number
-  pub flown_finite : T (is_finite (float (flown_input desk sticks input) YAW)) × T (is_finite (float (flown_input desk sticks input) YAW_RATE))
+  pub flown_finite : T (is_finite (float (flown_input desk sticks input) YAW)) × T (is_finite (float (flown_input desk sticks input) yaw_rate_word))
   unfolding moved desk_step
   flown_finite = rw (flown_heading.0, flown_heading.1) (value_finite (desk_at desk).heading (vec sticks 0).0 (float input DT), value_finite (desk_at desk).turn (vec sticks 0).1 (float input DT))

@@ -4,7 +4,7 @@ use Rattle.words.specs.Words.{float, vec}
 use Rattle.image.specs.Layout.{DT}
 use Rattle.outcome.{specs.Outcomes.Left, proofs.Tables.by_test_lem}
 use Rattle.relay_adrc.{specs.{declared.filter.CommandFilter.CommandFilter, Filter.{Event, Step, Reset, filter_new, after_event, after_events}}, proofs.FilterLimits.{Limit, Held, fresh_held}}
-use Rattle.desk.specs.{declared.{filters.Desk.Desk, entry.DeskOutcome.DeskOutcome}, Filters.{DESK_BYTES, desk_at, new_at, desk_set_up, desk_step, desk_centre}}
+use Rattle.desk.specs.{declared.{filters.Desk.Desk, entry.DeskOutcome.DeskOutcome}, Filters.{desk_bytes, desk_at, new_at, desk_set_up, desk_step, desk_centre}}
 use Rattle.desk.specs.Entry.{desk_done, LentToDesk, moved, tick_refusal_at, desk_tick_call}
 use Rattle.desk.specs.Runs.{Stick, Heading, Turn, Zoom, place, filter_of, omega_given, mag_limit, rate_limit, DeskCall, Ticks, Centres, desk_by, desk_after, desk_start, events_by, events_along}
 use Rattle.desk.proofs.{Read.{set_up_fits, stepped_fits, centred_fits, desk_length, read_again}, DeskCalls.centred}
@@ -25,10 +25,10 @@ reset_by Zoom d = refl
 
 -- A call leaves a desk of its length, on which each stick's filter had its events.
 record Moves (s : Stick) (es : List Event) (desk later : List ℕ) : Type 0 where
-  pub size : length later ≡ DESK_BYTES
+  pub size : length later ≡ desk_bytes
   pub filter : filter_of s (desk_at later) ≡ after_events (filter_of s (desk_at desk)) es
 
-call_moves : (s : Stick) (desk : List ℕ) (c : DeskCall) → length desk ≡ DESK_BYTES → Moves s (events_by s c) desk (desk_by desk c)
+call_moves : (s : Stick) (desk : List ℕ) (c : DeskCall) → length desk ≡ desk_bytes → Moves s (events_by s c) desk (desk_by desk c)
 unfolding desk_by events_by after_events desk_tick_call moved
 call_moves s desk Centres p =
     subst (λ (l : Left DeskOutcome (List ℕ)). Moves s (events_by s Centres) desk l.later) (sym (centred desk p))
@@ -52,7 +52,7 @@ unfolding after_events
 run_append f [] fs = refl
 run_append f (e ∷ es) fs = run_append (after_event f e) es fs
 
-pub stick_runs : (s : Stick) (desk : List ℕ) (calls : List DeskCall) → length desk ≡ DESK_BYTES
+pub stick_runs : (s : Stick) (desk : List ℕ) (calls : List DeskCall) → length desk ≡ desk_bytes
     → filter_of s (desk_at (desk_after desk calls)) ≡ after_events (filter_of s (desk_at desk)) (events_along s calls)
 unfolding desk_after events_along after_events
 stick_runs s desk [] p = refl
@@ -62,14 +62,14 @@ stick_runs s desk (c ∷ calls) p =
     ∙ ap (λ (f : CommandFilter). after_events f (events_along s calls)) m.filter
     ∙ run_append (filter_of s (desk_at desk)) (events_by s c) (events_along s calls)
 
-pub size_kept : (desk : List ℕ) (calls : List DeskCall) → length desk ≡ DESK_BYTES → length (desk_after desk calls) ≡ DESK_BYTES
+pub size_kept : (desk : List ℕ) (calls : List DeskCall) → length desk ≡ desk_bytes → length (desk_after desk calls) ≡ desk_bytes
 unfolding desk_after
 size_kept desk [] p = p
 size_kept desk (c ∷ calls) p = size_kept (desk_by desk c) calls (call_moves Heading desk c p).size
 
 -- ---- from set-up on
 
-pub start_length : (setup : List ℕ) → length (desk_start setup) ≡ DESK_BYTES
+pub start_length : (setup : List ℕ) → length (desk_start setup) ≡ desk_bytes
 unfolding desk_start
 start_length setup = desk_length (desk_set_up setup)
 

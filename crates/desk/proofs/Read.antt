@@ -5,7 +5,7 @@ use Rattle.words.{specs.Words.{words_of, AllFit, Holds}, proofs.{WordsBack.{firs
 use Rattle.relay_math.specs.declared.Vec3.{Vec3}
 use Rattle.relay_adrc.specs.{declared.filter.CommandFilter.CommandFilter, Filter.{clamp_sym, filter_step, filter_reset}}
 use Rattle.image.specs.Fits.{F32}
-use Rattle.desk.specs.{declared.filters.Desk.Desk, Filters.{FILTER_WORDS, DESK_BYTES, stick_filter_at, desk_at, floats_of_filter, floats_of_desk, desk_of, new_at, desk_set_up, desk_step, desk_centre}}
+use Rattle.desk.specs.{declared.filters.Desk.Desk, Filters.{filter_words, desk_bytes, stick_filter_at, desk_at, floats_of_filter, floats_of_desk, desk_of, new_at, desk_set_up, desk_step, desk_centre}}
 
 abbrev pub FitsFilter : CommandFilter → Type 0
 FitsFilter f = AllFit (floats_of_filter f)
@@ -50,7 +50,7 @@ centred_fits b = (reset_fits _ (filter_fits b _), reset_fits _ (filter_fits b _)
 
 -- ---- written and read again
 
-pub desk_length : (d : Desk) → length (desk_of d) ≡ DESK_BYTES
+pub desk_length : (d : Desk) → length (desk_of d) ≡ desk_bytes
 unfolding desk_of
 desk_length d = length_bytes_of (words_of (floats_of_desk d))
 
@@ -58,7 +58,7 @@ desk_is : (d : Desk) → Holds (desk_of d) (words_of (floats_of_desk d))
 unfolding desk_of
 desk_is d = record { is = refl }
 
-filter_back : {b ws : List ℕ} → Holds b ws → (k : ℕ) (f : CommandFilter) → take FILTER_WORDS (drop k ws) ≡ words_of (floats_of_filter f) → FitsFilter f → stick_filter_at b k ≡ f
+filter_back : {b ws : List ℕ} → Holds b ws → (k : ℕ) (f : CommandFilter) → take filter_words (drop k ws) ≡ words_of (floats_of_filter f) → FitsFilter f → stick_filter_at b k ≡ f
 unfolding stick_filter_at
 filter_back e k f held h =
     let at = floats_back e k (floats_of_filter f) held h in
@@ -68,4 +68,4 @@ pub read_again : (d : Desk) → FitsDesk d → desk_at (desk_of d) ≡ d
 unfolding desk_at
 read_again d h =
     let at = filter_back (desk_is d) in
-    simp (at 0 d.heading refl h.0, at FILTER_WORDS d.turn refl h.1, at (FILTER_WORDS + FILTER_WORDS) d.zoom refl h.2)
+    simp (at 0 d.heading refl h.0, at filter_words d.turn refl h.1, at (filter_words + filter_words) d.zoom refl h.2)

@@ -1,7 +1,7 @@
 -- Each stick by the limits that set-up was given, each of its numbers by its own limit alone; and so the two words that are flown. Assumes nothing.
 use Rattle.laws.proofs.Prelude.{◌≡◌, sym, ap, subst, ◌∙◌, true, List, ℕ, Float, neg, length, no}
 use Rattle.words.specs.Words.{float}
-use Rattle.image.specs.Layout.{YAW, YAW_RATE, DT}
+use Rattle.image.specs.Layout.{YAW, yaw_rate_word, DT}
 use Rattle.outcome.{specs.Outcomes.Left, proofs.Tables.by_test_lem}
 use Rattle.relay_math.specs.F32.{Within}
 use Rattle.relay_adrc.{specs.{declared.filter.CommandFilter.CommandFilter, Filter.{Step, filter_new, after_event, after_events}}, proofs.FilterLimits.{Limit, limits_kept, value_within, fresh_within}}
@@ -43,7 +43,7 @@ pub flown_within : (setup : List ℕ) (calls : List DeskCall) (t : DeskTick)
     → let call = desk_tick_call t.course (desk_after (desk_start setup) calls) t.sticks t.image t.input t.answer in
     desk_done call.outcome ≡ true
     → (Limit (mag_limit Heading setup) → Within (neg (mag_limit Heading setup)) (mag_limit Heading setup) (float call.later.input YAW))
-    × (Limit (mag_limit Turn setup) → Within (neg (mag_limit Turn setup)) (mag_limit Turn setup) (float call.later.input YAW_RATE))
+    × (Limit (mag_limit Turn setup) → Within (neg (mag_limit Turn setup)) (mag_limit Turn setup) (float call.later.input yaw_rate_word))
 unfolding desk_tick_call
 flown_within setup calls t =
     by_test_lem (λ (l : Left DeskOutcome LentToDesk). desk_done l.outcome ≡ true → Flown l.later.input)
@@ -62,4 +62,4 @@ flown_within setup calls t =
     In s x = Limit (mag_limit s setup) → Within (neg (mag_limit s setup)) (mag_limit s setup) x
 
     Flown : List ℕ → Type 0
-    Flown input = In Heading (float input YAW) × In Turn (float input YAW_RATE)
+    Flown input = In Heading (float input YAW) × In Turn (float input yaw_rate_word)

@@ -13,7 +13,7 @@ use Rattle.route.specs.Entry.{route_refusal, route_call}
 use Rattle.desk.specs.declared.filters.Desk.{Desk}
 use Rattle.desk.specs.declared.entry.DeskOutcome.{DeskOutcome}
 use Rattle.desk.specs.declared.entry.DeskOutcome.TheVariants.{DeskLength, SticksLength, Core}
-use Rattle.desk.specs.Filters.{DESK_BYTES, DESK_SETUP_BYTES, STICKS_BYTES, desk_at, desk_of, desk_set_up, desk_step, desk_centre}
+use Rattle.desk.specs.Filters.{desk_bytes, desk_setup_bytes, sticks_bytes, desk_at, desk_of, desk_set_up, desk_step, desk_centre}
 
 abbrev pub desk_number : DeskOutcome → ℕ
 desk_number DeskLength = 15
@@ -26,7 +26,7 @@ desk_done o = eqb (desk_number o) 0
 -- ---- what is refused: the desk's length, then what is said of the sticks, then what the core refuses
 
 abbrev pub desk_refusal : ℕ → ℕ → ℕ → DeskOutcome → DeskOutcome
-desk_refusal deskLen sticksLen right core = cond (differs deskLen DESK_BYTES) DeskLength (cond (differs sticksLen right) SticksLength core)
+desk_refusal deskLen sticksLen right core = cond (differs deskLen desk_bytes) DeskLength (cond (differs sticksLen right) SticksLength core)
 
 -- what an accepted call writes, unless it is refused: then every byte stays
 abbrev pub desk_left : {B : Type 0} → DeskOutcome → B → B → Left DeskOutcome B
@@ -40,11 +40,11 @@ desk_numbered l = left (desk_number l.outcome) l.later
 
 unfoldable pub desk_set_up_call : List ℕ → List ℕ → Left DeskOutcome (List ℕ)
 unfolding desk_set_up desk_of
-desk_set_up_call desk input = desk_left (desk_refusal (length desk) (length input) DESK_SETUP_BYTES (Core Done)) (desk_of (desk_set_up input)) desk
+desk_set_up_call desk input = desk_left (desk_refusal (length desk) (length input) desk_setup_bytes (Core Done)) (desk_of (desk_set_up input)) desk
 
 unfoldable pub centre_call : List ℕ → Left DeskOutcome (List ℕ)
 unfolding desk_at desk_of
-centre_call desk = desk_left (cond (differs (length desk) DESK_BYTES) DeskLength (Core Done)) (desk_of (desk_centre (desk_at desk))) desk
+centre_call desk = desk_left (cond (differs (length desk) desk_bytes) DeskLength (Core Done)) (desk_of (desk_centre (desk_at desk))) desk
 
 -- ---- the desk tick
 
@@ -88,7 +88,7 @@ core_call OnSegment image input answer = tick_call image input answer
 core_call (OnRoute route) image input answer = route_call image input route answer
 
 unfoldable pub tick_refusal_at : DeskCourse → ℕ → ℕ → List ℕ → ℕ → ℕ → DeskOutcome
-tick_refusal_at course deskLen sticksLen image inputLen answerLen = desk_refusal deskLen sticksLen STICKS_BYTES (Core (core_refusal course image inputLen answerLen))
+tick_refusal_at course deskLen sticksLen image inputLen answerLen = desk_refusal deskLen sticksLen sticks_bytes (Core (core_refusal course image inputLen answerLen))
 
 unfoldable pub desk_tick_call : DeskCourse → List ℕ → List ℕ → List ℕ → List ℕ → List ℕ → Left DeskOutcome LentToDesk
 unfolding tick_refusal_at flown_input moved desk_of

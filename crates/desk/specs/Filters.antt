@@ -8,20 +8,20 @@ use Rattle.desk.specs.declared.filters.Desk.{Desk}
 
 -- ---- a filter is five words, in the order of the Rust's fields; three numbers of set-up make one; a stick is one word
 
-abbrev pub FILTER_WORDS : ℕ
-FILTER_WORDS = 5
+abbrev pub filter_words : ℕ
+filter_words = 5
 
-abbrev pub NEW_WORDS : ℕ
-NEW_WORDS = 3
+abbrev pub new_words : ℕ
+new_words = 3
 
-abbrev pub DESK_BYTES : ℕ
-DESK_BYTES = 4 * (3 * FILTER_WORDS)
+abbrev pub desk_bytes : ℕ
+desk_bytes = 4 * (3 * filter_words)
 
-abbrev pub DESK_SETUP_BYTES : ℕ
-DESK_SETUP_BYTES = 4 * (3 * NEW_WORDS)
+abbrev pub desk_setup_bytes : ℕ
+desk_setup_bytes = 4 * (3 * new_words)
 
-abbrev pub STICKS_BYTES : ℕ
-STICKS_BYTES = 4 * 3
+abbrev pub sticks_bytes : ℕ
+sticks_bytes = 4 * 3
 
 -- ---- read; every bit pattern is taken
 
@@ -37,7 +37,7 @@ stick_filter_at b k =
 
 unfoldable pub desk_at : List ℕ → Desk
 unfolding stick_filter_at
-desk_at b = record { heading = stick_filter_at b 0; turn = stick_filter_at b FILTER_WORDS; zoom = stick_filter_at b (FILTER_WORDS + FILTER_WORDS) }
+desk_at b = record { heading = stick_filter_at b 0; turn = stick_filter_at b filter_words; zoom = stick_filter_at b (filter_words + filter_words) }
 
 -- ---- written
 
@@ -57,7 +57,7 @@ new_at b k = filter_new (float b k) (float b (k + 1)) (float b (k + 2))
 
 unfoldable pub desk_set_up : List ℕ → Desk
 unfolding new_at
-desk_set_up b = record { heading = new_at b 0; turn = new_at b NEW_WORDS; zoom = new_at b (NEW_WORDS + NEW_WORDS) }
+desk_set_up b = record { heading = new_at b 0; turn = new_at b new_words; zoom = new_at b (new_words + new_words) }
 
 -- ---- "three sticks go through one `CommandFilter` each", "a centre button that resets the filters"
 

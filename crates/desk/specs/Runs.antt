@@ -5,7 +5,7 @@ use Rattle.image.specs.Layout.{DT}
 use Rattle.relay_adrc.specs.declared.filter.CommandFilter.{CommandFilter}
 use Rattle.relay_adrc.specs.Filter.{Event, Step, Reset}
 use Rattle.desk.specs.declared.filters.Desk.{Desk}
-use Rattle.desk.specs.Filters.{NEW_WORDS, DESK_BYTES, desk_of, desk_set_up}
+use Rattle.desk.specs.Filters.{new_words, desk_bytes, desk_of, desk_set_up}
 use Rattle.desk.specs.Entry.{desk_done, centre_call, DeskCourse, tick_refusal_at, desk_tick_call}
 
 -- ---- the sticks, by number: their filters, and the limits that set-up is given for each
@@ -26,13 +26,13 @@ filter_of Turn d = d.turn
 filter_of Zoom d = d.zoom
 
 abbrev pub omega_given : Stick → List ℕ → Float
-omega_given s setup = float setup (NEW_WORDS * place s)
+omega_given s setup = float setup (new_words * place s)
 
 abbrev pub mag_limit : Stick → List ℕ → Float
-mag_limit s setup = float setup (NEW_WORDS * place s + 1)
+mag_limit s setup = float setup (new_words * place s + 1)
 
 abbrev pub rate_limit : Stick → List ℕ → Float
-rate_limit s setup = float setup (NEW_WORDS * place s + 2)
+rate_limit s setup = float setup (new_words * place s + 2)
 
 -- ---- the calls
 
@@ -68,7 +68,7 @@ desk_start setup = desk_of (desk_set_up setup)
 unfoldable pub events_by : Stick → DeskCall → List Event
 unfolding tick_refusal_at
 events_by s (Ticks t) =
-    cond (desk_done (tick_refusal_at t.course DESK_BYTES (length t.sticks) t.image (length t.input) (length t.answer)))
+    cond (desk_done (tick_refusal_at t.course desk_bytes (length t.sticks) t.image (length t.input) (length t.answer)))
     (Step (float t.sticks (place s)) (float t.input DT) ∷ []) []
 events_by s Centres = Reset ∷ []
 

@@ -1,9 +1,9 @@
 // Set-up, the centre button and the desk ticks on lent bytes. Nothing is asked of the caller; a refused call changes no byte of any buffer.
 ghost use Rattle.std.specs.Prelude.{◌≡◌, ◌∷◌, [], length};
 ghost use Rattle.words.specs.Words.{Put};
-ghost use Rattle.image.specs.Layout.{YAW, INPUT_BYTES};
+ghost use Rattle.image.specs.Layout.{YAW as yaw_word, input_bytes};
 ghost use Rattle.outcome.specs.Outcomes.{left};
-ghost use Rattle.desk.specs.Filters.{DESK_BYTES, STICKS_BYTES};
+ghost use Rattle.desk.specs.Filters.{desk_bytes, sticks_bytes};
 ghost use Rattle.desk.specs.Entry.{desk_number, desk_set_up_call, centre_call, with_heading, moved, flown_input, lent_to_desk, OnSegment, OnRoute, desk_tick_call};
 ghost use Rattle.desk.specs.Inner.{Ends};
 
@@ -60,7 +60,7 @@ pub fn centre(desk: &mut [u8]) -> DeskOutcome
 }
 
 fn put_heading(input: &mut [u8], heading: f32, turn: f32)
-    requires { length input.old ≡ INPUT_BYTES }
+    requires { length input.old ≡ input_bytes }
     ensures { input.new ≡ with_heading input.old heading turn }
 {
     put_float(input, YAW, heading);
@@ -69,8 +69,8 @@ fn put_heading(input: &mut [u8], heading: f32, turn: f32)
 
 // The two words as they stood.
 fn put_back(input: &mut [u8], yaw: u32, yaw_rate: u32)
-    requires { length input.old ≡ INPUT_BYTES }
-    ensures { Put input.old YAW (yaw ∷ yaw_rate ∷ []) input.new }
+    requires { length input.old ≡ input_bytes }
+    ensures { Put input.old yaw_word (yaw ∷ yaw_rate ∷ []) input.new }
 {
     put_word(input, YAW, yaw);
     put_word(input, YAW_RATE, yaw_rate);
@@ -78,7 +78,7 @@ fn put_back(input: &mut [u8], yaw: u32, yaw_rate: u32)
 
 // The desk stepped, not yet kept, and its heading in the input.
 fn step_into(desk: &[u8], sticks: &[u8], input: &mut [u8]) -> Desk
-    requires { (length desk.now ≡ DESK_BYTES) × (length sticks.now ≡ STICKS_BYTES) × (length input.old ≡ INPUT_BYTES) }
+    requires { (length desk.now ≡ desk_bytes) × (length sticks.now ≡ sticks_bytes) × (length input.old ≡ input_bytes) }
     ensures { (result ≡ moved desk.now sticks.now input.old) × (input.new ≡ flown_input desk.now sticks.now input.old) }
 {
     let moved = step(desk_at(desk), vec_at(sticks, 0), float_at(input, DT));
@@ -97,7 +97,7 @@ fn end(
     yaw_rate: u32,
     ended: Outcome,
 ) -> DeskOutcome
-    requires { (length desk.old ≡ DESK_BYTES) × (length input.old ≡ INPUT_BYTES) }
+    requires { (length desk.old ≡ desk_bytes) × (length input.old ≡ input_bytes) }
     ensures { Ends moved yaw yaw_rate ended desk.old input.old result desk.new input.new }
 {
     if !is_done(ended) {

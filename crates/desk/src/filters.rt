@@ -1,7 +1,7 @@
 // The three filters: read, written, made, stepped, reset.
 ghost use Rattle.std.specs.Prelude.{◌≡◌, ◌+◌, ◌*◌, ◌≤◌, length};
 ghost use Rattle.words.specs.Words.{words_of, Put};
-ghost use Rattle.desk.specs.Filters.{DESK_BYTES, DESK_SETUP_BYTES, stick_filter_at, new_at, desk_at, desk_set_up, desk_step, desk_centre, floats_of_filter, desk_of};
+ghost use Rattle.desk.specs.Filters.{desk_bytes, desk_setup_bytes, stick_filter_at, new_at, desk_at, desk_set_up, desk_step, desk_centre, floats_of_filter, desk_of};
 
 use relay_adrc::CommandFilter;
 use relay_math::Vec3;
@@ -39,7 +39,7 @@ fn filter_at(bytes: &[u8], k: usize) -> CommandFilter
 }
 
 pub(crate) fn desk_at(desk: &[u8]) -> Desk
-    requires { length desk.now ≡ DESK_BYTES }
+    requires { length desk.now ≡ desk_bytes }
     ensures { result ≡ desk_at desk.now }
 {
     Desk {
@@ -59,7 +59,7 @@ fn put_filter(bytes: &mut [u8], k: usize, f: CommandFilter)
 }
 
 pub(crate) fn put_desk(bytes: &mut [u8], d: Desk)
-    requires { length bytes.old ≡ DESK_BYTES }
+    requires { length bytes.old ≡ desk_bytes }
     ensures { bytes.new ≡ desk_of d }
 {
     put_filter(bytes, 0, d.heading);
@@ -80,7 +80,7 @@ fn new_at(input: &[u8], k: usize) -> CommandFilter
 }
 
 pub(crate) fn set_up(input: &[u8]) -> Desk
-    requires { length input.now ≡ DESK_SETUP_BYTES }
+    requires { length input.now ≡ desk_setup_bytes }
     ensures { result ≡ desk_set_up input.now }
 {
     Desk {

@@ -1,12 +1,12 @@
 -- The user's third demand over runs by the desk. Assumes nothing.
 use Rattle.laws.proofs.Prelude.{◌≡◌, sym, ap, subst, ◌∙◌, List, [], ◌∷◌, ◌++◌, ℕ, length}
 use Rattle.latch.specs.Latch.{Flies}
-use Rattle.image.specs.Layout.{INPUT_BYTES, ANSWER_BYTES}
+use Rattle.image.specs.Layout.{input_bytes, answer_bytes}
 use Rattle.outcome.specs.Outcomes.{Called}
 use Rattle.lent_tick.specs.Unbroken.{Unbroken}
 use Rattle.runs.specs.{Runs.{Course, Segment, Route, Tick, tick_of, guided, start, margins_along, RightCourse, Right}, DemandThree.{enter_of, exit_of, Shows}}
 use Rattle.runs.proofs.{Induction.ran, DemandThree.demand_three}
-use Rattle.desk.{specs.{Filters.{DESK_BYTES, STICKS_BYTES}, Entry.{desk_number, desk_done, GoodCourse}}, proofs.DeskCalls.{tick_accepted, input_length}}
+use Rattle.desk.{specs.{Filters.{desk_bytes, sticks_bytes}, Entry.{desk_number, desk_done, GoodCourse}}, proofs.DeskCalls.{tick_accepted, input_length}}
 use Rattle.desk_runs.specs.Runs.{desk_and_image, DeskGiven, by_desk, AnyCall, desk_tick, held_after, flown_tick, core_along}
 use Rattle.desk_runs.proofs.Seen.{flown_by_core, core_sees, desk_size}
 
@@ -24,7 +24,7 @@ demand_three_beside_desk desk setup calls t right =
 -- Demand 3 as crate `runs` has it, of a tick by the desk: after the same calls, with a desk of the right length, a desk tick of right lengths, on the image's segment or on a right route.
 -- It is accepted, and what it answers is the answer of the core's tick of the input that it left.
 pub demand_three_by_desk : (desk setup : List ℕ) (calls : List AnyCall) (g : DeskGiven)
-    → RightCourse g.course → length desk ≡ DESK_BYTES → length g.sticks ≡ STICKS_BYTES → length g.input ≡ INPUT_BYTES → length g.answer ≡ ANSWER_BYTES
+    → RightCourse g.course → length desk ≡ desk_bytes → length g.sticks ≡ sticks_bytes → length g.input ≡ input_bytes → length g.answer ≡ answer_bytes
     → let h = held_after (desk_and_image desk (start setup)) calls in
     let t = flown_tick h g in
     let margins = margins_along (start setup) (core_along (desk_and_image desk (start setup)) calls) ++ (guided h.image t).margin ∷ [] in

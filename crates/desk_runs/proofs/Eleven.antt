@@ -2,7 +2,7 @@
 use Rattle.laws.proofs.Prelude.{◌≡◌, Bool, true, false, cond, List, ℕ, ap, arith}
 use Rattle.outcome.specs.{declared.Outcome.{Outcome, TheVariants.{Done, PassThrough}}, Outcomes.{number, differs}}
 use Rattle.runs.proofs.Gyro.{no_tick_gives_eleven, no_route_tick_gives_eleven}
-use Rattle.desk.specs.{declared.entry.DeskOutcome.TheVariants.{DeskLength, SticksLength, Core}, Filters.{DESK_BYTES, DESK_SETUP_BYTES, STICKS_BYTES}}
+use Rattle.desk.specs.{declared.entry.DeskOutcome.TheVariants.{DeskLength, SticksLength, Core}, Filters.{desk_bytes, desk_setup_bytes, sticks_bytes}}
 use Rattle.desk.specs.Entry.{desk_number, desk_refusal, DeskCourse, OnSegment, OnRoute, core_refusal, tick_refusal_at}
 
 -- the desk's own two are 15 and 16, and the rest is the core's
@@ -19,15 +19,15 @@ pub no_desk_tick_gives_eleven : (course : DeskCourse) (deskLen sticksLen : ℕ) 
     → ¬ (tick_refusal_at course deskLen sticksLen image inputLen answerLen ≡ Core PassThrough)
 unfolding tick_refusal_at
 no_desk_tick_gives_eleven course deskLen sticksLen image inputLen answerLen =
-    not_eleven (differs deskLen DESK_BYTES) (differs sticksLen STICKS_BYTES) (core_refusal course image inputLen answerLen) (core course)
+    not_eleven (differs deskLen desk_bytes) (differs sticksLen sticks_bytes) (core_refusal course image inputLen answerLen) (core course)
   where
     core : (course : DeskCourse) → ¬ (core_refusal course image inputLen answerLen ≡ PassThrough)
     core OnSegment = no_tick_gives_eleven image inputLen answerLen
     core (OnRoute route) = no_route_tick_gives_eleven image route inputLen answerLen
 
-pub no_desk_set_up_gives_eleven : (deskLen inputLen : ℕ) → ¬ (desk_refusal deskLen inputLen DESK_SETUP_BYTES (Core Done) ≡ Core PassThrough)
-no_desk_set_up_gives_eleven deskLen inputLen = not_eleven (differs deskLen DESK_BYTES) (differs inputLen DESK_SETUP_BYTES) Done done_is_not
+pub no_desk_set_up_gives_eleven : (deskLen inputLen : ℕ) → ¬ (desk_refusal deskLen inputLen desk_setup_bytes (Core Done) ≡ Core PassThrough)
+no_desk_set_up_gives_eleven deskLen inputLen = not_eleven (differs deskLen desk_bytes) (differs inputLen desk_setup_bytes) Done done_is_not
 
 -- the button's refusal has no second row
-pub no_centre_gives_eleven : (deskLen : ℕ) → ¬ (cond (differs deskLen DESK_BYTES) DeskLength (Core Done) ≡ Core PassThrough)
-no_centre_gives_eleven deskLen = not_eleven (differs deskLen DESK_BYTES) false Done done_is_not
+pub no_centre_gives_eleven : (deskLen : ℕ) → ¬ (cond (differs deskLen desk_bytes) DeskLength (Core Done) ≡ Core PassThrough)
+no_centre_gives_eleven deskLen = not_eleven (differs deskLen desk_bytes) false Done done_is_not

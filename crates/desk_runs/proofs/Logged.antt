@@ -1,7 +1,7 @@
 -- A log of every accepted tick of one run by the desk is accepted. Assumes nothing.
 use Rattle.laws.proofs.Prelude.{◌≡◌, refl, sym, ap, ◌∙◌, Bool, true, false, cond, List, [], ◌∷◌, ◌++◌, ℕ, length}
 use Rattle.words.specs.Words.{word, float, bytes_of}
-use Rattle.image.specs.Layout.{SETUP_ENTER, SETUP_EXIT, SETUP_PROFILE}
+use Rattle.image.specs.Layout.{setup_enter, setup_exit, setup_profile}
 use Rattle.joint_tick.specs.Profile.{is_profile}
 use Rattle.outcome.specs.{declared.Outcome.TheVariants.Done, Outcomes.{left, Called}}
 use Rattle.flight_log.specs.{Form.is_log, Records.records, Runs.records_of}
@@ -49,9 +49,9 @@ records_are h (ByDesk g ∷ calls) = go (desk_done (desk_tick h g).outcome) refl
     go false e more = more ∙ ap (λ (l : LentToDesk). ticks_kept l.image rest) (refused_changes_nothing (by_desk g.course) h.desk g.sticks h.image g.input g.answer e)
 
 -- Request Ten's completeness for the desk: any bytes whose records are those of a run of desk ticks, the button and calls on the core alone, from any desk.
-pub desk_log_accepted : (desk setup : List ℕ) (calls : List AnyCall) → is_profile (word setup SETUP_PROFILE) ≡ true
+pub desk_log_accepted : (desk setup : List ℕ) (calls : List AnyCall) → is_profile (word setup setup_profile) ≡ true
     → (log : List ℕ) → is_log log ≡ true → records log ≡ records_along (desk_and_image desk (start setup)) calls → (into : List ℕ) → length into ≡ 4
-    → check_call log (word setup SETUP_PROFILE) (float setup SETUP_ENTER) (float setup SETUP_EXIT) into ≡ left Done (bytes_of (0xffff_ffff ∷ []))
+    → check_call log (word setup setup_profile) (float setup setup_enter) (float setup setup_exit) into ≡ left Done (bytes_of (0xffff_ffff ∷ []))
 desk_log_accepted desk setup calls p log l e =
     let h = desk_and_image desk (start setup) in
     any_log_accepted setup p log (core_along h calls) (e ∙ records_are h calls) l

@@ -4,7 +4,7 @@ use Rattle.outcome.specs.{declared.Outcome.TheVariants.Done, Outcomes.{left, len
 use Rattle.runs.specs.Runs.{Course, Segment, Route, Call, flying, tick_of, left_by, image_after, Ticks as CoreTicks}
 use Rattle.relay_math.specs.F32.{Within as Between}
 use Rattle.relay_adrc.proofs.FilterLimits.{Limit, Held as Within}
-use Rattle.desk.specs.{Entry.{desk_done, LentToDesk, core_call}, Filters.{DESK_BYTES, desk_at}, Runs.{Stick, filter_of, mag_limit, rate_limit, DeskCall, desk_by, desk_after, desk_start}}
+use Rattle.desk.specs.{Entry.{desk_done, LentToDesk, core_call}, Filters.{desk_bytes, desk_at}, Runs.{Stick, filter_of, mag_limit, rate_limit, DeskCall, desk_by, desk_after, desk_start}}
 use Rattle.desk.proofs.{DeskCalls.{refused_changes_nothing, is_core_tick}, Held.{size_kept, sticks_held}, Within.sticks_within}
 use Rattle.desk_runs.specs.Runs.{DeskAndImage, desk_and_image, DeskGiven, by_desk, AnyCall, ByDesk, Button, OnCore, desk_tick, held_by, held_after, flown_tick, core_calls, core_along, desk_calls}
 use Rattle.desk_runs.specs.Runs.{desk_along}
@@ -65,7 +65,7 @@ desk_sees h (c ∷ calls) =
     ∙ ap (λ (desk : List ℕ). desk_after desk (desk_along (held_by h c) calls)) (desk_by_lem h c)
     ∙ desk_append h.desk (desk_calls h c) (desk_along (held_by h c) calls)
 
-pub desk_size : (h : DeskAndImage) (calls : List AnyCall) → length h.desk ≡ DESK_BYTES → length (held_after h calls).desk ≡ DESK_BYTES
+pub desk_size : (h : DeskAndImage) (calls : List AnyCall) → length h.desk ≡ desk_bytes → length (held_after h calls).desk ≡ desk_bytes
 desk_size h calls p = ap length (desk_sees h calls) ∙ size_kept h.desk (desk_along h calls) p
 
 -- so the sticks' limits hold over these runs too

@@ -1,5 +1,4 @@
 pub mod LogForm
-pub mod Apart
 pub mod Made
 pub mod Reading
 pub mod Refused

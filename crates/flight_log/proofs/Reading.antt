@@ -2,7 +2,7 @@
 use Rattle.laws.proofs.Prelude.{◌≡◌, refl, sym, ap, ◌∙◌, true, false, cond, List, [], ◌∷◌, ◌++◌, append_assoc, append-nil, ℕ, zero, suc, ◌+◌, ◌<◌, zero-add, add-zero, add-one, arith, lt-ltb, le-ltb}
 use Rattle.laws.proofs.Prelude.{length, take, get_or, replicate}
 use Rattle.outcome.{specs.Outcomes.{is_done, Filled}, proofs.Tables.either}
-use Rattle.flight_log.specs.{Form.{RECORD_BYTES, empty_log, from_end, record_count, is_log}, Records.{bytes_at, records_from, records, has_record, record_at, place_after, handed_out}}
+use Rattle.flight_log.specs.{Form.{record_bytes, empty_log, from_end, record_count, is_log}, Records.{bytes_at, records_from, records, has_record, record_at, place_after, handed_out}}
 use Rattle.flight_log.specs.{Entry.{append_refusal, append_call}, Runs.{LogBuffer, log_in, ToAppend, after_one, kept_by, after_all, kept_along, NoneRefused, records_of, at_first}}
 use Rattle.flight_log.proofs.{LogForm.taken, Made.{records_of_lem, one_more_record}}
 
@@ -16,7 +16,7 @@ one : (h : LogBuffer) (g : ToAppend) → is_log (log_in h) ≡ true → Keeps (l
 unfolding append_call
 one h g e =
     either
-    (λ (l : Filled). Keeps (take (cond (is_done l.outcome) (h.len + RECORD_BYTES) h.len) l.later) (records (log_in h) ++ cond (is_done l.outcome) ((g.input ++ g.answer) ∷ []) []))
+    (λ (l : Filled). Keeps (take (cond (is_done l.outcome) (h.len + record_bytes) h.len) l.later) (records (log_in h) ++ cond (is_done l.outcome) ((g.input ++ g.answer) ∷ []) []))
     (append_refusal h.buffer h.len (length g.input) (length g.answer))
     (λ d. one_more_record h.buffer h.len g.input g.answer (taken h.buffer h.len (length g.input) (length g.answer) d))
     (λ d. rw d (e, sym (append-nil (records (log_in h)))))

@@ -3,10 +3,10 @@ use Rattle.laws.proofs.Prelude.{◌≡◌, refl, sym, ap, ◌⊎◌, inl, inr, �
 use Rattle.laws.proofs.Prelude.{length-append, no}
 use lib.Seq.{take-length}
 use Rattle.words.{specs.Words.bytes_of, proofs.Written.sets_other}
-use Rattle.image.specs.Layout.{INPUT_BYTES, ANSWER_BYTES}
+use Rattle.image.specs.Layout.{input_bytes, answer_bytes}
 use Rattle.outcome.specs.{declared.Outcome.{Outcome, TheVariants.{BrokenLog, NoRoom, PassThrough}}, Outcomes.{number, is_done, first_of, left, Filled}}
 use Rattle.outcome.proofs.Tables.{never_given, refused_keeps, either}
-use Rattle.flight_log.specs.Form.{RECORD_BYTES, LOG_TRAILER_BYTES, MOST_RECORDS, trailer, empty_log, from_end, record_count, is_log}
+use Rattle.flight_log.specs.Form.{record_bytes, log_trailer_bytes, most_records, trailer, empty_log, from_end, record_count, is_log}
 use Rattle.flight_log.specs.Entry.{append_table, append_refusal, append_call, count_table, record_table}
 use Rattle.flight_log.proofs.LogForm.{Taken, taken}
 
@@ -29,19 +29,19 @@ breaks false true x y (inl e) = no e
 breaks false true x y (inr e) = no (sym e)
 
 -- append gives 8 exactly if the length exceeds the buffer or the bytes of that length are no log, for which the reader gives it (`count_table`, `record_table`)
-pub same_refusal : (buffer : List ℕ) (len : ℕ) (input answer : List ℕ) → length input ≡ INPUT_BYTES → length answer ≡ ANSWER_BYTES
+pub same_refusal : (buffer : List ℕ) (len : ℕ) (input answer : List ℕ) → length input ≡ input_bytes → length answer ≡ answer_bytes
     → (append_refusal buffer len (length input) (length answer) ≡ BrokenLog) ↔ ((length buffer < len) ⊎ (is_log (take len buffer) ≡ false))
 unfolding append_refusal
 same_refusal buffer len input answer h k =
-    let log = take len buffer in let u = ltb (length buffer) len in let x = ltb (length buffer - len) RECORD_BYTES in
-    let y = eqb (record_count log) MOST_RECORDS in
+    let log = take len buffer in let u = ltb (length buffer) len in let x = ltb (length buffer - len) record_bytes in
+    let y = eqb (record_count log) most_records in
     rw (h, k) (
       λ e. elim (broken u (is_log log) x y e) [ inl l ↦ inl (ltb-true (length buffer) len l) | inr r ↦ inr r ],
       λ o. breaks u (is_log log) x y (elim o [ inl l ↦ inl (lt-ltb (length buffer) len l) | inr r ↦ inr r ]),
     )
 
 -- so on a whole slice they give it for the same bytes
-pub same_on_a_whole_slice : (log input answer : List ℕ) → length input ≡ INPUT_BYTES → length answer ≡ ANSWER_BYTES
+pub same_on_a_whole_slice : (log input answer : List ℕ) → length input ≡ input_bytes → length answer ≡ answer_bytes
     → (append_refusal log (length log) (length input) (length answer) ≡ BrokenLog) ↔ (is_log log ≡ false)
 same_on_a_whole_slice log input answer h k =
     let s = same_refusal log (length log) input answer h k in (λ e. elim (s.0 e) [ inl l ↦ absurd (omega (arith, l)) | inr r ↦ rw take-length at r ], λ r. s.1 (inr (rw take-length r)))
@@ -74,14 +74,14 @@ module _ (buffer : List ℕ) (len : ℕ) (input answer : List ℕ) where
   abbrev vs : List ℕ
   vs = input ++ answer ++ trailer (record_count (take len buffer) + 1)
 
-  run_ends : Taken buffer len (length input) (length answer) → len - LOG_TRAILER_BYTES + length vs ≡ len + RECORD_BYTES
+  run_ends : Taken buffer len (length input) (length answer) → len - log_trailer_bytes + length vs ≡ len + record_bytes
   run_ends t = omega (arith, length-append (input ++ answer) (trailer (record_count (take len buffer) + 1)), length-append input answer, t.input_length, t.answer_length, t.len_is)
 
-  pub no_other_byte : (i : ℕ) → (i < len - LOG_TRAILER_BYTES) ⊎ (len + RECORD_BYTES ≤ i) → get_or (append_call buffer len input answer).later i 0 ≡ get_or buffer i 0
+  pub no_other_byte : (i : ℕ) → (i < len - log_trailer_bytes) ⊎ (len + record_bytes ≤ i) → get_or (append_call buffer len input answer).later i 0 ≡ get_or buffer i 0
   unfolding append_call
   no_other_byte i h =
       either (λ (l : Filled). get_or l.later i 0 ≡ get_or buffer i 0) (append_refusal buffer len (length input) (length answer))
-      (λ d. sets_other vs buffer (len - LOG_TRAILER_BYTES) i (rw (run_ends (taken buffer len (length input) (length answer) d)) h)) (λ d. refl)
+      (λ d. sets_other vs buffer (len - log_trailer_bytes) i (rw (run_ends (taken buffer len (length input) (length answer) d)) h)) (λ d. refl)
 
 -- ---- "11 .. at set-up alone" (request Twelve)
 

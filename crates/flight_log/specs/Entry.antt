@@ -2,23 +2,23 @@
 use Rattle.std.specs.Prelude.{ℕ, ◌+◌, ◌-◌, not, List, [], ◌∷◌, ◌++◌, eqb, ltb, length, take}
 use Rattle.std.proofs.lemmas.List.Edits.{sets}
 use Rattle.words.specs.Words.{bytes_of}
-use Rattle.image.specs.Layout.{INPUT_BYTES, ANSWER_BYTES}
+use Rattle.image.specs.Layout.{input_bytes, answer_bytes}
 use Rattle.outcome.specs.declared.Outcome.{Outcome}
 use Rattle.outcome.specs.declared.Outcome.TheVariants.{InputLength, AnswerLength, BrokenLog, NoRoom, NoRecord, RecordLength}
 use Rattle.outcome.specs.Outcomes.{Table, first_of, differs, left_unless, Filled}
-use Rattle.flight_log.specs.Form.{RECORD_BYTES, LOG_TRAILER_BYTES, MOST_RECORDS, trailer, record_count, is_log}
+use Rattle.flight_log.specs.Form.{record_bytes, log_trailer_bytes, most_records, trailer, record_count, is_log}
 use Rattle.flight_log.specs.Records.{has_record, record_at}
 
 -- "2 and 3 for a wrong input or answer length; then 8 if the log's length exceeds the buffer" or the bytes of that length are no log; "then 9 if the
 -- buffer has under 108 bytes beyond the log or the count is 65,535"
 abbrev pub append_table : List ℕ → ℕ → ℕ → ℕ → Table
 append_table buffer len inputLen answerLen =
-    (differs inputLen INPUT_BYTES, InputLength)
-    ∷ (differs answerLen ANSWER_BYTES, AnswerLength)
+    (differs inputLen input_bytes, InputLength)
+    ∷ (differs answerLen answer_bytes, AnswerLength)
     ∷ (ltb (length buffer) len, BrokenLog)
     ∷ (not (is_log (take len buffer)), BrokenLog)
-    ∷ (ltb (length buffer - len) RECORD_BYTES, NoRoom)
-    ∷ (eqb (record_count (take len buffer)) MOST_RECORDS, NoRoom)
+    ∷ (ltb (length buffer - len) record_bytes, NoRoom)
+    ∷ (eqb (record_count (take len buffer)) most_records, NoRoom)
     ∷ []
 
 unfoldable pub append_refusal : List ℕ → ℕ → ℕ → ℕ → Outcome
@@ -31,7 +31,7 @@ with_record buffer at n input answer = sets buffer at (input ++ answer ++ traile
 -- "It overwrites the old trailer with the record, writes a new one after it and changes no other byte."
 unfoldable pub append_call : List ℕ → ℕ → List ℕ → List ℕ → Filled
 append_call buffer len input answer =
-    left_unless (append_refusal buffer len (length input) (length answer)) (with_record buffer (len - LOG_TRAILER_BYTES) (record_count (take len buffer) + 1) input answer) buffer
+    left_unless (append_refusal buffer len (length input) (length answer)) (with_record buffer (len - log_trailer_bytes) (record_count (take len buffer) + 1) input answer) buffer
 
 -- the count as a word, into 4 bytes
 abbrev pub count_table : List ℕ → ℕ → Table
@@ -42,7 +42,7 @@ count_call log count = left_unless (first_of (count_table log (length count))) (
 
 -- the record at a place, into as many bytes
 abbrev pub record_table : List ℕ → ℕ → ℕ → Table
-record_table log place bufferLen = (differs bufferLen RECORD_BYTES, RecordLength) ∷ (not (is_log log), BrokenLog) ∷ (not (has_record log place), NoRecord) ∷ []
+record_table log place bufferLen = (differs bufferLen record_bytes, RecordLength) ∷ (not (is_log log), BrokenLog) ∷ (not (has_record log place), NoRecord) ∷ []
 
 unfoldable pub record_call : List ℕ → ℕ → List ℕ → Filled
 record_call log place buffer = left_unless (first_of (record_table log place (length buffer))) (record_at log place) buffer

@@ -1,10 +1,10 @@
 -- The records of a log, and what a reader at a place hands out. Definitions only.
 use Rattle.std.specs.Prelude.{ℕ, zero, suc, ◌+◌, ◌*◌, Bool, ◌&&◌, cond, List, [], ◌∷◌, ltb, take, drop}
-use Rattle.flight_log.specs.Form.{RECORD_BYTES, record_count, is_log}
+use Rattle.flight_log.specs.Form.{record_bytes, record_count, is_log}
 
 -- the bytes of record number i, counted from 0
 abbrev pub bytes_at : List ℕ → ℕ → List ℕ
-bytes_at b i = take RECORD_BYTES (drop (RECORD_BYTES * i) b)
+bytes_at b i = take record_bytes (drop (record_bytes * i) b)
 
 -- n records from number i on
 abbrev pub records_from : List ℕ → ℕ → ℕ → List (List ℕ)

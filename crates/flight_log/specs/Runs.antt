@@ -1,7 +1,7 @@
 -- Any sequence of appends, each on the buffer and the length that the last one left. Definitions only.
 use Rattle.std.specs.Prelude.{ℕ, ◌+◌, ◌≡◌, true, cond, List, [], ◌∷◌, ◌++◌, take}
 use Rattle.outcome.specs.Outcomes.{is_done, Filled}
-use Rattle.flight_log.specs.Form.{RECORD_BYTES, LOG_TRAILER_BYTES, empty_log}
+use Rattle.flight_log.specs.Form.{record_bytes, log_trailer_bytes, empty_log}
 use Rattle.flight_log.specs.Entry.{append_call}
 
 -- a buffer, and the length of the log at its start
@@ -25,7 +25,7 @@ appended h g = append_call h.buffer h.len g.input g.answer
 
 -- what an append leaves, and the record that it kept: none if it was refused
 abbrev pub after_one : LogBuffer → ToAppend → LogBuffer
-after_one h g = log_buffer (appended h g).later (cond (is_done (appended h g).outcome) (h.len + RECORD_BYTES) h.len)
+after_one h g = log_buffer (appended h g).later (cond (is_done (appended h g).outcome) (h.len + record_bytes) h.len)
 
 abbrev pub kept_by : LogBuffer → ToAppend → List (List ℕ)
 kept_by h g = cond (is_done (appended h g).outcome) ((g.input ++ g.answer) ∷ []) []
@@ -50,4 +50,4 @@ records_of (g ∷ more) = (g.input ++ g.answer) ∷ records_of more
 
 -- the empty log at the start of a buffer, whatever stands beyond it
 abbrev pub at_first : List ℕ → LogBuffer
-at_first beyond = log_buffer (empty_log ++ beyond) LOG_TRAILER_BYTES
+at_first beyond = log_buffer (empty_log ++ beyond) log_trailer_bytes

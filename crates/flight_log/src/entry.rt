@@ -2,9 +2,9 @@
 // length.
 ghost use Rattle.std.specs.Prelude.{◌≡◌, ◌+◌, ◌*◌, ◌<◌, ◌≤◌, length};
 ghost use Rattle.words.specs.Words.{Put};
-ghost use Rattle.image.specs.Layout.{INPUT_BYTES, ANSWER_BYTES};
+ghost use Rattle.image.specs.Layout.{input_bytes, answer_bytes};
 ghost use Rattle.outcome.specs.Outcomes.{left};
-ghost use Rattle.flight_log.specs.Form.{RECORD_BYTES, LOG_TRAILER_BYTES, MOST_RECORDS, trailer_words};
+ghost use Rattle.flight_log.specs.Form.{record_bytes, log_trailer_bytes, most_records, trailer_words};
 ghost use Rattle.flight_log.specs.Entry.{append_refusal, with_record, append_call};
 
 use super::form::{MOST_RECORDS, RECORD_BYTES, is_log, record_count};
@@ -40,7 +40,7 @@ fn append_refusal(buffer: &[u8], log_len: usize, input_len: usize, answer_len: u
 
 // The trailer of so many records, from word k on.
 fn put_trailer(buffer: &mut [u8], k: usize, count: usize)
-    requires { (4 * k + LOG_TRAILER_BYTES ≤ length buffer.old) × (count ≤ MOST_RECORDS) }
+    requires { (4 * k + log_trailer_bytes ≤ length buffer.old) × (count ≤ most_records) }
     ensures { Put buffer.old k (trailer_words count) buffer.new }
 {
     put_word(buffer, k, count as u32);
@@ -50,9 +50,9 @@ fn put_trailer(buffer: &mut [u8], k: usize, count: usize)
 
 // The record of an input and an answer after so many others, and the trailer after it. Bytes are copied as they stand.
 fn put_record(buffer: &mut [u8], count: usize, input: &[u8], answer: &[u8])
-    requires input_len { (length input.now ≡ INPUT_BYTES) × (length answer.now ≡ ANSWER_BYTES) }
-    requires count_in_bounds { (RECORD_BYTES * count + RECORD_BYTES + LOG_TRAILER_BYTES ≤ length buffer.old) × (count < MOST_RECORDS) }
-    ensures { buffer.new ≡ with_record buffer.old (RECORD_BYTES * count) (count + 1) input.now answer.now }
+    requires input_len { (length input.now ≡ input_bytes) × (length answer.now ≡ answer_bytes) }
+    requires count_in_bounds { (record_bytes * count + record_bytes + log_trailer_bytes ≤ length buffer.old) × (count < most_records) }
+    ensures { buffer.new ≡ with_record buffer.old (record_bytes * count) (count + 1) input.now answer.now }
 {
     let at = RECORD_BYTES * count;
     put_bytes(buffer, at, input);

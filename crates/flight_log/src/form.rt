@@ -1,7 +1,7 @@
 // How a log stands in bytes: records of a tick's input and answer, then a trailer of three words, the count, how many bytes back the first record
 // starts, and the bytes of a record.
 ghost use Rattle.std.specs.Prelude.{◌≡◌, ◌≤◌, length};
-ghost use Rattle.flight_log.specs.Form.{LOG_TRAILER_BYTES, from_end, record_count, is_log};
+ghost use Rattle.flight_log.specs.Form.{log_trailer_bytes, from_end, record_count, is_log};
 
 use image::{ANSWER_BYTES, INPUT_BYTES};
 use words::four_bytes;
@@ -21,7 +21,7 @@ fn from_end(log: &[u8], back: usize) -> usize
 }
 
 pub(crate) fn record_count(log: &[u8]) -> usize
-    requires { LOG_TRAILER_BYTES ≤ length log.now }
+    requires { log_trailer_bytes ≤ length log.now }
     ensures { result ≡ record_count log.now }
 {
     from_end(log, TRAILER_BYTES)

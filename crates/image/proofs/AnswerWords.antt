@@ -2,13 +2,13 @@
 use Rattle.laws.proofs.Prelude.{◌≡◌, refl, ap, ◌∙◌, ◌+◌, length}
 use Rattle.words.{specs.Words.{word, float, vec, bits, flag, Holds}, proofs.{WordsBack.{word_back, bits_back, float_back, vec_back, flag_lt}, Written.length_bytes_of}}
 use Rattle.joint_tick.specs.declared.state.Answer.{Answer}
-use Rattle.image.specs.{Layout.{TORQUE, COMMAND, FLAG, TIME, PSI, MARGIN, ANSWER_BYTES}, Inputs.{words_of_answer, answer_of}, Fits.{F32, FitsVec}}
+use Rattle.image.specs.{Layout.{TORQUE, COMMAND, FLAG, TIME, PSI, MARGIN, answer_bytes}, Inputs.{words_of_answer, answer_of}, Fits.{F32, FitsVec}}
 
 answer_is : (a : Answer) → Holds (answer_of a) (words_of_answer a)
 unfolding answer_of
 answer_is a = record { is = refl }
 
-pub answer_length : (a : Answer) → length (answer_of a) ≡ ANSWER_BYTES
+pub answer_length : (a : Answer) → length (answer_of a) ≡ answer_bytes
 answer_length a = ap length (answer_is a).is ∙ length_bytes_of (words_of_answer a)
 
 pub command_answered : (a : Answer) → FitsVec a.command.0 → vec (answer_of a) COMMAND ≡ a.command.0

@@ -7,7 +7,7 @@ use Rattle.relay_geo.specs.declared.{controller.GeoGains.GeoGains, set.Recoverab
 use Rattle.relay_traj.specs.{declared.{governor.RefGovernor.RefGovernor, quintic.Quintic.Quintic}, Segment.peak_abs_jerk3}
 use Rattle.relay_adrc.specs.declared.{axis.AdrcAxis.AdrcAxis, biquad.Biquad.Biquad}
 use Rattle.joint_tick.specs.{declared.{profile.Profile.{Profile, TheVariants.{Whole, LostRotor}}, state.State.State}, Profile.{profile_word, profile_of}}
-use Rattle.image.specs.Layout.{QUINTIC_WORDS, AXIS_WORDS, BIQUAD_WORDS, COUNT, GAINS, SET, ENTER, EXIT, ENGAGED, GOVERNOR, SEGMENT, RATE, LPF, PROFILE, PEAKS, IMAGE_WORDS, IMAGE_BYTES}
+use Rattle.image.specs.Layout.{quintic_words, axis_words, biquad_words, COUNT, GAINS, SET, ENTER, EXIT, ENGAGED, GOVERNOR, SEGMENT, RATE, LPF, PROFILE, PEAKS, image_words, image_bytes}
 use Rattle.image.specs.Parts.{gains_at, set_at, governor_at, quintic_at, segment_at, adrc_gains_at, axis_at, rate_at, biquad_at, lpf_at, profile_at, floats_of_gains, floats_of_set, floats_of_governor}
 use Rattle.image.specs.{Parts.{floats_of_quintic, floats_of_axis, floats_of_biquad}, Image.{fixed_at, moving_at, state_at, words_of_state, image_of, peaks_of, canonical_image}}
 use Rattle.image.specs.Fits.{F32, FitsGains, FitsSet, FitsGovernor, FitsQuintic, FitsSegment, FitsAxis, FitsRate, FitsBiquad, FitsLpf, StateFits}
@@ -58,10 +58,10 @@ pub image_is : (s : State) → Holds (image_of s) (words_of_state s)
 unfolding image_of
 image_is s = record { is = refl }
 
-pub image_length : (s : State) → length (image_of s) ≡ IMAGE_BYTES
+pub image_length : (s : State) → length (image_of s) ≡ image_bytes
 image_length s = ap length (image_is s).is ∙ length_bytes_of (words_of_state s)
 
-pub count_written : (s : State) → word (image_of s) COUNT ≡ IMAGE_WORDS
+pub count_written : (s : State) → word (image_of s) COUNT ≡ image_words
 count_written s = word_back (image_is s) COUNT refl (lit< tt)
 
 pub engaged_written : (s : State) → word (image_of s) ENGAGED ≡ flag s.moving.engaged
@@ -98,19 +98,19 @@ pub segment_written : (s : State) → FitsSegment s.fixed.segment → segment_at
 unfolding segment_at
 segment_written s f =
     let at = quintic_back (image_is s) in let g = s.fixed.segment in
-    simp (at SEGMENT g.0 refl f.0, at (SEGMENT + QUINTIC_WORDS) g.1 refl f.1, at (SEGMENT + QUINTIC_WORDS + QUINTIC_WORDS) g.2 refl f.2)
+    simp (at SEGMENT g.0 refl f.0, at (SEGMENT + quintic_words) g.1 refl f.1, at (SEGMENT + quintic_words + quintic_words) g.2 refl f.2)
 
 pub rate_written : (s : State) → FitsRate s.moving.rate → rate_at (image_of s) RATE ≡ s.moving.rate
 unfolding rate_at
 rate_written s f =
     let at = axis_back (image_is s) in
-    simp (at RATE s.moving.rate.roll refl f.0, at (RATE + AXIS_WORDS) s.moving.rate.pitch refl f.1, at (RATE + AXIS_WORDS + AXIS_WORDS) s.moving.rate.yaw refl f.2)
+    simp (at RATE s.moving.rate.roll refl f.0, at (RATE + axis_words) s.moving.rate.pitch refl f.1, at (RATE + axis_words + axis_words) s.moving.rate.yaw refl f.2)
 
 pub lpf_written : (s : State) → FitsLpf s.moving.lpf → lpf_at (image_of s) LPF ≡ s.moving.lpf
 unfolding lpf_at
 lpf_written s f =
     let at = biquad_back (image_is s) in
-    simp (at LPF s.moving.lpf.roll refl f.0, at (LPF + BIQUAD_WORDS) s.moving.lpf.pitch refl f.1, at (LPF + BIQUAD_WORDS + BIQUAD_WORDS) s.moving.lpf.yaw refl f.2)
+    simp (at LPF s.moving.lpf.roll refl f.0, at (LPF + biquad_words) s.moving.lpf.pitch refl f.1, at (LPF + biquad_words + biquad_words) s.moving.lpf.yaw refl f.2)
 
 -- the peaks are written as they are worked out from the segment
 abbrev peaks : State → Vec3
@@ -142,7 +142,7 @@ decode_encode s f =
 
 -- ---- written again
 
-pub same_words : (b : List ℕ) → words_of_state (state_at b) ≡ IMAGE_WORDS ∷ canons b GAINS (ENGAGED - GAINS) ++ flag (eqb (word b ENGAGED) 1) ∷ canons b GOVERNOR
+pub same_words : (b : List ℕ) → words_of_state (state_at b) ≡ image_words ∷ canons b GAINS (ENGAGED - GAINS) ++ flag (eqb (word b ENGAGED) 1) ∷ canons b GOVERNOR
     (PROFILE - GOVERNOR) ++ profile_word (profile_of (word b PROFILE)) ∷ words_of (floats_of_vec (peaks_of b))
 unfolding fixed_at moving_at gains_at vec set_at governor_at segment_at quintic_at rate_at axis_at adrc_gains_at lpf_at biquad_at profile_at float
 same_words b = refl

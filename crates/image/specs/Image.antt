@@ -8,7 +8,7 @@ use Rattle.joint_tick.specs.declared.state.Fixed.{Fixed}
 use Rattle.joint_tick.specs.declared.state.Moving.{Moving}
 use Rattle.joint_tick.specs.declared.state.State.{State}
 use Rattle.joint_tick.specs.Profile.{profile_word, profile_of}
-use Rattle.image.specs.Layout.{GAINS, SET, ENTER, EXIT, ENGAGED, GOVERNOR, SEGMENT, RATE, LPF, PROFILE, IMAGE_WORDS}
+use Rattle.image.specs.Layout.{GAINS, SET, ENTER, EXIT, ENGAGED, GOVERNOR, SEGMENT, RATE, LPF, PROFILE, image_words}
 use Rattle.image.specs.Parts.{gains_at, set_at, governor_at, segment_at, rate_at, lpf_at, profile_at, floats_of_gains, floats_of_set, floats_of_governor, floats_of_segment, floats_of_rate, floats_of_lpf}
 
 unfoldable pub fixed_at : List ℕ → Fixed
@@ -36,7 +36,7 @@ abbrev pub words_of_state : State → List ℕ
 words_of_state s =
     let f = s.fixed in
     let m = s.moving in
-    IMAGE_WORDS ∷
+    image_words ∷
     words_of (floats_of_gains f.gains) ++
     words_of_shield f.set f.enter f.exit m.engaged ++
     words_of (floats_of_governor m.governor) ++
@@ -54,5 +54,5 @@ peaks_of b = peak_abs_jerk3 (segment_at b SEGMENT)
 -- an image read and written again: the count is put in, engaged and the profile become 1 or 0, and every float its canonical word, and the peaks are the segment's
 unfoldable pub canonical_image : List ℕ → List ℕ
 canonical_image b =
-    bytes_of (IMAGE_WORDS ∷ canons b GAINS (ENGAGED - GAINS) ++ flag (eqb (word b ENGAGED) 1) ∷ canons b GOVERNOR (PROFILE - GOVERNOR) ++ profile_word
+    bytes_of (image_words ∷ canons b GAINS (ENGAGED - GAINS) ++ flag (eqb (word b ENGAGED) 1) ∷ canons b GOVERNOR (PROFILE - GOVERNOR) ++ profile_word
     (profile_of (word b PROFILE)) ∷ words_of (floats_of_vec (peaks_of b)))

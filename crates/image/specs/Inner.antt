@@ -4,13 +4,13 @@ use Rattle.words.specs.Words.{canons}
 use Rattle.relay_adrc.specs.declared.axis.AdrcAxis.{AdrcAxis}
 use Rattle.relay_adrc.specs.declared.biquad.Biquad.{Biquad}
 use Rattle.joint_tick.specs.declared.state.Moving.{Moving}
-use Rattle.image.specs.Layout.{IMAGE_WORDS}
+use Rattle.image.specs.Layout.{image_words}
 use Rattle.image.specs.Image.{state_at, words_of_state}
 
 -- ---- an image whose words, each made canonical, are those of its own state
 
 pub record OwnWords (b : List ℕ) : Type 0 where
-  pub is : canons b 0 IMAGE_WORDS ≡ words_of_state (state_at b)
+  pub is : canons b 0 image_words ≡ words_of_state (state_at b)
 
 -- ---- what a tick moves of an axis and of a biquad, as it is written
 

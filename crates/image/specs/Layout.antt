@@ -2,29 +2,29 @@
 use Rattle.std.specs.Prelude.{ℕ, ◌*◌}
 
 -- widths of the parts that stand more than once
-abbrev pub VEC_WORDS : ℕ
-VEC_WORDS = 3
+abbrev pub vec_words : ℕ
+vec_words = 3
 
-abbrev pub QUINTIC_WORDS : ℕ
-QUINTIC_WORDS = 7
+abbrev pub quintic_words : ℕ
+quintic_words = 7
 
-abbrev pub T_END : ℕ
-T_END = 6  -- of a quintic's words the last
+abbrev pub t_end_word : ℕ
+t_end_word = 6  -- of a quintic's words the last
 
-abbrev pub ADRC_WORDS : ℕ
-ADRC_WORDS = 4
+abbrev pub adrc_words : ℕ
+adrc_words = 4
 
-abbrev pub AXIS_WORDS : ℕ
-AXIS_WORDS = 9
+abbrev pub axis_words : ℕ
+axis_words = 9
 
-abbrev pub BIQUAD_WORDS : ℕ
-BIQUAD_WORDS = 9
+abbrev pub biquad_words : ℕ
+biquad_words = 9
 
-abbrev pub LEG_WORDS : ℕ
-LEG_WORDS = 19
+abbrev pub leg_words : ℕ
+leg_words = 19
 
-abbrev pub LEG_BYTES : ℕ
-LEG_BYTES = 4 * LEG_WORDS
+abbrev pub leg_bytes : ℕ
+leg_bytes = 4 * leg_words
 
 -- the image
 abbrev pub COUNT : ℕ
@@ -63,48 +63,48 @@ PROFILE = 95  -- its word: 0 or 1
 abbrev pub PEAKS : ℕ
 PEAKS = 96  -- of the jerk, axis by axis
 
-abbrev pub IMAGE_WORDS : ℕ
-IMAGE_WORDS = 99
+abbrev pub image_words : ℕ
+image_words = 99
 
-abbrev pub IMAGE_BYTES : ℕ
-IMAGE_BYTES = 4 * IMAGE_WORDS
+abbrev pub image_bytes : ℕ
+image_bytes = 4 * image_words
 
 -- what set-up is given
-abbrev pub SETUP_GAINS : ℕ
-SETUP_GAINS = 0
+abbrev pub setup_gains : ℕ
+setup_gains = 0
 
-abbrev pub SETUP_SET : ℕ
-SETUP_SET = 9
+abbrev pub setup_set : ℕ
+setup_set = 9
 
-abbrev pub SETUP_ENTER : ℕ
-SETUP_ENTER = 12
+abbrev pub setup_enter : ℕ
+setup_enter = 12
 
-abbrev pub SETUP_EXIT : ℕ
-SETUP_EXIT = 13
+abbrev pub setup_exit : ℕ
+setup_exit = 13
 
-abbrev pub SETUP_BAND : ℕ
-SETUP_BAND = 14  -- err_lo, err_hi, g_min
+abbrev pub setup_band : ℕ
+setup_band = 14  -- err_lo, err_hi, g_min
 
-abbrev pub SETUP_LEG : ℕ
-SETUP_LEG = 17
+abbrev pub setup_leg : ℕ
+setup_leg = 17
 
-abbrev pub SETUP_ADRC : ℕ
-SETUP_ADRC = 36
+abbrev pub setup_adrc : ℕ
+setup_adrc = 36
 
-abbrev pub SETUP_FC : ℕ
-SETUP_FC = 48
+abbrev pub setup_fc : ℕ
+setup_fc = 48
 
-abbrev pub SETUP_FS : ℕ
-SETUP_FS = 49
+abbrev pub setup_fs : ℕ
+setup_fs = 49
 
-abbrev pub SETUP_PROFILE : ℕ
-SETUP_PROFILE = 50
+abbrev pub setup_profile : ℕ
+setup_profile = 50
 
-abbrev pub SETUP_WORDS : ℕ
-SETUP_WORDS = 51
+abbrev pub setup_words : ℕ
+setup_words = 51
 
-abbrev pub SETUP_BYTES : ℕ
-SETUP_BYTES = 4 * SETUP_WORDS
+abbrev pub setup_bytes : ℕ
+setup_bytes = 4 * setup_words
 
 -- what a tick is given
 abbrev pub GYRO : ℕ
@@ -113,14 +113,14 @@ GYRO = 0
 abbrev pub QUAT : ℕ
 QUAT = 3
 
-abbrev pub TRACK_ERR : ℕ
-TRACK_ERR = 7
+abbrev pub track_err_word : ℕ
+track_err_word = 7
 
 abbrev pub YAW : ℕ
 YAW = 8
 
-abbrev pub YAW_RATE : ℕ
-YAW_RATE = 9
+abbrev pub yaw_rate_word : ℕ
+yaw_rate_word = 9
 
 abbrev pub DT : ℕ
 DT = 10
@@ -131,11 +131,11 @@ AGILE = 11
 abbrev pub FRACTION : ℕ
 FRACTION = 14
 
-abbrev pub INPUT_WORDS : ℕ
-INPUT_WORDS = 17
+abbrev pub input_words : ℕ
+input_words = 17
 
-abbrev pub INPUT_BYTES : ℕ
-INPUT_BYTES = 4 * INPUT_WORDS
+abbrev pub input_bytes : ℕ
+input_bytes = 4 * input_words
 
 -- what a tick answers
 abbrev pub TORQUE : ℕ
@@ -156,8 +156,8 @@ PSI = 8
 abbrev pub MARGIN : ℕ
 MARGIN = 9
 
-abbrev pub ANSWER_WORDS : ℕ
-ANSWER_WORDS = 10
+abbrev pub answer_words : ℕ
+answer_words = 10
 
-abbrev pub ANSWER_BYTES : ℕ
-ANSWER_BYTES = 4 * ANSWER_WORDS
+abbrev pub answer_bytes : ℕ
+answer_bytes = 4 * answer_words

@@ -15,7 +15,7 @@ use Rattle.relay_adrc.specs.declared.biquad.GyroLpf.{GyroLpf}
 use Rattle.joint_tick.specs.declared.profile.Profile.{Profile}
 use Rattle.joint_tick.specs.declared.state.Leg.{Leg}
 use Rattle.joint_tick.specs.Profile.{profile_of}
-use Rattle.image.specs.Layout.{VEC_WORDS, QUINTIC_WORDS, T_END, AXIS_WORDS, BIQUAD_WORDS}
+use Rattle.image.specs.Layout.{vec_words, quintic_words, t_end_word, axis_words, biquad_words}
 
 -- ---- read
 
@@ -23,7 +23,7 @@ unfoldable pub quat_at : List ℕ → ℕ → Quat
 quat_at b k = (float b k, float b (k + 1), float b (k + 2), float b (k + 3))
 
 unfoldable pub gains_at : List ℕ → ℕ → GeoGains
-gains_at b k = record { k_r = vec b k; k_omega = vec b (k + VEC_WORDS); j = vec b (k + VEC_WORDS + VEC_WORDS) }
+gains_at b k = record { k_r = vec b k; k_omega = vec b (k + vec_words); j = vec b (k + vec_words + vec_words) }
 
 unfoldable pub set_at : List ℕ → ℕ → RecoverableSet
 set_at b k = record { k_r = float b k; lambda_j = float b (k + 1); psi_max = float b (k + 2) }
@@ -40,11 +40,11 @@ quintic_at b k =
       c2 = float b (k + 3);
       c1 = float b (k + 4);
       c0 = float b (k + 5);
-      t_end = float b (k + T_END);
+      t_end = float b (k + t_end_word);
     }
 
 unfoldable pub segment_at : List ℕ → ℕ → Segment3
-segment_at b k = (quintic_at b k, quintic_at b (k + QUINTIC_WORDS), quintic_at b (k + QUINTIC_WORDS + QUINTIC_WORDS))
+segment_at b k = (quintic_at b k, quintic_at b (k + quintic_words), quintic_at b (k + quintic_words + quintic_words))
 
 unfoldable pub adrc_gains_at : List ℕ → ℕ → AdrcGains
 adrc_gains_at b k = record { omega_o = float b k; omega_c = float b (k + 1); b0 = float b (k + 2); tau = float b (k + 3) }
@@ -61,7 +61,7 @@ axis_at b k =
     }
 
 unfoldable pub rate_at : List ℕ → ℕ → AdrcRate
-rate_at b k = record { roll = axis_at b k; pitch = axis_at b (k + AXIS_WORDS); yaw = axis_at b (k + AXIS_WORDS + AXIS_WORDS) }
+rate_at b k = record { roll = axis_at b k; pitch = axis_at b (k + axis_words); yaw = axis_at b (k + axis_words + axis_words) }
 
 unfoldable pub biquad_at : List ℕ → ℕ → Biquad
 biquad_at b k =
@@ -78,7 +78,7 @@ biquad_at b k =
     }
 
 unfoldable pub lpf_at : List ℕ → ℕ → GyroLpf
-lpf_at b k = record { roll = biquad_at b k; pitch = biquad_at b (k + BIQUAD_WORDS); yaw = biquad_at b (k + BIQUAD_WORDS + BIQUAD_WORDS) }
+lpf_at b k = record { roll = biquad_at b k; pitch = biquad_at b (k + biquad_words); yaw = biquad_at b (k + biquad_words + biquad_words) }
 
 -- a leg's 19 words
 unfoldable pub leg_at : List ℕ → ℕ → Leg

@@ -2,7 +2,7 @@
 ghost use Rattle.std.specs.Prelude.{◌≡◌, length, take};
 ghost use Rattle.words.specs.Words.{Put};
 ghost use Rattle.words.specs.Inner.{Plain};
-ghost use Rattle.image.specs.Layout.{SET, PEAKS, IMAGE_BYTES};
+ghost use Rattle.image.specs.Layout.{SET as set_word, PEAKS as peaks_word, image_bytes};
 ghost use Rattle.image.specs.Image.{fixed_at, moving_at, state_at, words_of_shield, words_of_state, image_of};
 ghost use Rattle.image.specs.Inner.{OwnWords, Unmoved};
 
@@ -23,7 +23,7 @@ use words::{make_canonical, put_flag, put_float, put_vec, put_word, read_float, 
 
 // The two parts of the state, each read by itself: whoever needs one reads no other.
 pub fn fixed_at(image: &[u8], plain: bool) -> Fixed
-    requires fact_1 { length image.now ≡ IMAGE_BYTES }
+    requires fact_1 { length image.now ≡ image_bytes }
     requires fact_2 { Plain plain image.now }
     ensures { result ≡ fixed_at image.now }
 {
@@ -38,7 +38,7 @@ pub fn fixed_at(image: &[u8], plain: bool) -> Fixed
 }
 
 pub fn moving_at(image: &[u8], plain: bool) -> Moving
-    requires fact_1 { length image.now ≡ IMAGE_BYTES }
+    requires fact_1 { length image.now ≡ image_bytes }
     requires fact_2 { Plain plain image.now }
     ensures { result ≡ moving_at image.now }
 {
@@ -53,7 +53,7 @@ pub fn moving_at(image: &[u8], plain: bool) -> Moving
 // Both at once, for an exchange. Not through `moving_at` and the readers of three axes: while these have one caller, the compiler inlines them into the tick, and
 // what they read need not go by way of the stack.
 pub fn state_at(image: &[u8]) -> State
-    requires { length image.now ≡ IMAGE_BYTES }
+    requires { length image.now ≡ image_bytes }
     ensures { result ≡ state_at image.now }
 {
     State {
@@ -76,8 +76,8 @@ pub fn state_at(image: &[u8]) -> State
 }
 
 fn put_shield(image: &mut [u8], set: RecoverableSet, enter: f32, exit: f32, engaged: bool)
-    requires { length image.old ≡ IMAGE_BYTES }
-    ensures { Put image.old SET (words_of_shield set enter exit engaged) image.new }
+    requires { length image.old ≡ image_bytes }
+    ensures { Put image.old set_word (words_of_shield set enter exit engaged) image.new }
 {
     put_set(image, SET, set);
     put_float(image, ENTER, enter);
@@ -94,8 +94,8 @@ fn put_before_peaks(
     rate: AdrcRate,
     lpf: GyroLpf,
 )
-    requires { length image.old ≡ IMAGE_BYTES }
-    ensures { Put image.old 0 (take PEAKS (words_of_state record { fixed = fixed; moving = record { engaged = engaged; governor = governor; rate = rate; lpf = lpf } })) image.new }
+    requires { length image.old ≡ image_bytes }
+    ensures { Put image.old 0 (take peaks_word (words_of_state record { fixed = fixed; moving = record { engaged = engaged; governor = governor; rate = rate; lpf = lpf } })) image.new }
 {
     let profile = fixed.profile;
     put_word(image, COUNT, IMAGE_WORDS as u32);
@@ -117,7 +117,7 @@ pub fn put_state(
     rate: AdrcRate,
     lpf: GyroLpf,
 )
-    requires { length image.old ≡ IMAGE_BYTES }
+    requires { length image.old ≡ image_bytes }
     ensures { image.new ≡ image_of record { fixed = fixed; moving = record { engaged = engaged; governor = governor; rate = rate; lpf = lpf } } }
 {
     let segment = fixed.segment;
@@ -128,7 +128,7 @@ pub fn put_state(
 
 // Only what a tick moves, 29 words of 99, over an image whose words are its own state's: what `all_plain` of `words` found makes that enough.
 fn put_moved(image: &mut [u8], engaged: bool, governor: RefGovernor, rate: AdrcRate, lpf: GyroLpf)
-    requires { (length image.old ≡ IMAGE_BYTES) × (image.old ≡ image_of (state_at image.old)) × Unmoved record { engaged = engaged; governor = governor; rate = rate; lpf = lpf } (moving_at image.old) }
+    requires { (length image.old ≡ image_bytes) × (image.old ≡ image_of (state_at image.old)) × Unmoved record { engaged = engaged; governor = governor; rate = rate; lpf = lpf } (moving_at image.old) }
     ensures { image.new ≡ image_of record { fixed = fixed_at image.old; moving = record { engaged = engaged; governor = governor; rate = rate; lpf = lpf } } }
 {
     put_flag(image, ENGAGED, engaged);
@@ -151,7 +151,7 @@ pub fn put_next_state(
     rate: AdrcRate,
     lpf: GyroLpf,
 )
-    requires fact_1 { length image.old ≡ IMAGE_BYTES }
+    requires fact_1 { length image.old ≡ image_bytes }
     requires fact_2 { Plain plain image.old }
     requires fact_3 { OwnWords image.old × Unmoved record { engaged = engaged; governor = governor; rate = rate; lpf = lpf } (moving_at image.old) }
     ensures { image.new ≡ image_of record { fixed = fixed_at image.old; moving = record { engaged = engaged; governor = governor; rate = rate; lpf = lpf } } }

@@ -1,7 +1,7 @@
 // What set-up and a tick are given, and what a tick answers.
 ghost use Rattle.std.specs.Prelude.{◌≡◌, length};
 ghost use Rattle.words.specs.Inner.{Plain};
-ghost use Rattle.image.specs.Layout.{SETUP_BYTES, INPUT_BYTES, ANSWER_BYTES};
+ghost use Rattle.image.specs.Layout.{setup_bytes, input_bytes, answer_bytes};
 ghost use Rattle.image.specs.Inputs.{setup_at, input_at, answer_of};
 
 use super::layout::{
@@ -16,7 +16,7 @@ use words::{float_at, put_flag, put_three, put_vec, read_float, read_vec};
 
 // Every bit pattern is taken: what is bad is mended later, by the constructors. (A word that is no profile's is refused before.)
 pub fn setup_at(input: &[u8]) -> SetUp
-    requires { length input.now ≡ SETUP_BYTES }
+    requires { length input.now ≡ setup_bytes }
     ensures { result ≡ setup_at input.now }
 {
     SetUp {
@@ -38,7 +38,7 @@ pub fn setup_at(input: &[u8]) -> SetUp
 }
 
 pub fn input_at(input: &[u8], plain: bool) -> TickInput
-    requires fact_1 { length input.now ≡ INPUT_BYTES }
+    requires fact_1 { length input.now ≡ input_bytes }
     requires fact_2 { Plain plain input.now }
     ensures { result ≡ input_at input.now }
 {
@@ -55,7 +55,7 @@ pub fn input_at(input: &[u8], plain: bool) -> TickInput
 }
 
 pub fn put_answer(answer: &mut [u8], a: Answer)
-    requires { length answer.old ≡ ANSWER_BYTES }
+    requires { length answer.old ≡ answer_bytes }
     ensures { answer.new ≡ answer_of a }
 {
     put_vec(answer, TORQUE, a.torque.0);

@@ -7,7 +7,7 @@ use Rattle.relay_math.specs.F32.{1e-3, is_finite}
 use Rattle.relay_traj.{specs.{Quintic.Lasts, Segment.segment}, proofs.{GovernorClock.starts_at_zero, Leg.segment_lasts}}
 use Rattle.joint_tick.specs.{declared.{state.{Leg.Leg, State.State}, stages.Reference.Reference}, SetUp.{set_up, segment_of, exchange}, Tick.{ticked, prepare, pick, guide_pick_follow, state_after}}
 use Rattle.joint_tick.proofs.TickClock.{time_never_back}
-use Rattle.image.{specs.{Layout.SETUP_ENTER, Parts.{gains_at, set_at, leg_at, adrc_gains_at}, Image.{state_at, image_of}, Inputs.{setup_at, input_at}, Fits.StateFits}, proofs.Decoded.state_fits}
+use Rattle.image.{specs.{Layout.setup_enter, Parts.{gains_at, set_at, leg_at, adrc_gains_at}, Image.{state_at, image_of}, Inputs.{setup_at, input_at}, Fits.StateFits}, proofs.Decoded.state_fits}
 use Rattle.image.proofs.Fitting.{new_shield_fits, governor_fits, advance_fits, segment_fits, rate_new_fits, rate_fraction_fits, rate_tick_fits, gyro_new_fits, gyro_filter_fits}
 use Rattle.lent_tick.specs.Unbroken.{lasts, all_last, Unbroken}
 use Rattle.lent_tick.proofs.RowFour.{unbroken_has, written_unbroken}
@@ -80,7 +80,7 @@ set_up_never_refused b =
     written_unbroken (set_up i) (set_up_fits b)
     record {
       enter = enter_finite_positive i.enter i.exit;
-      exit = fresh_in_order i.set i.enter i.exit (unfold setup_at in float_fits b SETUP_ENTER);
+      exit = fresh_in_order i.set i.enter i.exit (unfold setup_at in float_fits b setup_enter);
       time = starts_at_zero;
       lasts = leg_lasts i.leg;
     }

@@ -6,7 +6,7 @@ use Rattle.words.specs.Words.{word, bits, canon, flag}
 use Rattle.relay_math.{specs.F32.{0·0, 1e-3, is_finite, finite_above}, proofs.Order.le_is_not_above}
 use Rattle.relay_traj.specs.Governor.{Running}
 use Rattle.joint_tick.specs.{declared.{profile.Profile.{Profile, TheVariants.{Whole, LostRotor}}, state.State.State}, Profile.{profile_word, is_profile, profile_of}}
-use Rattle.image.specs.{Layout.{COUNT, ENGAGED, SEGMENT, PROFILE, PEAKS, IMAGE_WORDS}, Parts.{governor_at, segment_at, profile_at}, Image.{fixed_at, moving_at, state_at, image_of, peaks_of}}
+use Rattle.image.specs.{Layout.{COUNT, ENGAGED, SEGMENT, PROFILE, PEAKS, image_words}, Parts.{governor_at, segment_at, profile_at}, Image.{fixed_at, moving_at, state_at, image_of, peaks_of}}
 use Rattle.image.specs.{Fits.{FitsSegment, StateFits}, Inner.OwnWords}
 use Rattle.image.proofs.Decoded.{image_length, count_written, engaged_written, profile_written, enter_written, exit_written, time_written, segment_written, peaks_written, same_words, state_fits}
 use Rattle.image.proofs.Fitting.{peaks_fit}
@@ -40,7 +40,7 @@ pub record UnbrokenState (s : State) : Type 0 where
 
 -- and its other words: its count is its own, its flag and its profile are in their words, and its peaks are its segment's
 pub record Has (b : List ℕ) : Type 0 where
-  pub count : word b COUNT ≡ IMAGE_WORDS
+  pub count : word b COUNT ≡ image_words
   pub engaged : word b ENGAGED ≡ flag (moving_at b).engaged
   pub profile : word b PROFILE ≡ profile_word (fixed_at b).profile
   pub peaks : let p = peaks_of b in (word b PEAKS ≡ bits p.0) × (word b (PEAKS + 1) ≡ bits p.1) × (word b (PEAKS + 2) ≡ bits p.2)
@@ -80,7 +80,7 @@ unbroken_has b u =
 
 -- ---- its words are its own state's, each made canonical
 
-count_canonical : canon IMAGE_WORDS ≡ IMAGE_WORDS
+count_canonical : canon image_words ≡ image_words
 unfolding to_bits of_bits
 count_canonical = refl
 
@@ -97,7 +97,7 @@ profile_canonical LostRotor = refl
 pub own_words : (b : List ℕ) → Unbroken b → OwnWords b
 own_words b u =
     let h = unbroken_has b u in let f = peaks_fit (segment_at b SEGMENT) in let at = of_bits-to_bits binary32 in
-    let count : canon (word b COUNT) ≡ IMAGE_WORDS = ap canon h.count ∙ count_canonical in
+    let count : canon (word b COUNT) ≡ image_words = ap canon h.count ∙ count_canonical in
     let engaged : canon (word b ENGAGED) ≡ flag (eqb (word b ENGAGED) 1) = unfold moving_at in ap canon h.engaged ∙ flag_canonical (eqb (word b ENGAGED) 1) in
     let profile : canon (word b PROFILE) ≡ profile_word (profile_of (word b PROFILE)) = unfold fixed_at profile_at in ap canon h.profile ∙ profile_canonical (profile_of (word b PROFILE)) in
     let x = ap canon h.peaks.0 ∙ ap bits (at (peaks_of b).0 f.0) in

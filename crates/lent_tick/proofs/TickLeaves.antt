@@ -5,36 +5,36 @@ use Rattle.relay_traj.specs.Governor.{advance}
 use Rattle.joint_tick.specs.{declared.{state.{Fixed.Fixed, TickInput.TickInput}, stages.{Prepared.Prepared, Reference.Reference, Ticked.Ticked}}, Tick.{prepare, guide_pick_follow, ticked, state_after}}
 use Rattle.joint_tick.proofs.TickKeeps.{tick_keeps}
 use Rattle.outcome.{specs.{declared.Outcome.{Outcome, TheVariants.Done}, Outcomes.{is_done, left, lent}}, proofs.Tables.{done_none, same}}
-use Rattle.image.specs.{Layout.{IMAGE_BYTES, INPUT_BYTES, ANSWER_BYTES}, Image.{fixed_at, moving_at, state_at}, Inner.{over_axis, OwnWords, Unmoved}, Inputs.input_at}
+use Rattle.image.specs.{Layout.{image_bytes, input_bytes, answer_bytes}, Image.{fixed_at, moving_at, state_at}, Inner.{over_axis, OwnWords, Unmoved}, Inputs.input_at}
 use Rattle.lent_tick.specs.{Unbroken.{unbroken, Unbroken}, Tick.{tick_table, tick_refusal, tick_from}, Inner.{ReadOf, left_moving, Leaves}}
 use Rattle.lent_tick.proofs.RowFour.{own_words}
 
 -- an image of which a function, asked whether it is unbroken, said b
-pub is_unbroken : {image : List ℕ} {b : Bool} → length image ≡ IMAGE_BYTES → b ≡ unbroken image → not b ≡ false → Unbroken image
-is_unbroken {image} {b} l e n = record { whole = l; row_four_lem = sym e ∙ not-false b n }
+pub is_unbroken : {image : List ℕ} {b : Bool} → length image ≡ image_bytes → b ≡ unbroken image → b ≡ true → Unbroken image
+is_unbroken {image} {b} l e n = record { whole = l; row_four_lem = sym e ∙ n }
 
 -- a tick of right lengths is done exactly if its image is unbroken
-pub unbroken_taken : (image : List ℕ) (inputLen answerLen : ℕ) → Unbroken image → inputLen ≡ INPUT_BYTES → answerLen ≡ ANSWER_BYTES → Done ≡ tick_refusal image inputLen answerLen
+pub unbroken_taken : (image : List ℕ) (inputLen answerLen : ℕ) → Unbroken image → inputLen ≡ input_bytes → answerLen ≡ answer_bytes → Done ≡ tick_refusal image inputLen answerLen
 unfolding tick_refusal
-unbroken_taken image inputLen answerLen u i a = rw (eq-eqb (length image) IMAGE_BYTES u.whole, eq-eqb inputLen INPUT_BYTES i, eq-eqb answerLen ANSWER_BYTES a, u.row_four_lem)
+unbroken_taken image inputLen answerLen u i a = rw (eq-eqb (length image) image_bytes u.whole, eq-eqb inputLen input_bytes i, eq-eqb answerLen answer_bytes a, u.row_four_lem)
 
-pub taken_unbroken : (image : List ℕ) (inputLen answerLen : ℕ) → is_done (tick_refusal image inputLen answerLen) ≡ true → Unbroken image × (inputLen ≡ INPUT_BYTES) × (answerLen ≡ ANSWER_BYTES)
+pub taken_unbroken : (image : List ℕ) (inputLen answerLen : ℕ) → is_done (tick_refusal image inputLen answerLen) ≡ true → Unbroken image × (inputLen ≡ input_bytes) × (answerLen ≡ answer_bytes)
 unfolding tick_refusal
 taken_unbroken image inputLen answerLen e =
     let t = done_none (tick_table image inputLen answerLen) refl e in
-    (record { whole = same (length image) IMAGE_BYTES (t 0); row_four_lem = not-false (unbroken image) (t 3) }, same inputLen INPUT_BYTES (t 1), same answerLen ANSWER_BYTES (t 2))
+    (record { whole = same (length image) image_bytes (t 0); row_four_lem = not-false (unbroken image) (t 3) }, same inputLen input_bytes (t 1), same answerLen answer_bytes (t 2))
 
 -- what `unbroken` asks of a fixed part that was read
 pub read_of : {f g : Fixed} → f ≡ g → ReadOf f.segment f.enter f.exit g
 read_of e = (ap (λ (f : Fixed). f.segment) e, ap (λ (f : Fixed). f.enter) e, ap (λ (f : Fixed). f.exit) e)
 
 -- a tick of which something was said, o, that is r, and that was not refused (t is whether o is done)
-pub flown : (source : Float → Reference) (image input answer : List ℕ) {o r : Outcome} {t : Bool} → o ≡ r → t ≡ is_done o → not t ≡ false
+pub flown : (source : Float → Reference) (image input answer : List ℕ) {o r : Outcome} {t : Bool} → o ≡ r → t ≡ is_done o → t ≡ true
     → {given : TickInput} {f : Fixed} {p : Prepared} {wanted : Reference} {done : Ticked} {later answered : List ℕ}
     → given ≡ input_at input → f ≡ fixed_at image → p ≡ prepare f.profile (moving_at image) given → wanted ≡ source p.time → done ≡ guide_pick_follow f p wanted given
     → Leaves (fixed_at image) p.moving.governor p.moving.lpf done later answered → left Done (lent later answered) ≡ tick_from source r image input answer
 unfolding tick_from ticked
-flown source image input answer {o} {r} {t} e d n i k q w h l = rw (← e, ← d, not-false t n, l.image, l.answer, h, w, q, k, i)
+flown source image input answer {o} {r} {t} e d n i k q w h l = rw (← e, ← d, n, l.image, l.answer, h, w, q, k, i)
 
 -- ---- what a tick leaves as it stood
 

@@ -2,7 +2,7 @@
 use Rattle.std.specs.Prelude.{ℕ, not, List, [], ◌∷◌, Float, length}
 use Rattle.joint_tick.specs.declared.stages.Reference.{Reference}
 use Rattle.joint_tick.specs.Tick.{ticked, state_after}
-use Rattle.image.specs.Layout.{IMAGE_BYTES, INPUT_BYTES, ANSWER_BYTES}
+use Rattle.image.specs.Layout.{image_bytes, input_bytes, answer_bytes}
 use Rattle.image.specs.Image.{state_at, image_of}
 use Rattle.image.specs.Inputs.{input_at, answer_of}
 use Rattle.outcome.specs.declared.Outcome.{Outcome}
@@ -13,9 +13,9 @@ use Rattle.lent_tick.specs.Unbroken.{unbroken}
 -- The first row that holds, and so the lowest number. A tick is refused whatever its input's bytes are.
 abbrev pub tick_table : List ℕ → ℕ → ℕ → Table
 tick_table image inputLen answerLen =
-    (differs (length image) IMAGE_BYTES, ImageLength)
-    ∷ (differs inputLen INPUT_BYTES, InputLength)
-    ∷ (differs answerLen ANSWER_BYTES, AnswerLength)
+    (differs (length image) image_bytes, ImageLength)
+    ∷ (differs inputLen input_bytes, InputLength)
+    ∷ (differs answerLen answer_bytes, AnswerLength)
     ∷ (not (unbroken image), BrokenImage)
     ∷ []
 

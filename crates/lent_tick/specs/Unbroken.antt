@@ -5,7 +5,7 @@ use Rattle.words.specs.Words.{word, float, bits}
 use Rattle.relay_math.specs.F32.{0·0, 1e-3, is_finite, finite_above}
 use Rattle.relay_traj.specs.declared.segment.Segment3.{Segment3}
 use Rattle.joint_tick.specs.Profile.{is_profile}
-use Rattle.image.specs.Layout.{COUNT, ENTER, EXIT, ENGAGED, GOVERNOR, SEGMENT, PROFILE, PEAKS, IMAGE_WORDS, IMAGE_BYTES}
+use Rattle.image.specs.Layout.{COUNT, ENTER, EXIT, ENGAGED, GOVERNOR, SEGMENT, PROFILE, PEAKS, image_words, image_bytes}
 use Rattle.image.specs.Parts.{segment_at}
 use Rattle.image.specs.Image.{peaks_of}
 
@@ -25,7 +25,7 @@ peaks_stand b =
 -- The row, clause by clause in its order; the last two are by requests Six and Seven.
 unfoldable pub unbroken : List ℕ → Bool
 unbroken b =
-    eqb (word b COUNT) IMAGE_WORDS  -- "word 0 is not 95", 99 since Seven
+    eqb (word b COUNT) image_words  -- "word 0 is not 95", 99 since Seven
     && finite_above 0·0 (float b ENTER)  -- "enter non-finite or not above 0"
     && lt (float b ENTER) (float b EXIT)  -- "exit not above enter"
     && (eqb (word b ENGAGED) 0 || eqb (word b ENGAGED) 1)  -- "engaged not 0 or 1"
@@ -36,5 +36,5 @@ unbroken b =
 
 -- Unbroken bytes of an image's length: what a tick, a route tick and an exchange take.
 pub record Unbroken (b : List ℕ) : Type 0 where
-  pub whole : length b ≡ IMAGE_BYTES
+  pub whole : length b ≡ image_bytes
   pub row_four_lem : unbroken b ≡ true

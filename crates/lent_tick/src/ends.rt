@@ -3,7 +3,7 @@
 ghost use Rattle.std.specs.Prelude.{◌≡◌, length};
 ghost use Rattle.words.specs.Inner.{Plain};
 ghost use Rattle.joint_tick.specs.Tick.{prepare};
-ghost use Rattle.image.specs.Layout.{IMAGE_BYTES, ANSWER_BYTES};
+ghost use Rattle.image.specs.Layout.{image_bytes, answer_bytes};
 ghost use Rattle.image.specs.Image.{fixed_at, moving_at};
 ghost use Rattle.image.specs.Inner.{OwnWords, Unmoved};
 ghost use Rattle.lent_tick.specs.Inner.{left_moving, Leaves};
@@ -15,7 +15,7 @@ use relay_traj::RefGovernor;
 
 // What moves, read and prepared. What was read is gone from the stack then.
 pub fn read_and_prepare(image: &[u8], plain: bool, profile: Profile, given: TickInput) -> Prepared
-    requires fact_1 { length image.now ≡ IMAGE_BYTES }
+    requires fact_1 { length image.now ≡ image_bytes }
     requires fact_2 { Plain plain image.now }
     ensures { result ≡ prepare profile (moving_at image.now) given }
 {
@@ -31,7 +31,7 @@ pub fn put_state_and_answer(
     lpf: GyroLpf,
     done: Ticked,
 )
-    requires fact_1 { (length image.old ≡ IMAGE_BYTES) × (length answer.old ≡ ANSWER_BYTES) }
+    requires fact_1 { (length image.old ≡ image_bytes) × (length answer.old ≡ answer_bytes) }
     requires fact_2 { Plain plain image.old }
     requires fact_3 { OwnWords image.old × Unmoved (left_moving governor lpf done) (moving_at image.old) }
     ensures { Leaves (fixed_at image.old) governor lpf done image.new answer.new }

@@ -5,7 +5,7 @@ ghost use Rattle.std.specs.Float.Ieee.{lt, le};
 ghost use Rattle.relay_math.specs.F32.{0·0, finite_above};
 ghost use Rattle.words.specs.Words.{word, float, bits};
 ghost use Rattle.relay_traj.specs.Quintic.{peak_abs_jerk};
-ghost use Rattle.image.specs.Layout.{IMAGE_BYTES, GOVERNOR};
+ghost use Rattle.image.specs.Layout.{image_bytes, GOVERNOR as governor_word};
 ghost use Rattle.image.specs.Image.{fixed_at};
 ghost use Rattle.lent_tick.specs.Unbroken.{lasts, all_last, peaks_stand, unbroken};
 ghost use Rattle.lent_tick.specs.Inner.{ReadOf};
@@ -46,8 +46,8 @@ fn all_last(segment: Segment3) -> bool
 
 // The floats that row 4 speaks of: the thresholds, the time and each t_end.
 fn numbers_stand(image: &[u8], segment: Segment3, enter: f32, exit: f32) -> bool
-    requires { length image.now ≡ IMAGE_BYTES }
-    ensures { result ≡ (finite_above 0·0 enter && lt enter exit && le 0·0 (float image.now GOVERNOR) && all_last segment) }
+    requires { length image.now ≡ image_bytes }
+    ensures { result ≡ (finite_above 0·0 enter && lt enter exit && le 0·0 (float image.now governor_word) && all_last segment) }
 {
     if finite_above(0.0, enter) {
         if exit > enter {
@@ -73,7 +73,7 @@ fn peak_stands(image: &[u8], axis: Quintic, peak: usize) -> bool
 }
 
 fn peaks_stand(image: &[u8], segment: Segment3) -> bool
-    requires fact_1 { length image.now ≡ IMAGE_BYTES }
+    requires fact_1 { length image.now ≡ image_bytes }
     requires fact_2 { segment ≡ (fixed_at image.now).segment }
     ensures { result ≡ peaks_stand image.now }
 {
@@ -90,7 +90,7 @@ fn peaks_stand(image: &[u8], segment: Segment3) -> bool
 
 // By what was read of the image already: a tick reads no word of the segment twice.
 pub fn unbroken(image: &[u8], segment: Segment3, enter: f32, exit: f32) -> bool
-    requires fact_1 { length image.now ≡ IMAGE_BYTES }
+    requires fact_1 { length image.now ≡ image_bytes }
     requires fact_2 { ReadOf segment enter exit (fixed_at image.now) }
     ensures { result ≡ unbroken image.now }
 {

@@ -74,8 +74,8 @@ either P o w k = by_test_lem P (is_done o) w k
 -- ---- a call that asks a function, which says o, whether it is refused: t is whether o is done
 
 module _ {o r : Outcome} {t : Bool} (e : o ≡ r) (d : t ≡ is_done o) where
-  pub accepted : not t ≡ false → is_done r ≡ true
-  accepted n = rw (← e, ← d) (not-false t n)
+  pub accepted : t ≡ true → is_done r ≡ true
+  accepted n = rw (← e, ← d) n
 
-  pub refused : not t ≡ true → {B : Type 0} {kept : B} (written : B) → left o kept ≡ left_unless r written kept
-  refused n written = rw (← e, ← d, not-true t n)
+  pub refused : t ≡ false → {B : Type 0} {kept : B} (written : B) → left o kept ≡ left_unless r written kept
+  refused n written = rw (← e, ← d, n)

@@ -4,7 +4,7 @@ use Rattle.words.specs.Words.{word, float, bytes_of}
 use Rattle.latch.specs.Latch.{after}
 use Rattle.relay_geo.specs.{declared.shield.SimplexShield.SimplexShield, Shield.{mend_thresholds, new_shield}}
 use Rattle.joint_tick.specs.{declared.state.State.State, Profile.{is_profile, profile_of}, SetUp.set_up}
-use Rattle.image.{specs.{Layout.{SETUP_ENTER, SETUP_EXIT, SETUP_PROFILE}, Image.fixed_at, Inputs.setup_at}, proofs.Decoded.decode_encode}
+use Rattle.image.{specs.{Layout.{setup_enter, setup_exit, setup_profile}, Image.fixed_at, Inputs.setup_at}, proofs.Decoded.decode_encode}
 use Rattle.outcome.specs.{declared.Outcome.TheVariants.Done, Outcomes.{is_done, left}}
 use Rattle.lent_tick.{specs.Steps.shield_at, proofs.NeverRefused.set_up_fits}
 use Rattle.flight_log.{specs.{Form.is_log, Records.records, Runs.{ToAppend, NoneRefused, records_of, at_first}}, proofs.Reading.{kept_all, records_kept, never_refused}}
@@ -32,9 +32,9 @@ unfolding image_after
 after_one_lem image [] c = refl
 after_one_lem image (x ∷ calls) c = after_one_lem (left_by image x) calls c
 
-module _ (setup : List ℕ) (p : is_profile (word setup SETUP_PROFILE) ≡ true) where
+module _ (setup : List ℕ) (p : is_profile (word setup setup_profile) ≡ true) where
   abbrev Right : Bool → List (List ℕ) → Type 0
-  Right before rs = Carried (profile_of (word setup SETUP_PROFILE)) (enter_of setup) (exit_of setup) before rs
+  Right before rs = Carried (profile_of (word setup setup_profile)) (enter_of setup) (exit_of setup) before rs
 
   module _ (calls : List Call) where
     abbrev image : List ℕ
@@ -69,7 +69,7 @@ module _ (setup : List ℕ) (p : is_profile (word setup SETUP_PROFILE) ≡ true)
 
   -- ---- set-up's thresholds are what the check mends
 
-  thresholds : (enter_of setup ≡ (mend_thresholds (float setup SETUP_ENTER) (float setup SETUP_EXIT)).enter) × (exit_of setup ≡ (mend_thresholds (float setup SETUP_ENTER) (float setup SETUP_EXIT)).exit)
+  thresholds : (enter_of setup ≡ (mend_thresholds (float setup setup_enter) (float setup setup_exit)).enter) × (exit_of setup ≡ (mend_thresholds (float setup setup_enter) (float setup setup_exit)).exit)
   unfolding start set_up setup_at new_shield fixed_at
   thresholds =
       let e = decode_encode (set_up (setup_at setup)) (set_up_fits setup) in
@@ -78,11 +78,11 @@ module _ (setup : List ℕ) (p : is_profile (word setup SETUP_PROFILE) ≡ true)
   -- "Any log of every tick of one run from our own set-up, given with that set-up's enter, exit and profile, is accepted": plain and route ticks in any order, with
   -- exchanges and refused calls between, in both profiles. Any bytes whose records are these, however they came to be: grown in one buffer, moved to a longer one, copied.
   module _ (log : List ℕ) (calls : List Call) (e : records log ≡ ticks_kept (start setup) calls) where
-    pub any_log_right : verdict_on log (word setup SETUP_PROFILE) (float setup SETUP_ENTER) (float setup SETUP_EXIT) ≡ AllRight
+    pub any_log_right : verdict_on log (word setup setup_profile) (float setup setup_enter) (float setup setup_exit) ≡ AllRight
     unfolding verdict_on image_after
     any_log_right =
-        let by = profile_of (word setup SETUP_PROFILE) in
-        let t = mend_thresholds (float setup SETUP_ENTER) (float setup SETUP_EXIT) in
+        let by = profile_of (word setup setup_profile) in
+        let t = mend_thresholds (float setup setup_enter) (float setup setup_exit) in
         let rs = ticks_kept (start setup) calls in
         ap (λ (l : List (List ℕ)). verdict_of by t.enter t.exit l) e
         ∙ ap (λ (x : Float). verdict_of by x t.exit rs) (sym thresholds.0)
@@ -91,12 +91,12 @@ module _ (setup : List ℕ) (p : is_profile (word setup SETUP_PROFILE) ≡ true)
 
     -- and by the call's bytes
     pub any_log_accepted : is_log log ≡ true → (into : List ℕ) → length into ≡ 4
-        → check_call log (word setup SETUP_PROFILE) (float setup SETUP_ENTER) (float setup SETUP_EXIT) into ≡ left Done (bytes_of (0xffff_ffff ∷ []))
-    any_log_accepted l into h = taken log (word setup SETUP_PROFILE) (float setup SETUP_ENTER) (float setup SETUP_EXIT) into h l p ∙ rw any_log_right
+        → check_call log (word setup setup_profile) (float setup setup_enter) (float setup setup_exit) into ≡ left Done (bytes_of (0xffff_ffff ∷ []))
+    any_log_accepted l into h = taken log (word setup setup_profile) (float setup setup_enter) (float setup setup_exit) into h l p ∙ rw any_log_right
 
   -- so the log that our append makes in one buffer, if it refuses no accepted tick
   pub own_log_accepted : (beyond : List ℕ) (calls : List Call) → NoneRefused (at_first beyond) (keeps_along (start setup) calls) → (into : List ℕ) → length into ≡ 4
-      → check_call (own_log setup beyond calls) (word setup SETUP_PROFILE) (float setup SETUP_ENTER) (float setup SETUP_EXIT) into ≡ left Done (bytes_of (0xffff_ffff ∷ []))
+      → check_call (own_log setup beyond calls) (word setup setup_profile) (float setup setup_enter) (float setup setup_exit) into ≡ left Done (bytes_of (0xffff_ffff ∷ []))
   own_log_accepted beyond calls k =
       let gs = keeps_along (start setup) calls in
       any_log_accepted (own_log setup beyond calls) calls (records_kept beyond gs ∙ kept_all (at_first beyond) gs k) (never_refused beyond gs)

@@ -7,7 +7,7 @@ use Rattle.words.{specs.Words.{word, float, float_of, bits, flag}, proofs.WordsB
 use Rattle.latch.specs.Latch.{latch}
 use Rattle.relay_geo.{specs.Vectors.Finite3, proofs.Sanitised.sanitise3_finite}
 use Rattle.joint_tick.{specs.{declared.profile.Profile.{Profile, TheVariants.{Whole, LostRotor}}, Profile.{is_profile, profile_of}, Tick.guidance}, proofs.Shielding.tick_fallback}
-use Rattle.image.specs.{Layout.{INPUT_WORDS, INPUT_BYTES, ANSWER_BYTES, AGILE, COMMAND, FLAG, MARGIN, PROFILE, SETUP_PROFILE}, Image.state_at, Inputs.input_at, Passed.{passed_on, planner_word}}
+use Rattle.image.specs.{Layout.{input_words, input_bytes, answer_bytes, AGILE, COMMAND, FLAG, MARGIN, PROFILE, setup_profile}, Image.state_at, Inputs.input_at, Passed.{passed_on, planner_word}}
 use Rattle.image.{specs.Fits.FitsVec, proofs.{AnswerWords.command_words_lem, AnswerFits.command_fits}}
 use Rattle.outcome.{specs.{declared.Outcome.TheVariants.Done, Outcomes.{is_done, Table, first_of, Called}}, proofs.Tables.{refuses, done_none, done_exactly, same, either}}
 use Rattle.lent_tick.{specs.{Unbroken.Unbroken, Tick.{tick_table, tick_from}, Steps.shield_at}, proofs.TickLeaves.taken_unbroken}
@@ -36,12 +36,12 @@ done_is ((true, o) ∷ rows) r e = no (sym (done_none ((true, o) ∷ rows) r e 0
 done_is ((false, o) ∷ rows) r e = done_is rows (both (not (is_done o)) (refuses rows) r).1 e
 
 given_right : (c : Course) (image : List ℕ) (inputLen answerLen : ℕ) → is_done (refusal_on c image inputLen answerLen) ≡ true
-    → (inputLen ≡ INPUT_BYTES) × (answerLen ≡ ANSWER_BYTES) × RightCourse c
+    → (inputLen ≡ input_bytes) × (answerLen ≡ answer_bytes) × RightCourse c
 unfolding route_refusal form_refusal
 given_right Segment image inputLen answerLen e = let t = taken_unbroken image inputLen answerLen e in (t.1, t.2, tt)
 given_right (Route route) image inputLen answerLen e =
     let n = done_none (tick_table image inputLen answerLen ++ form_table route) refl e in
-    (same inputLen INPUT_BYTES (n 1), same answerLen ANSWER_BYTES (n 2), done_is (form_table route) refl ((done_exactly (form_table route) refl).1 (λ k. n (suc (suc (suc (suc k)))))))
+    (same inputLen input_bytes (n 1), same answerLen answer_bytes (n 2), done_is (form_table route) refl ((done_exactly (form_table route) refl).1 (λ k. n (suc (suc (suc (suc k)))))))
 
 pub accepted_right : (image : List ℕ) (t : Tick) → is_done (tick_of image t).outcome ≡ true → Right t
 unfolding tick_from
@@ -77,7 +77,7 @@ module _ (v : Vec3) (f : FitsVec v) (n : Finite3 v) where
 
 -- ---- one accepted tick after any calls
 
-module _ (setup : List ℕ) (calls : List Call) (t : Tick) (p : is_profile (word setup SETUP_PROFILE) ≡ true) (d : is_done (tick_of (image_after (start setup) calls) t).outcome ≡ true) where
+module _ (setup : List ℕ) (calls : List Call) (t : Tick) (p : is_profile (word setup setup_profile) ≡ true) (d : is_done (tick_of (image_after (start setup) calls) t).outcome ≡ true) where
   abbrev image : List ℕ
   image = image_after (start setup) calls
 
@@ -99,10 +99,10 @@ module _ (setup : List ℕ) (calls : List Call) (t : Tick) (p : is_profile (word
   shown : Shows (b ≡ false) image t
   shown = shows image t a given (b ≡ false) (λ e. e, λ e. e)
 
-  in_answer : (k : ℕ) → word kept (INPUT_WORDS + k) ≡ word answer k
-  in_answer k = word_behind t.input answer INPUT_WORDS k given.0
+  in_answer : (k : ℕ) → word kept (input_words + k) ≡ word answer k
+  in_answer k = word_behind t.input answer input_words k given.0
 
-  in_input : (k : ℕ) → k < INPUT_WORDS → word kept k ≡ word t.input k
+  in_input : (k : ℕ) → k < input_words → word kept k ≡ word t.input k
   in_input k h = word_before t.input answer k (omega (arith, given.0))
 
   pub margin_kept : margin_in kept ≡ (guided image t).margin
@@ -114,15 +114,15 @@ module _ (setup : List ℕ) (calls : List Call) (t : Tick) (p : is_profile (word
 
   -- a command's word, by its axis
   command_kept : (axis : ℕ) → axis < 3 → command_word kept axis ≡ get_or (command_words answer) axis 0
-  command_kept axis h = let e : INPUT_WORDS + COMMAND + axis ≡ INPUT_WORDS + (COMMAND + axis) = omega arith in rw e
+  command_kept axis h = let e : input_words + COMMAND + axis ≡ input_words + (COMMAND + axis) = omega arith in rw e
       (in_answer (COMMAND + axis) ∙ sym (by_axis (λ (k : ℕ). word answer (COMMAND + k)) axis h))
 
-  planner_kept : b ≡ false → (axis : ℕ) → axis < 3 → command_word kept axis ≡ planner_word (profile_of (word setup SETUP_PROFILE)) kept axis
+  planner_kept : b ≡ false → (axis : ℕ) → axis < 3 → command_word kept axis ≡ planner_word (profile_of (word setup setup_profile)) kept axis
   planner_kept e axis h =
       command_kept axis h
       ∙ ap (λ (ws : List ℕ). get_or ws axis 0) (shown.planner (shown.flies.1 e)) ∙ by_axis (planner_word (profile_of (word image PROFILE)) t.input) axis h
       ∙ ap (λ (w : ℕ). planner_word (profile_of w) t.input axis) (profile_over_any_run setup calls p)
-      ∙ same_planner (profile_of (word setup SETUP_PROFILE)) t.input kept axis (sym (in_input (AGILE + axis) (omega arith)))
+      ∙ same_planner (profile_of (word setup setup_profile)) t.input kept axis (sym (in_input (AGILE + axis) (omega arith)))
 
   fallback_kept : b ≡ true → (axis : ℕ) → axis < 3 → is_finite (float_of (command_word kept axis)) ≡ true
   fallback_kept e axis h =
@@ -134,7 +134,7 @@ module _ (setup : List ℕ) (calls : List Call) (t : Tick) (p : is_profile (word
       ap (λ (w : ℕ). is_finite (float_of w)) (command_kept axis h ∙ ap (λ (ws : List ℕ). get_or ws axis 0) words) ∙ finite_written command.0 f finite axis h
 
   -- by the margin that it keeps and by whoever had control before
-  pub right_kept : right (profile_of (word setup SETUP_PROFILE)) (latch (enter_of setup) (exit_of setup) (shield_at image).engaged (margin_in kept)) kept ≡ true
+  pub right_kept : right (profile_of (word setup setup_profile)) (latch (enter_of setup) (exit_of setup) (shield_at image).engaged (margin_in kept)) kept ≡ true
   right_kept =
       rw (margin_kept, ← latched setup calls t)
-      (by_flag (profile_of (word setup SETUP_PROFILE)) kept b flag_kept planner_kept fallback_kept)
+      (by_flag (profile_of (word setup setup_profile)) kept b flag_kept planner_kept fallback_kept)

@@ -3,10 +3,10 @@ use Rattle.laws.proofs.Prelude.{◌≡◌, refl, sym, ap, subst, ◌∙◌, Bool
 use Rattle.laws.proofs.Prelude.{no}
 use Rattle.words.specs.Words.{word, float, bytes_of}
 use Rattle.joint_tick.specs.{Profile.is_profile, Tick.ticked}
-use Rattle.image.{specs.{Layout.{INPUT_BYTES, ANSWER_BYTES, SETUP_ENTER, SETUP_EXIT, SETUP_PROFILE}, Image.state_at, Inputs.input_at}, proofs.AnswerWords.answer_length}
+use Rattle.image.{specs.{Layout.{input_bytes, answer_bytes, setup_enter, setup_exit, setup_profile}, Image.state_at, Inputs.input_at}, proofs.AnswerWords.answer_length}
 use Rattle.outcome.{specs.{declared.Outcome.TheVariants.Done, Outcomes.{is_done, left, Filled, Called}}, proofs.Tables.either}
 use Rattle.lent_tick.specs.Tick.{tick_from}
-use Rattle.flight_log.specs.{Form.{RECORD_BYTES, MOST_RECORDS, empty_log, record_count, is_log}, Records.records, Entry.{append_refusal, append_call}}
+use Rattle.flight_log.specs.{Form.{record_bytes, most_records, empty_log, record_count, is_log}, Records.records, Entry.{append_refusal, append_call}}
 use Rattle.flight_log.specs.Runs.{LogBuffer, log_in, ToAppend, appended, after_one, after_all, kept_along, NoneRefused, records_of, at_first}
 use Rattle.flight_log.proofs.Reading.{after_appends, records_count, kept_all, never_refused, records_kept}
 use Rattle.runs.{specs.Runs.{Tick, Call, Ticks, Exchanges, tick_of, source_on, left_by, start}, proofs.Shown.{refusal_on, flying_is}}
@@ -17,8 +17,8 @@ use Rattle.own_logs.proofs.{RecordRight.accepted_right, Own.own_log_accepted}
 -- a log, and room for m records more
 record Room (h : LogBuffer) (m : ℕ) : Type 0 where
   log : is_log (log_in h) ≡ true
-  few : length (records (log_in h)) + m ≤ MOST_RECORDS
-  room : h.len + RECORD_BYTES * m ≤ length h.buffer
+  few : length (records (log_in h)) + m ≤ most_records
+  room : h.len + record_bytes * m ≤ length h.buffer
 
 -- ---- one append
 
@@ -29,7 +29,7 @@ as_long h g =
     either (λ (l : Filled). length l.later ≡ length h.buffer) (append_refusal h.buffer h.len (length g.input) (length g.answer))
     (λ d. simp length-sets) (λ d. refl)
 
-module _ (h : LogBuffer) (g : ToAppend) (m : ℕ) (r : Room h (suc m)) (i : length g.input ≡ INPUT_BYTES) (a : length g.answer ≡ ANSWER_BYTES) where
+module _ (h : LogBuffer) (g : ToAppend) (m : ℕ) (r : Room h (suc m)) (i : length g.input ≡ input_bytes) (a : length g.answer ≡ answer_bytes) where
   -- where there is room, nothing is refused
   taken : is_done (appended h g).outcome ≡ true
   unfolding append_call append_refusal
@@ -40,8 +40,8 @@ module _ (h : LogBuffer) (g : ToAppend) (m : ℕ) (r : Room h (suc m)) (i : leng
         a,
         le-ltb n h.len (omega arith),
         r.log,
-        le-ltb (n - h.len) RECORD_BYTES (omega arith),
-        ne_eqb (record_count (log_in h)) MOST_RECORDS (λ e. omega (arith, records_count (log_in h) r.log)),
+        le-ltb (n - h.len) record_bytes (omega arith),
+        ne_eqb (record_count (log_in h)) most_records (λ e. omega (arith, records_count (log_in h) r.log)),
       )
 
   -- and it leaves room for one record less
@@ -54,10 +54,10 @@ module _ (h : LogBuffer) (g : ToAppend) (m : ℕ) (r : Room h (suc m)) (i : leng
 -- ---- one call
 
 -- an accepted tick's answer has an answer's length
-answer_whole : (image : List ℕ) (t : Tick) → is_done (tick_of image t).outcome ≡ true → length (tick_of image t).later.answer ≡ ANSWER_BYTES
+answer_whole : (image : List ℕ) (t : Tick) → is_done (tick_of image t).outcome ≡ true → length (tick_of image t).later.answer ≡ answer_bytes
 unfolding tick_from
 answer_whole image t =
-    let P : Called → Type 0 = λ c. is_done c.outcome ≡ true → length c.later.answer ≡ ANSWER_BYTES in
+    let P : Called → Type 0 = λ c. is_done c.outcome ≡ true → length c.later.answer ≡ answer_bytes in
     let source = source_on t.course image in
     subst P (sym (flying_is t.course image t.input t.answer))
     (either P (refusal_on t.course image (length t.input) (length t.answer)) (λ e z. answer_length (ticked source (state_at image) (input_at t.input)).answer) (λ e z. no (sym e ∙ z)))
@@ -91,8 +91,8 @@ all_kept image h (c ∷ calls) r =
     let o = one_call image h c (length later) (subst (Room h) (length-append (keeps_of image c) later) r) in
     in_turn h (keeps_of image c) later o.0 (all_kept (left_by image c) (after_all h (keeps_of image c)) calls o.1)
 
-module _ (setup beyond : List ℕ) (calls : List Call) (few : length (keeps_along (start setup) calls) ≤ MOST_RECORDS)
-    (room : RECORD_BYTES * length (keeps_along (start setup) calls) ≤ length beyond) where
+module _ (setup beyond : List ℕ) (calls : List Call) (few : length (keeps_along (start setup) calls) ≤ most_records)
+    (room : record_bytes * length (keeps_along (start setup) calls) ≤ length beyond) where
   -- A buffer with room for a record of each accepted tick keeps them all, of up to 65,535; the calls may be any number more.
   pub accepted_ticks_kept : NoneRefused (at_first beyond) (keeps_along (start setup) calls)
   unfolding after_all kept_along
@@ -104,6 +104,6 @@ module _ (setup beyond : List ℕ) (calls : List Call) (few : length (keeps_alon
       }
 
   -- so the log of any such run is accepted
-  pub run_accepted : is_profile (word setup SETUP_PROFILE) ≡ true → (into : List ℕ) → length into ≡ 4
-      → check_call (own_log setup beyond calls) (word setup SETUP_PROFILE) (float setup SETUP_ENTER) (float setup SETUP_EXIT) into ≡ left Done (bytes_of (0xffff_ffff ∷ []))
+  pub run_accepted : is_profile (word setup setup_profile) ≡ true → (into : List ℕ) → length into ≡ 4
+      → check_call (own_log setup beyond calls) (word setup setup_profile) (float setup setup_enter) (float setup setup_exit) into ≡ left Done (bytes_of (0xffff_ffff ∷ []))
   run_accepted p = own_log_accepted setup p beyond calls accepted_ticks_kept

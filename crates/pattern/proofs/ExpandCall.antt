@@ -4,8 +4,8 @@ use Rattle.laws.proofs.Prelude.{sets, slice, length-sets, get_or-take}
 use lib.Seq.{take-length}
 use Rattle.words.{specs.Words.{bytes_of, Put}, proofs.Written.{sets_append, whole}}
 use Rattle.outcome.specs.{declared.Outcome.{Outcome, TheVariants.{Done, BadPattern, LegCount, NoRoom, LegsApart}}, Outcomes.left}
-use Rattle.image.specs.Layout.{LEG_BYTES}
-use Rattle.route.specs.Form.{MOST_LEGS}
+use Rattle.image.specs.Layout.{leg_bytes}
+use Rattle.route.specs.Form.{most_legs}
 use Rattle.pattern.specs.{declared.walk.Walked.TheVariants.{Broken, Past}, Tree.{Pattern, flown_legs}, Read.{broken, is, read}, Walk.{leg_in, capped, walked_to, Walk, Found, Places}}
 use Rattle.pattern.specs.Entry.{DEEPEST, joined, route_length, route_of, flown_meet, legs_read, expand_refusal, Buffers, buffers, expand_call, expanded_call}
 use Rattle.pattern.proofs.{Runs.run_slice, Rounds.{capped_least, counted}, ItemByItem.{came, was_broken}, Long.{AllLong, Long, long_read, long_places}, Found.legs_at}
@@ -21,20 +21,20 @@ module _ (ls : List (List ℕ)) (route written : List ℕ) {n : ℕ} (many : len
   unfolding expanded_call
   apart h e = rw (many, le-ltb (length route) (route_length n) h, e)
 
-  pub all_done : route_length n ≤ length route → flown_meet ls ≡ true → length (joined ls) ≡ LEG_BYTES * n → length written ≡ 4
-      → {r s w : List ℕ} → r ≡ sets route 0 (joined ls) → Put r (19 * n) (n ∷ LEG_BYTES * n ∷ []) s → Put written 0 (route_length n ∷ []) w
+  pub all_done : route_length n ≤ length route → flown_meet ls ≡ true → length (joined ls) ≡ leg_bytes * n → length written ≡ 4
+      → {r s w : List ℕ} → r ≡ sets route 0 (joined ls) → Put r (19 * n) (n ∷ leg_bytes * n ∷ []) s → Put written 0 (route_length n ∷ []) w
       → left Done (buffers s w) ≡ expanded_call ls route written
   unfolding expanded_call route_of
   all_done h e j k {r} {s} f p q =
       let at : 4 * (19 * n) ≡ 0 + length (joined ls) = omega (arith, j) in
-      let trailer : List ℕ = bytes_of (n ∷ LEG_BYTES * n ∷ []) in
+      let trailer : List ℕ = bytes_of (n ∷ leg_bytes * n ∷ []) in
       let a : s ≡ sets route 0 (joined ls ++ trailer) =
       p.is ∙ ap (λ (i : ℕ). sets r i trailer) at ∙ ap (λ (t : List ℕ). sets t (0 + length (joined ls)) trailer) f ∙ sets_append route 0 (joined ls) trailer in
       rw (many, le-ltb (length route) (route_length n) h, e, a, whole q k)
 
 -- ---- what the walk over all bytes found
 
-module _ (b old new : List ℕ) {x m : ℕ} (size : length old ≡ MOST_LEGS) (w : Walk b (read DEEPEST (slice 0 (length b) b)) (length b) 0 old (Past x m) new) where
+module _ (b old new : List ℕ) {x m : ℕ} (size : length old ≡ most_legs) (w : Walk b (read DEEPEST (slice 0 (length b) b)) (length b) 0 old (Past x m) new) where
   all_read : read DEEPEST (slice 0 (length b) b) ≡ read DEEPEST b
   all_read = ap (read DEEPEST) (take-length b)
 
@@ -56,7 +56,7 @@ module _ (b old new : List ℕ) {x m : ℕ} (size : length old ≡ MOST_LEGS) (w
   pub many_found : 32 < m → 32 < length (flown_legs tree)
   many_found h = omega (arith, how_many, capped_least (length (flown_legs tree)))
 
-  module _ (few : m ≤ MOST_LEGS) where
+  module _ (few : m ≤ most_legs) where
     all_counted : m ≡ length (flown_legs tree)
     all_counted = how_many ∙ counted (length (flown_legs tree)) (omega (arith, how_many))
 
@@ -80,7 +80,7 @@ module _ (b old new : List ℕ) {x m : ℕ} (size : length old ≡ MOST_LEGS) (w
         let all = subst AllLong (sym there.legs) long in
         record {
           few = omega (arith, ap length there.put, length-sets old 0 there.places, size);
-          fits = λ i h. subst (λ (p : ℕ). p + LEG_BYTES ≤ length b) (ap (λ (l : List ℕ). get_or l i 0) (sym these) ∙ get_or-take m new i 0 h)
+          fits = λ i h. subst (λ (p : ℕ). p + leg_bytes ≤ length b) (ap (λ (l : List ℕ). get_or l i 0) (sym these) ∙ get_or-take m new i 0 h)
               (long_places b there.places all i (omega (arith, placed, h)));
         }
 
@@ -108,7 +108,7 @@ module _ (b route written : List ℕ) (k : length written ≡ 4) where
     expanded h l = rw (eq-eqb (length written) 4 k, e, ne_eqb (length (flown_legs p)) 0 (λ z. omega arith), le-ltb 32 (length (flown_legs p)) l)
 
 -- the route of the legs found is the call's
-module _ (b old new : List ℕ) {x m : ℕ} (size : length old ≡ MOST_LEGS) (w : Walk b (read DEEPEST (slice 0 (length b) b)) (length b) 0 old (Past x m) new) (few : m ≤ MOST_LEGS)
+module _ (b old new : List ℕ) {x m : ℕ} (size : length old ≡ most_legs) (w : Walk b (read DEEPEST (slice 0 (length b) b)) (length b) 0 old (Past x m) new) (few : m ≤ most_legs)
     (route written : List ℕ) (k : length written ≡ 4) where
   pub routed : (m ≡ 0 → ⊥) → {o : Outcome} {later : Buffers} → left o later ≡ expanded_call (legs_at b new m) route written → left o later ≡ expand_call b route written
   routed some e =

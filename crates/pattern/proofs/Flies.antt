@@ -3,36 +3,36 @@ use Rattle.laws.proofs.Prelude.{◌≡◌, refl, sym, ap, subst, ◌∙◌, true
 use Rattle.laws.proofs.Prelude.{add-one, arith, le-ltb, eq-eqb, ne_eqb, ltb-false, eqb-false, not-false, length, get_or, take, drop, length-append, List·getD-append, sets, sets-eq, drop_at}
 use Rattle.laws.proofs.Prelude.{get_or-append-add, no, both}
 use Rattle.words.{specs.Words.{four_bytes, word, float, float_of, vec, bytes_of as word_bytes}, proofs.WordsBack.{four_after, word_bytes_of}}
-use Rattle.image.specs.{Layout.LEG_BYTES, Parts.leg_at}
+use Rattle.image.specs.{Layout.leg_bytes, Parts.leg_at}
 use Rattle.outcome.{specs.{declared.Outcome.TheVariants.Done, Outcomes.{is_done, left}}, proofs.Tables.{done_none, refused_keeps, either}}
-use Rattle.route.{specs.Form.{ROUTE_TRAILER_BYTES, MOST_LEGS, leg_count, back_of, leg_of, legs_meet, form_refusal, all_meet as routeMeets}, proofs.Joins.joins_say}
+use Rattle.route.{specs.Form.{route_trailer_bytes, most_legs, leg_count, back_of, leg_of, legs_meet, form_refusal, all_meet as routeMeets}, proofs.Joins.joins_say}
 use Rattle.pattern.specs.{Tree.{Pattern, flown_legs, times, repeat, pattern_bytes, WithinLimits}, Read.{Read, broken, is, read}}
 use Rattle.pattern.specs.Entry.{DEEPEST, joined, route_length, route_of, flown_meet, legs_read, legs_of, expand_table, expand_refusal, buffers, Expanded, with_route, expand_call, expanded_call}
 use Rattle.pattern.proofs.{Runs.run_slice, Long.{AllLong, Long, long_read}, ExpandCall.expanded, ReadBack.reads_back}
 
 -- ---- the trailer
 
-joined_length : (ls : List (List ℕ)) → AllLong ls → length (joined ls) ≡ LEG_BYTES * length ls
+joined_length : (ls : List (List ℕ)) → AllLong ls → length (joined ls) ≡ leg_bytes * length ls
 unfolding joined
 joined_length [] a = refl
 joined_length (l ∷ ls) a = omega (arith, length-append l (joined ls), a.0, joined_length ls a.1)
 
 module _ (ls : List (List ℕ)) (a : AllLong ls) where
   abbrev trailer : List ℕ
-  trailer = length ls ∷ LEG_BYTES * length ls ∷ []
+  trailer = length ls ∷ leg_bytes * length ls ∷ []
 
   pub route_length_lem : length (route_of ls) ≡ route_length (length ls)
   unfolding route_of
   route_length_lem = omega (arith, length-append (joined ls) (word_bytes trailer), joined_length ls a)
 
-  module _ (few : length ls ≤ MOST_LEGS) where
+  module _ (few : length ls ≤ most_legs) where
     count_back : leg_count (route_of ls) ≡ length ls
     unfolding leg_count route_of word
     count_back =
-        let at : length (route_of ls) - ROUTE_TRAILER_BYTES ≡ length (joined ls) + 0 = omega (arith, length-append (joined ls) (word_bytes trailer)) in
+        let at : length (route_of ls) - route_trailer_bytes ≡ length (joined ls) + 0 = omega (arith, length-append (joined ls) (word_bytes trailer)) in
         ap (four_bytes (route_of ls)) at ∙ four_after (joined ls) (word_bytes trailer) 0 ∙ word_bytes_of trailer 0 ∙ mod-eq_of_lt (omega arith)
 
-    back_back : back_of (route_of ls) ≡ LEG_BYTES * length ls
+    back_back : back_of (route_of ls) ≡ leg_bytes * length ls
     unfolding back_of route_of word
     back_back =
         let at : length (route_of ls) - 4 ≡ length (joined ls) + 4 = omega (arith, length-append (joined ls) (word_bytes trailer)) in
@@ -40,19 +40,19 @@ module _ (ls : List (List ℕ)) (a : AllLong ls) where
 
 -- ---- the legs
 
-leg_byte : (ls : List (List ℕ)) (more : List ℕ) (i m : ℕ) → AllLong ls → i < length ls → m < LEG_BYTES
-    → get_or (joined ls ++ more) (LEG_BYTES * i + m) 0 ≡ get_or (get_or ls i []) m 0
+leg_byte : (ls : List (List ℕ)) (more : List ℕ) (i m : ℕ) → AllLong ls → i < length ls → m < leg_bytes
+    → get_or (joined ls ++ more) (leg_bytes * i + m) 0 ≡ get_or (get_or ls i []) m 0
 unfolding joined
 leg_byte [] more i m a h k = absurd (omega arith)
 leg_byte (l ∷ ls) more zero m a h k =
-    let e : LEG_BYTES * 0 + m ≡ m = omega arith in
+    let e : leg_bytes * 0 + m ≡ m = omega arith in
     rw (e, append_assoc l (joined ls) more) (List·getD-append l (joined ls ++ more) 0 m (omega (arith, a.0)))
 leg_byte (l ∷ ls) more (suc i) m a h k =
-    let e : LEG_BYTES * suc i + m ≡ length l + (LEG_BYTES * i + m) = omega (arith, a.0) in
-    rw (e, append_assoc l (joined ls) more, get_or-append-add l (joined ls ++ more) (LEG_BYTES * i + m) 0) (leg_byte ls more i m a.1 (le_of_suc-le-suc h) k)
+    let e : leg_bytes * suc i + m ≡ length l + (leg_bytes * i + m) = omega (arith, a.0) in
+    rw (e, append_assoc l (joined ls) more, get_or-append-add l (joined ls ++ more) (leg_bytes * i + m) 0) (leg_byte ls more i m a.1 (le_of_suc-le-suc h) k)
 
 -- the same bytes are the same leg, wherever they stand
-module _ (b c : List ℕ) (k : ℕ) (same : (m : ℕ) → m < LEG_BYTES → get_or b (4 * k + m) 0 ≡ get_or c m 0) where
+module _ (b c : List ℕ) (k : ℕ) (same : (m : ℕ) → m < leg_bytes → get_or b (4 * k + m) 0 ≡ get_or c m 0) where
   byte_same : (j r : ℕ) → j < 19 → r < 4 → get_or b (4 * (k + j) + r) 0 ≡ get_or c (4 * j + r) 0
   byte_same j r h l =
       let e : 4 * (k + j) + r ≡ 4 * k + (4 * j + r) = omega arith in
@@ -86,8 +86,8 @@ pub leg_of_route : (ls : List (List ℕ)) (i : ℕ) → AllLong ls → i < lengt
 unfolding route_of
 leg_of_route ls i a h =
     leg_same (route_of ls) (get_or ls i []) (19 * i) (λ m l.
-    let e : 4 * (19 * i) + m ≡ LEG_BYTES * i + m = omega arith in
-    ap (λ (j : ℕ). get_or (route_of ls) j 0) e ∙ leg_byte ls (word_bytes (length ls ∷ LEG_BYTES * length ls ∷ [])) i m a h l)
+    let e : 4 * (19 * i) + m ≡ leg_bytes * i + m = omega arith in
+    ap (λ (j : ℕ). get_or (route_of ls) j 0) e ∙ leg_byte ls (word_bytes (length ls ∷ leg_bytes * length ls ∷ [])) i m a h l)
 
 -- "the legs must meet": each leg and the one that is flown after it
 pub meet_each : (ls : List (List ℕ)) → flown_meet ls ≡ true → (i : ℕ) → suc i < length ls → legs_meet (leg_at (get_or ls i []) 0) (leg_at (get_or ls (suc i) []) 0) ≡ true
@@ -105,7 +105,7 @@ meet_in_route ls a e = (joins_say (route_of ls) (length ls)).1 (λ i h.
 
 -- ---- a route of 1 to 32 legs that meet is taken
 
-pub route_taken : (ls : List (List ℕ)) → AllLong ls → 1 ≤ length ls → length ls ≤ MOST_LEGS → flown_meet ls ≡ true → form_refusal (route_of ls) ≡ Done
+pub route_taken : (ls : List (List ℕ)) → AllLong ls → 1 ≤ length ls → length ls ≤ most_legs → flown_meet ls ≡ true → form_refusal (route_of ls) ≡ Done
 unfolding form_refusal
 route_taken ls a some few e =
     let n = length ls in
@@ -114,10 +114,10 @@ route_taken ls a some few e =
       back_back ls a few,
       meet_in_route ls a e,
       route_length_lem ls a,
-      le-ltb (route_length n) ROUTE_TRAILER_BYTES (omega arith),
+      le-ltb (route_length n) route_trailer_bytes (omega arith),
       ne_eqb n 0 (λ z. omega arith),
-      le-ltb MOST_LEGS n few,
-      eq-eqb (LEG_BYTES * n) (LEG_BYTES * n) refl,
+      le-ltb most_legs n few,
+      eq-eqb (leg_bytes * n) (leg_bytes * n) refl,
       eq-eqb (route_length n) (route_length n) refl,
     )
 
@@ -130,7 +130,7 @@ long_legs (is p) a = a
 
 pub record Taken (b : List ℕ) (routeLen : ℕ) : Type 0 where
   pub some : 1 ≤ length (legs_of b)
-  pub few : length (legs_of b) ≤ MOST_LEGS
+  pub few : length (legs_of b) ≤ most_legs
   pub room : route_length (length (legs_of b)) ≤ routeLen
   pub meet : flown_meet (legs_of b) ≡ true
   pub long : AllLong (legs_of b)
@@ -141,7 +141,7 @@ taken b routeLen writtenLen e =
     let t = done_none (expand_table b routeLen writtenLen) refl e in let n = length (legs_of b) in
     record {
       some = pos n (eqb-false n 0 (t 2));
-      few = ltb-false MOST_LEGS n (t 3);
+      few = ltb-false most_legs n (t 3);
       room = ltb-false routeLen (route_length n) (t 4);
       meet = not-false (flown_meet (legs_of b)) (t 5);
       long = long_legs (read DEEPEST b) (long_read DEEPEST b);
@@ -183,7 +183,7 @@ unfolding expand_call
 refused_writes_nothing b route written e = refused_keeps (expand_refusal b (length route) (length written)) _ _ e
 
 -- "expanding equals the legs in flown order": of every pattern at most four deep that has bytes
-pub expands : (p : Pattern) (route written : List ℕ) → WithinLimits DEEPEST p → length written ≡ 4 → 1 ≤ length (flown_legs p) → length (flown_legs p) ≤ MOST_LEGS
+pub expands : (p : Pattern) (route written : List ℕ) → WithinLimits DEEPEST p → length written ≡ 4 → 1 ≤ length (flown_legs p) → length (flown_legs p) ≤ most_legs
     → route_length (length (flown_legs p)) ≤ length route → flown_meet (flown_legs p) ≡ true → expand_call (pattern_bytes p) route written ≡ left Done (with_route (flown_legs p) route)
 unfolding expanded_call
 expands p route written f k some few room e =

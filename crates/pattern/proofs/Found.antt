@@ -3,12 +3,12 @@ use Rattle.laws.proofs.Prelude.{◌≡◌, refl, sym, ap, subst, ◌∙◌, Bool
 use Rattle.laws.proofs.Prelude.{length, get_or, take, drop, length-drop, length-map, length-append, sets, length-take-le, get_or-take, take_all}
 use lib.{ListN.get_or-map, Seq.{take-suc, drop-cons}}
 use Rattle.words.proofs.Written.{sets_append}
-use Rattle.image.specs.{Layout.LEG_BYTES, Parts.leg_at}
+use Rattle.image.specs.{Layout.leg_bytes, Parts.leg_at}
 use Rattle.route.specs.Form.{legs_meet}
 use Rattle.pattern.specs.{Walk.{leg_in, Places}, Entry.{flown_meet, joined}}
 
-pub leg_length : (b : List ℕ) (place : ℕ) → place + LEG_BYTES ≤ length b → length (leg_in b place) ≡ LEG_BYTES
-leg_length b place h = length-take-le LEG_BYTES (drop place b) (omega (arith, length-drop place b))
+pub leg_length : (b : List ℕ) (place : ℕ) → place + leg_bytes ≤ length b → length (leg_in b place) ≡ leg_bytes
+leg_length b place h = length-take-le leg_bytes (drop place b) (omega (arith, length-drop place b))
 
 -- the legs at the first n places
 abbrev pub legs_at : List ℕ → List ℕ → ℕ → List (List ℕ)
@@ -70,29 +70,29 @@ pub joins : {l m x y : List ℕ} {t : Bool} → x ≡ l → y ≡ m → t ≡ le
 joins p q e = rw (← p, ← q) (sym e)
 
 module _ (b places : List ℕ) (n : ℕ) (p : Places b places n) where
-  pub leg_long : (i : ℕ) → i < n → {l : List ℕ} → l ≡ leg_in b (get_or places i 0) → length l ≡ LEG_BYTES
+  pub leg_long : (i : ℕ) → i < n → {l : List ℕ} → l ≡ leg_in b (get_or places i 0) → length l ≡ leg_bytes
   leg_long i h e = ap length e ∙ leg_length b (get_or places i 0) (p.fits i h)
 
-  pub legs_length : (i : ℕ) → i ≤ n → length (joined (take i (legs_at b places n))) ≡ LEG_BYTES * i
+  pub legs_length : (i : ℕ) → i ≤ n → length (joined (take i (legs_at b places n))) ≡ leg_bytes * i
   unfolding joined
   legs_length zero h = refl
   legs_length (suc i) h =
       let more = ap length (one_leg_more b places n p.few i h) in
       let both = length-append (joined (take i (legs_at b places n))) (leg_in b (get_or places i 0)) in
       let e : i + 1 ≡ suc i = omega arith in
-      let l : length (joined (take (i + 1) (legs_at b places n))) ≡ LEG_BYTES * suc i =
+      let l : length (joined (take (i + 1) (legs_at b places n))) ≡ leg_bytes * suc i =
       omega (arith, more, both, legs_length i (omega arith), leg_length b (get_or places i 0) (p.fits i h)) in
-      subst (λ (k : ℕ). length (joined (take k (legs_at b places n))) ≡ LEG_BYTES * suc i) e l
+      subst (λ (k : ℕ). length (joined (take k (legs_at b places n))) ≡ leg_bytes * suc i) e l
 
-  pub put_one_more : (route : List ℕ) (i : ℕ) → i < n → {now later l : List ℕ} → l ≡ leg_in b (get_or places i 0) → later ≡ sets now (LEG_BYTES * i) l
+  pub put_one_more : (route : List ℕ) (i : ℕ) → i < n → {now later l : List ℕ} → l ≡ leg_in b (get_or places i 0) → later ≡ sets now (leg_bytes * i) l
       → now ≡ sets route 0 (joined (take i (legs_at b places n))) → later ≡ sets route 0 (joined (take (i + 1) (legs_at b places n)))
   put_one_more route i h e f g =
       let done = joined (take i (legs_at b places n)) in
-      let k : LEG_BYTES * i ≡ 0 + length done = omega (arith, legs_length i (omega arith)) in
+      let k : leg_bytes * i ≡ 0 + length done = omega (arith, legs_length i (omega arith)) in
       f ∙ rw (e, g, k, one_leg_more b places n p.few i h) (sets_append route 0 done (leg_in b (get_or places i 0)))
 
   pub all_put : (route : List ℕ) (i : ℕ) → n ≤ i → sets route 0 (joined (take i (legs_at b places n))) ≡ sets route 0 (joined (legs_at b places n))
   all_put route i h = ap (λ (ls : List (List ℕ)). sets route 0 (joined ls)) (take_all i (legs_at b places n) (omega (arith, how_many b places n p.few)))
 
-  pub legs_length_all : length (joined (legs_at b places n)) ≡ LEG_BYTES * n
+  pub legs_length_all : length (joined (legs_at b places n)) ≡ leg_bytes * n
   legs_length_all = ap (λ (ls : List (List ℕ)). length (joined ls)) (sym (take_all n (legs_at b places n) (omega (arith, how_many b places n p.few)))) ∙ legs_length n (omega arith)

@@ -2,8 +2,8 @@
 use Rattle.laws.proofs.Prelude.{◌≡◌, refl, sym, ap, subst, ◌∙◌, List, [], ◌∷◌, ◌++◌, map-append, append-nil, ℕ, ◌+◌, ◌-◌, ◌*◌, ◌≤◌, ◌<◌, add-zero, arith, length, take, drop, length-append, length-map}
 use Rattle.laws.proofs.Prelude.{sets, slice, length-slice}
 use Rattle.words.proofs.Written.{sets_append}
-use Rattle.image.specs.Layout.{LEG_BYTES}
-use Rattle.route.specs.Form.{MOST_LEGS}
+use Rattle.image.specs.Layout.{leg_bytes}
+use Rattle.route.specs.Form.{most_legs}
 use Rattle.pattern.specs.declared.{form.Head.{Head, TheVariants.{Neither, Leg, Repeat}}, walk.Walked.{Walked, TheVariants.{Broken, Past}}}
 use Rattle.pattern.specs.{Tree.{Pattern, nothing, leg, repeat, times, flown_legs}, Read.{Read, broken, is, head_of, size_of, repeated, item_of, append, before, read, inside_of, item_within}}
 use Rattle.pattern.specs.Walk.{leg_in, capped, Found, walked_to, Walk, OneMore, Rounds}
@@ -47,11 +47,11 @@ pub told : {b : List ℕ} {r : Read} {next n : ℕ} {old new : List ℕ} {x y : 
 told e w = record { counted = sym e ∙ w.counted; found = w.found }
 
 walk_is : (p : Pattern) {b : List ℕ} {r : Read} {next n : ℕ} {old new : List ℕ} {answer : Walked} → r ≡ is p → answer ≡ Past next (capped (n + length (flown_legs p)))
-    → (n + length (flown_legs p) ≤ MOST_LEGS → Found b (flown_legs p) n old new) → Walk b r next n old answer new
+    → (n + length (flown_legs p) ≤ most_legs → Found b (flown_legs p) n old new) → Walk b r next n old answer new
 unfolding walked_to
 walk_is p {b} {r} {next} {n} {old} {new} e c f = record {
   counted = c ∙ sym (ap (walked_to next n) e);
-  found = λ q g. subst (λ (x : Pattern). n + length (flown_legs x) ≤ MOST_LEGS → Found b (flown_legs x) n old new) (same_tree p q (sym e ∙ g)) f;
+  found = λ q g. subst (λ (x : Pattern). n + length (flown_legs x) ≤ most_legs → Found b (flown_legs x) n old new) (same_tree p q (sym e ∙ g)) f;
 }
 
 -- ---- one item
@@ -59,14 +59,14 @@ walk_is p {b} {r} {next} {n} {old} {new} e c f = record {
 -- what the walk of the item at `at` is given: bytes up to `end`, room for 32 places, and how many legs stand before it
 pub record Item (b : List ℕ) (at end depth n : ℕ) (old : List ℕ) : Type 0 where
   pub within : end ≤ length b
-  pub size : length old ≡ MOST_LEGS
+  pub size : length old ≡ most_legs
   pub few : n ≤ 33
 
 module _ {b : List ℕ} {at end depth n : ℕ} {old : List ℕ} (given : Item b at end depth n old) where
   room_there : {x : Head} → x ≡ head_of (slice at end b) → Room (length (slice at end b)) x
   room_there e = subst (Room (length (slice at end b))) (sym e) (head_room (slice at end b))
 
-  pub leg_fits : Leg ≡ head_of (slice at end b) → at + 1 + LEG_BYTES ≤ end
+  pub leg_fits : Leg ≡ head_of (slice at end b) → at + 1 + leg_bytes ≤ end
   leg_fits e = omega (arith, room_there e, length-slice at end b given.within)
 
   pub repeat_fits : {rounds len : ℕ} → Repeat rounds len ≡ head_of (slice at end b) → (1 ≤ rounds) × (rounds ≤ 9) × (at + 4 + len ≤ end)
@@ -80,10 +80,10 @@ module _ {b : List ℕ} {at end depth n : ℕ} {old : List ℕ} (given : Item b 
       → Walk b (item_within depth (slice at end b)) (at + size_of (head_of (slice at end b))) n old (Past (at + 77) m) new
   unfolding item_of size_of flown_legs
   leg_done {m} {new} e o =
-      let l = take LEG_BYTES (drop 1 (slice at end b)) in
+      let l = take leg_bytes (drop 1 (slice at end b)) in
       let next : at + 77 ≡ at + size_of (head_of (slice at end b)) = ap (λ (x : Head). at + size_of x) e in
       walk_is (leg l nothing) (ap (item_of (inside_of depth) (slice at end b)) (sym e)) (rw (← next, o.counted))
-      (λ f. record { places = (at + 1) ∷ []; legs = ap (λ (x : List ℕ). x ∷ []) (sym (part_of_whole b at end 1 LEG_BYTES (leg_fits e))); put = o.put (omega arith) })
+      (λ f. record { places = (at + 1) ∷ []; legs = ap (λ (x : List ℕ). x ∷ []) (sym (part_of_whole b at end 1 leg_bytes (leg_fits e))); put = o.put (omega arith) })
 
   module _ {rounds len : ℕ} (e : Repeat rounds len ≡ head_of (slice at end b)) where
     repeat_is : item_within depth (slice at end b) ≡ repeated rounds (inside_of depth (take len (drop 4 (slice at end b))))
@@ -125,7 +125,7 @@ module _ {b : List ℕ} {at end depth n : ℕ} {old : List ℕ} (given : Item b 
           let same : length g.places ≡ length ls = sym (length-map g.places (leg_in b)) ∙ ap length g.legs in
           let last : m ≡ n + length g.places = c.count ∙ capped_below (n + length ls) (omega (arith, f, many, least)) ∙ ap (λ (k : ℕ). n + k) (sym same) in
           let legs : m - n ≡ length ls = omega (arith, last, same) in
-          let put = o.put (subst (λ (k : ℕ). n + rounds * k ≤ MOST_LEGS) (sym legs) (omega (arith, f, many))) in
+          let put = o.put (subst (λ (k : ℕ). n + rounds * k ≤ most_legs) (sym legs) (omega (arith, f, many))) in
           let body : slice n m mid ≡ g.places =
           ap (λ (k : ℕ). slice n k mid) last ∙ ap (slice n (n + length g.places)) g.put
           ∙ run_slice old n g.places (omega (arith, same, f, many, least, given.size)) in
@@ -145,7 +145,7 @@ pub record Going (b : List ℕ) (whole rest : Read) (count : ℕ) (old : List �
   pub done : Pattern
   pub split : whole ≡ before (is done) rest
   pub counted : n ≡ capped (count + length (flown_legs done))
-  pub found : count + length (flown_legs done) ≤ MOST_LEGS → Found b (flown_legs done) count old new
+  pub found : count + length (flown_legs done) ≤ most_legs → Found b (flown_legs done) count old new
 
 pub going_few : {b : List ℕ} {whole rest : Read} {count n : ℕ} {old new : List ℕ} → Going b whole rest count old n new → n ≤ 33
 going_few {count = count} g = omega (arith, g.counted, capped_at_most (count + length (flown_legs g.done)))

@@ -1,7 +1,7 @@
 -- Every leg that is read has a leg's bytes. Assumes nothing.
 use Rattle.laws.proofs.Prelude.{◌≡◌, sym, ap, subst, inl, inr, List, [], ◌∷◌, ◌++◌, map, append-nil, ℕ, zero, suc, ◌+◌, ◌≤◌, ◌<◌, le_of_suc-le-suc, arith, eqb, length, get_or, take, drop, length-drop}
 use Rattle.laws.proofs.Prelude.{length-take-le, take_all, le_or_lt}
-use Rattle.image.specs.Layout.{LEG_BYTES}
+use Rattle.image.specs.Layout.{leg_bytes}
 use Rattle.outcome.proofs.Tables.{by_test_lem}
 use Rattle.pattern.specs.{declared.form.Head.{Head, TheVariants.{Neither, Leg, Repeat}}, Tree.{times, flown_legs}}
 use Rattle.pattern.specs.{Read.{Read, broken, is, head_of, size_of, repeated, item_of, before, items_of, read}, Walk.leg_in}
@@ -9,7 +9,7 @@ use Rattle.pattern.proofs.{Heads.{Room, head_room}, Trees.flown_append}
 
 abbrev pub AllLong : List (List ℕ) → Type 0
 AllLong [] = Unit
-AllLong (l ∷ ls) = (length l ≡ LEG_BYTES) × AllLong ls
+AllLong (l ∷ ls) = (length l ≡ leg_bytes) × AllLong ls
 
 pub long_append : (ls ms : List (List ℕ)) → AllLong ls → AllLong ms → AllLong (ls ++ ms)
 long_append [] ms a b = b
@@ -39,7 +39,7 @@ module _ (inside : List ℕ → Read) (f : (b : List ℕ) → Long (inside b)) w
   long_item : (b : List ℕ) (h : Head) → Room (length b) h → Long (item_of inside b h)
   unfolding item_of flown_legs
   long_item b Neither r = tt
-  long_item b Leg r = (length-take-le LEG_BYTES (drop 1 b) (omega (arith, r, length-drop 1 b)), tt)
+  long_item b Leg r = (length-take-le leg_bytes (drop 1 b) (omega (arith, r, length-drop 1 b)), tt)
   long_item b (Repeat n len) r = long_repeated n (inside (take len (drop 4 b))) (f (take len (drop 4 b)))
 
   long_items : (n : ℕ) (b : List ℕ) → Long (items_of inside n b)
@@ -56,13 +56,13 @@ long_read zero b = long_items (λ _. broken) (λ _. tt) (length b) b
 long_read (suc depth) b = long_items (read depth) (long_read depth) (length b) b
 
 -- so each stands within the bytes
-within : (b : List ℕ) (place : ℕ) → length (leg_in b place) ≡ LEG_BYTES → place + LEG_BYTES ≤ length b
-within b place e = elim (le_or_lt LEG_BYTES (length (drop place b))) [
+within : (b : List ℕ) (place : ℕ) → length (leg_in b place) ≡ leg_bytes → place + leg_bytes ≤ length b
+within b place e = elim (le_or_lt leg_bytes (length (drop place b))) [
   | inl h ↦ omega (arith, length-drop place b)
-  | inr h ↦ let f = ap length (take_all LEG_BYTES (drop place b) (omega arith)) in omega (arith, f, length-drop place b)
+  | inr h ↦ let f = ap length (take_all leg_bytes (drop place b) (omega arith)) in omega (arith, f, length-drop place b)
 ]
 
-pub long_places : (b places : List ℕ) → AllLong (map (leg_in b) places) → (i : ℕ) → i < length places → get_or places i 0 + LEG_BYTES ≤ length b
+pub long_places : (b places : List ℕ) → AllLong (map (leg_in b) places) → (i : ℕ) → i < length places → get_or places i 0 + leg_bytes ≤ length b
 long_places b [] a i h = absurd (omega arith)
 long_places b (p ∷ ps) a zero h = within b p a.0
 long_places b (p ∷ ps) a (suc i) h = long_places b ps a.1 i (le_of_suc-le-suc h)

@@ -2,14 +2,14 @@
 use Rattle.laws.proofs.Prelude.{◌≡◌, refl, sym, ap, subst, ◌∙◌, inl, inr, List, [], ◌∷◌, ◌++◌, ℕ, zero, suc, ◌+◌, ◌-◌, ◌*◌, ◌/◌, ◌%◌, ◌≤◌, ◌<◌, arith, le-ltb, ne_eqb, length, get_or, take, drop}
 use Rattle.laws.proofs.Prelude.{length-append, length-drop, take-append-drop, take_at, drop_at, get_or-take, get_or-drop, length-take-le, le_or_lt}
 use lib.{ListN.get_or-eq_default, Seq.{drop-cons, drop-drop}}
-use Rattle.image.specs.Layout.{LEG_BYTES}
+use Rattle.image.specs.Layout.{leg_bytes}
 use Rattle.pattern.specs.{declared.form.Head.{Head, TheVariants.{Neither, Leg, Repeat}}, Tree.{Pattern, nothing, leg, repeat, pattern_bytes, WithinLimits}}
 use Rattle.pattern.specs.Read.{Read, broken, is, head_of, size_of, repeated, item_of, append, before, items_of, read, inside_of, item_within}
 use Rattle.pattern.proofs.{Heads.{a_leg, a_repeat, Room, head_room, Tags, head_tags, size_some}, Trees.{read_none, read_here, items_none, items_here}}
 
 -- ---- what was written is read: for every pattern at most so deep that has bytes
 
-module _ (depth : ℕ) (l : List ℕ) (more : Pattern) (long : length l ≡ LEG_BYTES) where
+module _ (depth : ℕ) (l : List ℕ) (more : Pattern) (long : length l ≡ leg_bytes) where
   leg_starts : Leg ≡ head_of (pattern_bytes (leg l more))
   unfolding pattern_bytes
   leg_starts = a_leg (pattern_bytes (leg l more)) refl refl refl (le-ltb (length (pattern_bytes (leg l more))) 77 (omega (arith, length-append l (pattern_bytes more))))
@@ -19,9 +19,9 @@ module _ (depth : ℕ) (l : List ℕ) (more : Pattern) (long : length l ≡ LEG_
   leg_back r =
       let s = pattern_bytes (leg l more) in
       let item : item_within depth s ≡ is (leg l nothing) =
-      ap (item_of (inside_of depth) s) (sym leg_starts) ∙ ap (λ (x : List ℕ). is (leg x nothing)) (take_at l (pattern_bytes more) LEG_BYTES long) in
+      ap (item_of (inside_of depth) s) (sym leg_starts) ∙ ap (λ (x : List ℕ). is (leg x nothing)) (take_at l (pattern_bytes more) leg_bytes long) in
       let after : drop (size_of (head_of s)) s ≡ pattern_bytes more =
-      ap (λ (h : Head). drop (size_of h) s) (sym leg_starts) ∙ drop_at (0 ∷ l) (pattern_bytes more) (1 + LEG_BYTES) (omega (arith, long)) in
+      ap (λ (h : Head). drop (size_of h) s) (sym leg_starts) ∙ drop_at (0 ∷ l) (pattern_bytes more) (1 + leg_bytes) (omega (arith, long)) in
       read_here depth s (omega (arith, length-append l (pattern_bytes more))) ∙ rw (item, after, r)
 
 module _ (depth n : ℕ) (inner more : Pattern) (some : 1 ≤ n) (few : n ≤ 9) where
@@ -130,16 +130,16 @@ unfolding pattern_bytes WithinLimits
 none_right depth [] p h e = let f : p ≡ nothing = cc in rw f record { bytes = refl; fits = tt }
 none_right depth (x ∷ b) p h e = absurd (omega arith)
 
-leg_right : (depth : ℕ) (b : List ℕ) (more : Pattern) → 77 ≤ length b → get_or b 0 0 ≡ 0 → Written depth (drop (1 + LEG_BYTES) b) more
-    → Written depth b (append (leg (take LEG_BYTES (drop 1 b)) nothing) more)
+leg_right : (depth : ℕ) (b : List ℕ) (more : Pattern) → 77 ≤ length b → get_or b 0 0 ≡ 0 → Written depth (drop (1 + leg_bytes) b) more
+    → Written depth b (append (leg (take leg_bytes (drop 1 b)) nothing) more)
 unfolding append pattern_bytes WithinLimits
 leg_right depth b more r t w =
-    let l = take LEG_BYTES (drop 1 b) in
+    let l = take leg_bytes (drop 1 b) in
     record {
       bytes =
-          ap (λ (x : List ℕ). 0 ∷ l ++ x) (w.bytes ∙ sym (drop-drop LEG_BYTES 1 b)) ∙ ap (λ (x : List ℕ). 0 ∷ x) (take-append-drop LEG_BYTES (drop 1 b))
+          ap (λ (x : List ℕ). 0 ∷ l ++ x) (w.bytes ∙ sym (drop-drop leg_bytes 1 b)) ∙ ap (λ (x : List ℕ). 0 ∷ x) (take-append-drop leg_bytes (drop 1 b))
           ∙ ap (λ (x : ℕ). x ∷ drop 1 b) (sym t) ∙ sym (drop-cons b 0 0 (omega arith));
-      fits = (length-take-le LEG_BYTES (drop 1 b) (omega (arith, length-drop 1 b)), w.fits);
+      fits = (length-take-le leg_bytes (drop 1 b) (omega (arith, length-drop 1 b)), w.fits);
     }
 
 repeat_right : (depth : ℕ) (b : List ℕ) (n len : ℕ) (inner more : Pattern) → Bytes b → Room (length b) (Repeat n len) → Tags b (Repeat n len)
@@ -170,7 +170,7 @@ module _ (depth : ℕ) (inside : List ℕ → Read) (right : (c : List ℕ) (q :
       → Written depth (drop (size_of h) b) second → Written depth b (append first second)
   unfolding item_of size_of
   item_right b Neither first second y r t e w = let z : ◌≡◌ {A = ℕ} 0 1 = cc in absurd (omega arith)
-  item_right b Leg first second y r t e w = let f : first ≡ leg (take LEG_BYTES (drop 1 b)) nothing = cc in rw f (leg_right depth b second r t w)
+  item_right b Leg first second y r t e w = let f : first ≡ leg (take leg_bytes (drop 1 b)) nothing = cc in rw f (leg_right depth b second r t w)
   item_right b (Repeat n len) first second y r t e w =
       let g = body n (inside (take len (drop 4 b))) first e in
       let i = right (take len (drop 4 b)) g.inner (bytes_take (drop 4 b) len (bytes_drop b 4 y)) g.inner_is in

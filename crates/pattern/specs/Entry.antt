@@ -2,12 +2,12 @@
 use Rattle.std.specs.Prelude.{ℕ, ◌+◌, ◌*◌, Bool, true, false, not, ◌&&◌, List, [], ◌∷◌, ◌++◌, eqb, ltb, length}
 use Rattle.std.proofs.lemmas.List.Edits.{sets}
 use Rattle.words.specs.Words.{bytes_of}
-use Rattle.image.specs.Layout.{LEG_BYTES}
+use Rattle.image.specs.Layout.{leg_bytes}
 use Rattle.image.specs.Parts.{leg_at}
 use Rattle.outcome.specs.declared.Outcome.{Outcome}
 use Rattle.outcome.specs.declared.Outcome.TheVariants.{InputLength, BadPattern, LegCount, NoRoom, LegsApart}
 use Rattle.outcome.specs.Outcomes.{Table, first_of, differs, Left, left_unless}
-use Rattle.route.specs.Form.{ROUTE_TRAILER_BYTES, MOST_LEGS, legs_meet}
+use Rattle.route.specs.Form.{route_trailer_bytes, most_legs, legs_meet}
 use Rattle.pattern.specs.Tree.{flown_legs}
 use Rattle.pattern.specs.Read.{Read, broken, is, read}
 
@@ -22,11 +22,11 @@ joined [] = []
 joined (l ∷ ls) = l ++ joined ls
 
 abbrev pub route_length : ℕ → ℕ
-route_length n = LEG_BYTES * n + ROUTE_TRAILER_BYTES
+route_length n = leg_bytes * n + route_trailer_bytes
 
 unfoldable pub route_of : List (List ℕ) → List ℕ
 unfolding joined
-route_of ls = joined ls ++ bytes_of (length ls ∷ LEG_BYTES * length ls ∷ [])
+route_of ls = joined ls ++ bytes_of (length ls ∷ leg_bytes * length ls ∷ [])
 
 -- "the legs must meet across repeats": each leg and the one that is flown after it
 unfoldable pub flown_meet : List (List ℕ) → Bool
@@ -58,7 +58,7 @@ expand_table b routeLen writtenLen =
     (differs writtenLen 4, InputLength)
     ∷ (is_broken (read DEEPEST b), BadPattern)
     ∷ (eqb (length (legs_of b)) 0, LegCount)
-    ∷ (ltb MOST_LEGS (length (legs_of b)), LegCount)
+    ∷ (ltb most_legs (length (legs_of b)), LegCount)
     ∷ route_table (legs_of b) routeLen
 
 unfoldable pub expand_refusal : List ℕ → ℕ → ℕ → Outcome

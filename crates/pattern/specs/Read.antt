@@ -1,6 +1,6 @@
 -- What the bytes of a pattern hold: they are broken, or they are a pattern. Definitions only.
 use Rattle.std.specs.Prelude.{ℕ, zero, suc, ◌+◌, ◌-◌, ◌*◌, cond, List, eqb, ltb, length, get_or, take, drop}
-use Rattle.image.specs.Layout.{LEG_BYTES}
+use Rattle.image.specs.Layout.{leg_bytes}
 use Rattle.pattern.specs.declared.form.Head.{Head}
 use Rattle.pattern.specs.declared.form.Head.TheVariants.{Neither, Leg, Repeat}
 use Rattle.pattern.specs.Tree.{Pattern, nothing, leg, repeat}
@@ -17,7 +17,7 @@ inner_length b = get_or b 2 0 + 256 * get_or b 3 0
 -- what the bytes start with: a leg, a repeat with its count and the length of its inner bytes, or neither
 unfoldable pub head_of : List ℕ → Head
 head_of b =
-    cond (eqb (get_or b 0 0) 0) (cond (ltb (length b) (1 + LEG_BYTES)) Neither Leg)
+    cond (eqb (get_or b 0 0) 0) (cond (ltb (length b) (1 + leg_bytes)) Neither Leg)
     (cond (eqb (get_or b 0 0) 1)
     (cond (ltb (length b) 4) Neither
     (cond (eqb (get_or b 1 0) 0) Neither
@@ -29,7 +29,7 @@ head_of b =
 -- how many bytes an item takes
 unfoldable pub size_of : Head → ℕ
 size_of Neither = 1
-size_of Leg = 1 + LEG_BYTES
+size_of Leg = 1 + leg_bytes
 size_of (Repeat n len) = 4 + len
 
 unfoldable pub repeated : ℕ → Read → Read
@@ -40,7 +40,7 @@ repeated n (is p) = is (repeat n p nothing)
 unfoldable pub item_of : (List ℕ → Read) → List ℕ → Head → Read
 unfolding repeated
 item_of inside b Neither = broken
-item_of inside b Leg = is (leg (take LEG_BYTES (drop 1 b)) nothing)
+item_of inside b Leg = is (leg (take leg_bytes (drop 1 b)) nothing)
 item_of inside b (Repeat n len) = repeated n (inside (take len (drop 4 b)))
 
 -- one pattern's items, and then the other's

@@ -1,6 +1,6 @@
 -- A pattern (request Fourteen of document 02), its bytes, and its legs in flown order. Definitions only.
 use Rattle.std.specs.Prelude.{ℕ, zero, suc, ◌/◌, ◌%◌, ◌≤◌, ◌≡◌, List, [], ◌∷◌, ◌++◌, length}
-use Rattle.image.specs.Layout.{LEG_BYTES}
+use Rattle.image.specs.Layout.{leg_bytes}
 
 -- "A pattern is a list of items, perhaps empty; an item is a leg or a repeat of 1 to 9 that holds a pattern": nothing, or an item and the items after
 -- it. A leg is its bytes.
@@ -31,6 +31,6 @@ flown_legs (repeat n inner more) = times n (flown_legs inner) ++ flown_legs more
 unfoldable pub WithinLimits : ℕ → Pattern → Type 0
 unfolding pattern_bytes
 WithinLimits depth nothing = Unit
-WithinLimits depth (leg l more) = (length l ≡ LEG_BYTES) × WithinLimits depth more
+WithinLimits depth (leg l more) = (length l ≡ leg_bytes) × WithinLimits depth more
 WithinLimits zero (repeat n inner more) = ⊥
 WithinLimits (suc depth) (repeat n inner more) = (1 ≤ n) × (n ≤ 9) × (length (pattern_bytes inner) ≤ 65535) × WithinLimits depth inner × WithinLimits (suc depth) more

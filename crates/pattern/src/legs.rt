@@ -3,8 +3,8 @@ ghost use Rattle.std.specs.Prelude.{◌≡◌, map, ◌∷◌, [], ◌+◌, ◌*
 ghost use Rattle.std.proofs.lemmas.List.Edits.{sets};
 ghost use Rattle.words.specs.Words.{Put};
 ghost use Rattle.outcome.specs.Outcomes.{left};
-ghost use Rattle.image.specs.Layout.{LEG_BYTES};
-ghost use Rattle.route.specs.Form.{ROUTE_TRAILER_BYTES, MOST_LEGS};
+ghost use Rattle.image.specs.Layout.{leg_bytes};
+ghost use Rattle.route.specs.Form.{route_trailer_bytes, most_legs};
 ghost use Rattle.pattern.specs.Walk.{leg_in, Places};
 ghost use Rattle.pattern.specs.Entry.{flown_meet, joined, buffers, expanded_call};
 
@@ -15,7 +15,7 @@ use words::{put_bytes, put_word};
 
 // A part of the pattern: the bytes of a leg.
 fn leg_in(b: &[u8], place: usize) -> &[u8]
-    requires { place + LEG_BYTES ≤ length b.now }
+    requires { place + leg_bytes ≤ length b.now }
     ensures { result.now ≡ leg_in b.now place }
 {
     let end = place + LEG_BYTES;
@@ -41,7 +41,7 @@ fn all_meet(b: &[u8], places: &[usize], count: usize) -> bool
 
 fn put_legs(b: &[u8], places: &[usize], count: usize, route: &mut [u8])
     requires places { Places b.now places.now count }
-    requires count_in_bounds { LEG_BYTES * count ≤ length route.old }
+    requires count_in_bounds { leg_bytes * count ≤ length route.old }
     ensures { route.new ≡ sets route.old 0 (joined (map (leg_in b.now) (take count places.now))) }
 {
     let mut i = 0;
@@ -53,8 +53,8 @@ fn put_legs(b: &[u8], places: &[usize], count: usize, route: &mut [u8])
 
 // The count, and how many bytes back the first leg starts.
 fn put_trailer(route: &mut [u8], count: usize)
-    requires { (LEG_BYTES * count + ROUTE_TRAILER_BYTES ≤ length route.old) × (count ≤ MOST_LEGS) }
-    ensures { Put route.old (19 * count) (count ∷ LEG_BYTES * count ∷ []) route.new }
+    requires { (leg_bytes * count + route_trailer_bytes ≤ length route.old) × (count ≤ most_legs) }
+    ensures { Put route.old (19 * count) (count ∷ leg_bytes * count ∷ []) route.new }
 {
     let k = LEG_WORDS * count;
     put_word(route, k, count as u32);
@@ -70,7 +70,7 @@ pub(crate) fn put_route(
     written: &mut [u8],
 ) -> Outcome
     requires places { Places b.now places.now count }
-    requires count_bound { (count ≤ MOST_LEGS) × (length written.old ≡ 4) }
+    requires count_bound { (count ≤ most_legs) × (length written.old ≡ 4) }
     ensures { left result (buffers route.new written.new) ≡ expanded_call (map (leg_in b.now) (take count places.now)) route.old written.old }
 {
     let length = LEG_BYTES * count + TRAILER_BYTES;

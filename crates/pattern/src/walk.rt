@@ -2,7 +2,7 @@
 // depth alone. It finds where the legs stand and writes nothing else: a pattern may be refused after its last leg was seen.
 ghost use Rattle.std.specs.Prelude.{◌≡◌, ◌+◌, ◌≤◌, ◌<◌, length};
 ghost use Rattle.std.proofs.Math.Seq.{slice};
-ghost use Rattle.route.specs.Form.{MOST_LEGS};
+ghost use Rattle.route.specs.Form.{most_legs};
 ghost use Rattle.pattern.specs.Read.{head_of, size_of, read, item_within};
 ghost use Rattle.pattern.specs.Walk.{capped, Walk, OneMore, Rounds};
 
@@ -23,7 +23,7 @@ fn at_most_33(n: usize) -> usize
 }
 
 fn put_place(places: &mut [usize], count: usize, place: usize) -> usize
-    requires { (length places.old ≡ MOST_LEGS) × (count ≤ 33) }
+    requires { (length places.old ≡ most_legs) × (count ≤ 33) }
     ensures { OneMore count place places.old result places.new }
 {
     if count < MOST_LEGS {
@@ -35,7 +35,7 @@ fn put_place(places: &mut [usize], count: usize, place: usize) -> usize
 
 // A repeat's legs stand at the numbers `from` up to `to`, flown once: they are copied for the other rounds, so that no body is walked twice.
 fn put_rounds(places: &mut [usize], from: usize, to: usize, times: usize) -> usize
-    requires { (length places.old ≡ MOST_LEGS) × (from ≤ to) × (to ≤ 33) × (1 ≤ times) × (times ≤ 9) }
+    requires { (length places.old ≡ most_legs) × (from ≤ to) × (to ≤ 33) × (1 ≤ times) × (times ≤ 9) }
     ensures { Rounds times from to places.old result places.new }
 {
     let legs = to - from;
@@ -61,7 +61,7 @@ pub(crate) fn expand(
     places: &mut [usize],
     count: usize,
 ) -> Walked
-    requires { (from ≤ end) × (end ≤ length b.now) × (length places.old ≡ MOST_LEGS) × (count ≤ 33) }
+    requires { (from ≤ end) × (end ≤ length b.now) × (length places.old ≡ most_legs) × (count ≤ 33) }
     ensures { Walk b.now (read depth (slice from end b.now)) end count places.old result places.new }
 {
     let mut at = from;
@@ -89,7 +89,7 @@ fn expand_item(
     places: &mut [usize],
     count: usize,
 ) -> Walked
-    requires { (at < end) × (end ≤ length b.now) × (length places.old ≡ MOST_LEGS) × (count ≤ 33) }
+    requires { (at < end) × (end ≤ length b.now) × (length places.old ≡ most_legs) × (count ≤ 33) }
     ensures { Walk b.now (item_within depth (slice at end b.now)) (at + size_of (head_of (slice at end b.now))) count places.old result places.new }
 {
     let head = head_at(b, at, end);

@@ -1,9 +1,9 @@
 // relay_geo.
 ghost use Rattle.std.specs.Prelude.{◌≡◌};
-ghost use Rattle.relay_geo.specs.Vectors.{GRAVITY_NED, cross, dot, norm, normalize, identity3, transpose3, matmul3, vee, sanitise3};
+ghost use Rattle.relay_geo.specs.Vectors.{gravity_ned, cross, dot, norm, normalize, identity3, transpose3, matmul3, vee, sanitise3};
 ghost use Rattle.relay_geo.specs.Attitude.{quat_to_rotmat, desired_attitude, thrust_axis_ned, thrust_attitude, flatness_omega_ff};
 ghost use Rattle.relay_geo.specs.Inner.{thrust_of, feedforward_on};
-ghost use Rattle.relay_geo.specs.Controller.{FALCON_QUAD, psi, attitude_error, attitude_error_reduced, moment_reduced, moment, desired_rate, tick};
+ghost use Rattle.relay_geo.specs.Controller.{falcon_quad_gains, psi, attitude_error, attitude_error_reduced, moment_reduced, moment, desired_rate, tick};
 ghost use Rattle.relay_geo.specs.Set.{new_set, margin, recoverable};
 ghost use Rattle.relay_geo.specs.Shield.{new_shield, step, filter};
 ghost use Rattle.probe.specs.Answers.{axis_answer, attitude_answer, rate_answer};
@@ -90,7 +90,7 @@ fn rate_answer(f: Feedforward) -> RateAnswer
 
 #[unsafe(no_mangle)]
 pub extern "C" fn probe_gravity_ned() -> Vec3
-    ensures { result ≡ GRAVITY_NED }
+    ensures { result ≡ gravity_ned }
 {
     relay_geo::GRAVITY_NED
 }
@@ -222,7 +222,7 @@ pub extern "C" fn probe_feedforward_from(
 
 #[unsafe(no_mangle)]
 pub extern "C" fn probe_geogains_falcon_quad() -> GeoGains
-    ensures { result ≡ FALCON_QUAD }
+    ensures { result ≡ falcon_quad_gains }
 {
     GeoGains::falcon_quad()
 }

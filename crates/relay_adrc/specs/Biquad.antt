@@ -12,8 +12,8 @@ use Rattle.relay_adrc.specs.declared.biquad.GyroFiltered.{GyroFiltered}
 abbrev pub PI : Float
 PI = f32 0x4049_0fdb
 
-abbrev pub FRAC_1_SQRT_2 : Float
-FRAC_1_SQRT_2 = f32 0x3f35_04f3
+abbrev pub frac_1_sqrt_2 : Float
+frac_1_sqrt_2 = f32 0x3f35_04f3
 
 abbrev pub passes_through : Float → Float → Bool
 passes_through fc fs = not (lt 0·0 fc) || not (lt 0·0 fs) || le (0·5 ⊗ fs) fc
@@ -27,7 +27,7 @@ unfoldable pub lowpass_at : Float → Biquad
 lowpass_at w0 =
     let sw = sinf w0 in
     let cw = cosf w0 in
-    let q = FRAC_1_SQRT_2 in
+    let q = frac_1_sqrt_2 in
     let alpha = sw ⊘ (2·0 ⊗ q) in
     let a0 = 1·0 ⊕ alpha in
     record {

@@ -2,7 +2,7 @@
 use Rattle.laws.proofs.Prelude.{◌≡◌, refl, false, not, T, pos, Float, fin, of_bits, sub}
 use Rattle.relay_math.{specs.{declared.{Vec3.Vec3, BodyRate.BodyRate}, F32.{0·0, is_finite}, Exact.in_range}, proofs.FiniteOr.sin_cos_far}
 use Rattle.relay_geo.specs.declared.{vectors.{Quat.Quat, Direction.Direction}, attitude.Attitude.TheVariants.Refused, controller.GeoGains.GeoGains}
-use Rattle.relay_geo.specs.{Vectors.{GRAVITY_NED, normalize, sanitise3}, Attitude.{heading, attitude_of, desired_attitude, along_axis, thrust_force, thrust_axis_ned, thrust_attitude}}
+use Rattle.relay_geo.specs.{Vectors.{gravity_ned, normalize, sanitise3}, Attitude.{heading, attitude_of, desired_attitude, along_axis, thrust_force, thrust_axis_ned, thrust_attitude}}
 use Rattle.relay_geo.specs.Controller.{against, desired_rate, tick}
 use Rattle.relay_geo.proofs.Blank.{none, cross_blank, blank_refused}
 use Rattle.relay_geo.specs.declared.vectors.Direction.TheVariants as direction
@@ -19,17 +19,17 @@ unfolding tick
 no_attitude_tick g q w a yaw n = rw n
 
 -- "Acceleration [0,0,9.81]: damping only."
-free_fall : thrust_axis_ned GRAVITY_NED ≡ direction.Refused
+free_fall : thrust_axis_ned gravity_ned ≡ direction.Refused
 unfolding thrust_axis_ned thrust_force of_bits sub
-free_fall = blank_refused (thrust_force GRAVITY_NED) record { x = none false (pos 0); y = none false (pos 0); z = none false (pos 0) }
+free_fall = blank_refused (thrust_force gravity_ned) record { x = none false (pos 0); y = none false (pos 0); z = none false (pos 0) }
 
-clean : sanitise3 GRAVITY_NED ≡ GRAVITY_NED
+clean : sanitise3 gravity_ned ≡ gravity_ned
 unfolding is_finite of_bits
 clean = refl
 
-pub free_fall_damps : (g : GeoGains) (q : Quat) (w : BodyRate) (yaw : Float) → tick g q w GRAVITY_NED yaw ≡ record { 0 = sanitise3 (against g.k_omega (sanitise3 w.0)) }
+pub free_fall_damps : (g : GeoGains) (q : Quat) (w : BodyRate) (yaw : Float) → tick g q w gravity_ned yaw ≡ record { 0 = sanitise3 (against g.k_omega (sanitise3 w.0)) }
 unfolding thrust_attitude
-free_fall_damps g q w yaw = no_attitude_tick g q w GRAVITY_NED yaw (rw (clean, free_fall))
+free_fall_damps g q w yaw = no_attitude_tick g q w gravity_ned yaw (rw (clean, free_fall))
 
 -- "A non-finite yaw makes the heading vector zero, so `desired_attitude` refuses", and so does one beyond the limit.
 module _ (yaw : Float) (far : T (not (in_range yaw))) where

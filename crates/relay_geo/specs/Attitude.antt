@@ -13,7 +13,7 @@ use Rattle.relay_geo.specs.declared.attitude.Attitude.{Attitude}
 use Rattle.relay_geo.specs.declared.attitude.Attitude.TheVariants.{Matrix, Refused}
 use Rattle.relay_geo.specs.declared.attitude.Feedforward.{Feedforward}
 use Rattle.relay_geo.specs.declared.attitude.Feedforward.TheVariants as rate
-use Rattle.relay_geo.specs.Vectors.{GRAVITY_NED, cross, norm, over, normalize, sanitise3, transposed_times}
+use Rattle.relay_geo.specs.Vectors.{gravity_ned, cross, norm, over, normalize, sanitise3, transposed_times}
 
 unfoldable pub quat_to_rotmat : Quat → Mat3
 quat_to_rotmat q =
@@ -50,7 +50,7 @@ desired_attitude b3 yaw = attitude_of (normalize b3) yaw
 
 -- g - a
 unfoldable pub thrust_force : Vec3 → Vec3
-thrust_force a = (GRAVITY_NED.0 ⊖ a.0, GRAVITY_NED.1 ⊖ a.1, GRAVITY_NED.2 ⊖ a.2)
+thrust_force a = (gravity_ned.0 ⊖ a.0, gravity_ned.1 ⊖ a.1, gravity_ned.2 ⊖ a.2)
 
 unfoldable pub thrust_axis_ned : Vec3 → Direction
 thrust_axis_ned a = normalize (thrust_force a)

@@ -13,8 +13,8 @@ use Rattle.relay_geo.specs.declared.controller.GeoGains.{GeoGains}
 use Rattle.relay_geo.specs.Vectors.{cross, column0, column1, column2, prod3, transposed_times, sanitise3}
 use Rattle.relay_geo.specs.Attitude.{quat_to_rotmat, thrust_attitude}
 
-abbrev pub FALCON_QUAD : GeoGains
-FALCON_QUAD =
+abbrev pub falcon_quad_gains : GeoGains
+falcon_quad_gains =
     record {
       k_r = (f32 0x3f19_999a, f32 0x3f19_999a, f32 0x3e19_999a);
       k_omega = (f32 0x3df5_c28f, f32 0x3df5_c28f, f32 0x3eb3_3333);

@@ -13,8 +13,8 @@ abbrev pub 1e-9 : Float
 abbrev pub 9·81 : Float
 9·81 = f32 0x411c_f5c3
 
-abbrev pub GRAVITY_NED : Vec3
-GRAVITY_NED = (0·0, 0·0, 9·81)
+abbrev pub gravity_ned : Vec3
+gravity_ned = (0·0, 0·0, 9·81)
 
 unfoldable pub cross : Vec3 → Vec3 → Vec3
 cross a b = (a.1 ⊗ b.2 ⊖ a.2 ⊗ b.1, a.2 ⊗ b.0 ⊖ a.0 ⊗ b.2, a.0 ⊗ b.1 ⊖ a.1 ⊗ b.0)

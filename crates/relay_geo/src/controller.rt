@@ -1,6 +1,6 @@
 // The geometric attitude controller (Lee, Leok, McClamroch 2010), for a desired body rate of zero.
 ghost use Rattle.std.specs.Prelude.{◌≡◌};
-ghost use Rattle.relay_geo.specs.Controller.{FALCON_QUAD, psi, attitude_error, attitude_error_reduced, gyroscopic, against, opposed, moment_reduced, moment, rate_toward, torque_toward, desired_rate, tick};
+ghost use Rattle.relay_geo.specs.Controller.{falcon_quad_gains, psi, attitude_error, attitude_error_reduced, gyroscopic, against, opposed, moment_reduced, moment, rate_toward, torque_toward, desired_rate, tick};
 
 use super::attitude::{Attitude, quat_to_rotmat, thrust_attitude};
 use super::vectors::{Mat3, Quat, cross, sanitise3, transposed_times};
@@ -26,7 +26,7 @@ impl GeoGains {
 
     // `FALCON_QUAD`, with a promise that fixes the bits.
     pub fn falcon_quad() -> GeoGains
-        ensures { result ≡ FALCON_QUAD }
+        ensures { result ≡ falcon_quad_gains }
     {
         GeoGains::FALCON_QUAD
     }

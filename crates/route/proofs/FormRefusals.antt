@@ -1,9 +1,9 @@
 -- What a route tick is refused for, and what a route of the right form has. Assumes nothing.
 use Rattle.laws.proofs.Prelude.{◌≡◌, refl, sym, ap, ◌∙◌, Bool, true, false, not, cond, List, ℕ, ◌+◌, ◌*◌, ◌≤◌, ◌<◌, arith, ltb-false, eqb-false, eq-eqb, not-true, not-false, length}
 use Rattle.outcome.{specs.{declared.Outcome.{Outcome, TheVariants.{Done, BrokenImage}}, Outcomes.{is_done, left, lent}}, proofs.Tables.{done_none, in_turn, same, refused_keeps}}
-use Rattle.image.specs.Layout.{IMAGE_BYTES, LEG_BYTES, INPUT_BYTES, ANSWER_BYTES}
+use Rattle.image.specs.Layout.{image_bytes, leg_bytes, input_bytes, answer_bytes}
 use Rattle.lent_tick.specs.{Unbroken.unbroken, Tick.{tick_table, tick_refusal, tick_from}}
-use Rattle.route.specs.{Form.{MOST_LEGS, ROUTE_TRAILER_BYTES, leg_count, form_table, form_refusal}, Entry.{SAMPLE_BYTES, route_refusal, route_call, sample_refusal}}
+use Rattle.route.specs.{Form.{most_legs, route_trailer_bytes, leg_count, form_table, form_refusal}, Entry.{sample_byte_count, route_refusal, route_call, sample_refusal}}
 
 -- a tick's rows, then the route's own
 pub in_their_turn : (image : List ℕ) (inputLen answerLen : ℕ) (route : List ℕ)
@@ -19,18 +19,18 @@ unfolding route_call tick_from
 refused_changes_nothing image input route answer e = refused_keeps (route_refusal image (length input) (length answer) route) _ _ e
 
 -- a call of the right lengths whose image is broken
-pub broken : (image input route answer : List ℕ) {b : Bool} → length image ≡ IMAGE_BYTES → length input ≡ INPUT_BYTES → length answer ≡ ANSWER_BYTES → b ≡ unbroken image → b ≡ false
+pub broken : (image input route answer : List ℕ) {b : Bool} → length image ≡ image_bytes → length input ≡ input_bytes → length answer ≡ answer_bytes → b ≡ unbroken image → b ≡ false
     → left BrokenImage (lent image answer) ≡ route_call image input route answer
 unfolding route_call tick_from route_refusal
-broken image input route answer l i a e n = simp (← e, n, eq-eqb (length image) IMAGE_BYTES l, eq-eqb (length input) INPUT_BYTES i, eq-eqb (length answer) ANSWER_BYTES a)
+broken image input route answer l i a e n = simp (← e, n, eq-eqb (length image) image_bytes l, eq-eqb (length input) input_bytes i, eq-eqb (length answer) answer_bytes a)
 
 -- ---- by the route's form
 
 pub record Formed (route : List ℕ) : Type 0 where
-  pub trailer : ROUTE_TRAILER_BYTES ≤ length route
+  pub trailer : route_trailer_bytes ≤ length route
   pub some : 0 < leg_count route
-  pub few : leg_count route ≤ MOST_LEGS
-  pub whole : LEG_BYTES * leg_count route ≤ length route
+  pub few : leg_count route ≤ most_legs
+  pub whole : leg_bytes * leg_count route ≤ length route
 
 -- a function was asked for the form, and said f (t is whether f is done)
 module _ (route : List ℕ) {f : Outcome} {t : Bool} (e : f ≡ form_refusal route) (d : t ≡ is_done f) where
@@ -40,10 +40,10 @@ module _ (route : List ℕ) {f : Outcome} {t : Bool} (e : f ≡ form_refusal rou
       let r = done_none (form_table route) refl (ap is_done (sym e) ∙ sym d ∙ not-false t n) in
       let count = leg_count route in
       record {
-        trailer = ltb-false (length route) ROUTE_TRAILER_BYTES (r 0);
+        trailer = ltb-false (length route) route_trailer_bytes (r 0);
         some = pos count (eqb-false count 0 (r 1));
-        few = ltb-false MOST_LEGS count (r 2);
-        whole = omega (arith, same (length route) (LEG_BYTES * count + ROUTE_TRAILER_BYTES) (r 4));
+        few = ltb-false most_legs count (r 2);
+        whole = omega (arith, same (length route) (leg_bytes * count + route_trailer_bytes) (r 4));
       }
     where
       pos : (n : ℕ) → (n ≡ 0 → ⊥) → 0 < n
@@ -53,12 +53,12 @@ module _ (route : List ℕ) {f : Outcome} {t : Bool} (e : f ≡ form_refusal rou
   pub form_decides : (image : List ℕ) (inputLen answerLen : ℕ) → Done ≡ tick_refusal image inputLen answerLen → f ≡ route_refusal image inputLen answerLen route
   form_decides image inputLen answerLen h = e ∙ sym (in_their_turn image inputLen answerLen route ∙ rw (sym h))
 
-  pub formless : (image input answer : List ℕ) → Done ≡ tick_refusal image (length input) (length answer) → not t ≡ true → left f (lent image answer) ≡ route_call image input route answer
+  pub formless : (image input answer : List ℕ) → Done ≡ tick_refusal image (length input) (length answer) → t ≡ false → left f (lent image answer) ≡ route_call image input route answer
   formless image input answer h n =
       let p = form_decides image (length input) (length answer) h in
-      rw p (sym (refused_changes_nothing image input route answer (ap is_done (sym p) ∙ sym d ∙ not-true t n)))
+      rw p (sym (refused_changes_nothing image input route answer (ap is_done (sym p) ∙ sym d ∙ n)))
 
   -- so where a sample's length is right
-  pub form_decides_sample : (n : ℕ) → n ≡ SAMPLE_BYTES → f ≡ sample_refusal route n
+  pub form_decides_sample : (n : ℕ) → n ≡ sample_byte_count → f ≡ sample_refusal route n
   unfolding sample_refusal form_refusal
-  form_decides_sample n h = e ∙ rw (eq-eqb n SAMPLE_BYTES h)
+  form_decides_sample n h = e ∙ rw (eq-eqb n sample_byte_count h)

@@ -7,7 +7,7 @@ use Rattle.relay_math.{specs.F32.{◌⊕◌, ◌⊖◌, 0·0, 1e-3, is_finite, f
 use Rattle.relay_math.proofs.Sums.{round_own}
 use Rattle.relay_traj.{specs.{Governor.Running, Quintic.{Lasts, time_on}}, proofs.{GovernorClock.never_nan, Leg.mended_lasts}}
 use Rattle.joint_tick.{specs.{SetUp.segment_of, Tick.sample_time}, proofs.FractionAndSample.finite_time_as_it_is}
-use Rattle.image.specs.{Layout.LEG_WORDS, Parts.leg_at}
+use Rattle.image.specs.{Layout.leg_words, Parts.leg_at}
 use Rattle.route.specs.{Form.leg_of, Legs.{duration_of, flown_from, leg_flown, sample_of, sample_on, end_of, FirstAbove, PastAll}}
 use Rattle.route.proofs.LocalTime.{lasts_plus, sum_unsigned, local_time}
 
@@ -31,7 +31,7 @@ module _ (b : List ℕ) where
 
   pub duration_fits : (i : ℕ) → T (fits binary32 (duration_of b i))
   unfolding duration_of leg_at
-  duration_fits i = let t = (leg_of b i).t in cond-fits binary32 (finite_above 1e-3 t) t 1e-3 (float_fits b (LEG_WORDS * i + 18)) shortest_fits
+  duration_fits i = let t = (leg_of b i).t in cond-fits binary32 (finite_above 1e-3 t) t 1e-3 (float_fits b (leg_words * i + 18)) shortest_fits
 
   pub end_unsigned : (n : ℕ) → T (unsigned (end_of b n))
   unfolding end_of of_bits

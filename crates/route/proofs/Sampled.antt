@@ -5,8 +5,8 @@ use Rattle.relay_traj.specs.{declared.segment.Segment3.Segment3, Governor.Runnin
 use Rattle.joint_tick.specs.SetUp.{segment_of}
 use Rattle.image.{specs.Fits.FitsVec, proofs.Fitting.fitting}
 use Rattle.outcome.specs.{declared.Outcome.{Outcome, TheVariants.Done}, Outcomes.{is_done, left}}
-use Rattle.route.specs.{declared.legs.Sampled.Sampled, Form.{MOST_LEGS, leg_of, leg_count, form_refusal}, Legs.{leg_flown, sample_of, sample_on, reference_on}}
-use Rattle.route.specs.Entry.{SAMPLE_BYTES, words_of_sample, sample_bytes, sample_call, on_route, reference_told}
+use Rattle.route.specs.{declared.legs.Sampled.Sampled, Form.{most_legs, leg_of, leg_count, form_refusal}, Legs.{leg_flown, sample_of, sample_on, reference_on}}
+use Rattle.route.specs.Entry.{sample_byte_count, words_of_sample, sample_bytes, sample_call, on_route, reference_told}
 use Rattle.route.proofs.{LegFlown.{one_of_them, sampled_there}, FormRefusals.{formed, form_decides_sample}}
 
 -- ---- the words are read again
@@ -26,7 +26,7 @@ fit : (g : Segment3) (t : Float) → let s = eval3 g t in FitsVec s.pos × FitsV
 unfolding eval3 eval sample_at
 fit g t = search fitting
 
-pub sample_told : (b : List ℕ) (n : ℕ) (time : Float) → 0 < n → n ≤ MOST_LEGS → Told (sample_bytes (sample_on b n time)) (sample_on b n time)
+pub sample_told : (b : List ℕ) (n : ℕ) (time : Float) → 0 < n → n ≤ most_legs → Told (sample_bytes (sample_on b n time)) (sample_on b n time)
 unfolding sample_on sample_of
 sample_told b n time p m =
     let s = sample_on b n time in let f = fit (segment_of (leg_of b s.leg)) _ in let at = vec_back (sample_is s) in
@@ -46,7 +46,7 @@ eval_of_the_leg b n time r = rw (sampled_there b time r n)
 
 -- ---- a route that has its form
 
-module _ (route sample : List ℕ) (time : Float) (f : form_refusal route ≡ Done) (l : length sample ≡ SAMPLE_BYTES) where
+module _ (route sample : List ℕ) (time : Float) (f : form_refusal route ≡ Done) (l : length sample ≡ sample_byte_count) where
   pub sampled_done : sample_call route time sample ≡ left Done (sample_bytes (sample_on route (leg_count route) time))
   unfolding sample_call
   sampled_done = rw (← form_decides_sample route refl refl (length sample) l, f)

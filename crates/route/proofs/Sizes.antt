@@ -17,11 +17,15 @@ Under n (fin s m e) = m * up e ≤ n * down e
 pub finite : (n : ℕ) (x : Float) → Under n x → T (is_finite x)
 unfolding is_finite
 finite n (fin s m e) h = tt
+finite n nan h = elim h [ ]
+finite n (inf _) h = elim h [ ]
 
 either_sign : (s : Bool) (n : ℕ) (x : Float) → Under n x → Under n (signed s x)
 unfolding neg
 either_sign false n x h = h
 either_sign true n (fin s m e) h = h
+either_sign true n nan h = elim h [ ]
+either_sign true n (inf _) h = elim h [ ]
 
 -- a fraction that is m * 2 ^ g at most, which is an f32, is so when it is rounded
 rounded : (s : Bool) (a c m g : ℕ) → 0 < c → T (fits binary32 (fin false m (pos g))) → a ≤ m * 2 ^ g * c → Under (m * 2 ^ g) (round binary32 s a c)
@@ -55,6 +59,8 @@ module _ (n j m g k i a b : ℕ) (some : eqb n 0 ≡ false) (more : 0 < n * 2 ^ 
   times (fin s x e) u =
       rounded (unlike false s) (k * 2 ^ i * (x * up e)) (1 * down e) a b (rw (one-mul (down e)) (down_pos e)) f'
       (rw (one-mul (down e)) (le_trans (mul-le-mul_left (k * 2 ^ i) u) (rw (← mul_assoc (k * 2 ^ i) (m * 2 ^ g) (down e)) (mul-le-mul_right (down e) h'))))
+  times nan u = elim u [ ]
+  times (inf _) u = elim u [ ]
 
   pub divided : (x : Float) → T (fits binary32 x) → T (is_finite x) → let y = x ⊘ fin false n (pos j) in T (is_finite y) × T (is_finite (fin false k (pos i) ⊗ y))
   unfolding div is_finite
@@ -63,6 +69,8 @@ module _ (n j m g k i a b : ℕ) (some : eqb n 0 ≡ false) (more : 0 < n * 2 ^ 
       let d : x * up e * 1 ≤ m * 2 ^ g * (n * 2 ^ j * down e) = rw (mul-one (x * up e), ← mul_assoc (m * 2 ^ g) (n * 2 ^ j) (down e)) (le_trans (most s x e l) (mul-le-mul_right (down e) h)) in
       let u : Under (m * 2 ^ g) y = rw some (rounded (unlike s false) (x * up e * 1) (n * 2 ^ j * down e) m g (mul-pos more (down_pos e)) f d) in
       (finite (m * 2 ^ g) y u, finite (a * 2 ^ b) (fin false k (pos i) ⊗ y) (times y u))
+  divided nan l t = elim t [ ]
+  divided (inf _) l t = elim t [ ]
 
   pub mended : (x : Float) → T (fits binary32 x) → let y = finite_or (x ⊘ fin false n (pos j)) 0·0 in T (is_finite y) × T (is_finite (fin false k (pos i) ⊗ y))
   unfolding div is_finite of_bits

@@ -52,6 +52,8 @@ step : (x c : Float) → T (is_finite x) → T (is_finite c) → F32 c → let y
 unfolding is_finite of_bits
 step x (fin s zero e) p q f = let y = plus (times_zero x p (none false (pos 0))) (none s e) in (λ z h. is_true _ (alike y (of_zero s e z h)), finite-zero y)
 step x (fin s (suc m) e) p q f = let z = zero_times x p in rw (z.1, beside z.0 s m e f) (λ z h. h, tt)
+step x nan p q f = elim q [ ]
+step x (inf _) p q f = elim q [ ]
 
 -- ---- an axis
 
@@ -117,6 +119,9 @@ minus_itself : (x y : Float) → T (unsigned x) → lt x y ≡ true → x ⊖ x 
 unfolding sub neg add sum of_bits
 minus_itself (inf false) y u h = no (sym (past_all y) ∙ h)
 minus_itself (fin false m e) y u h = let a = m * up e * down e in rw (le-ltb a a (omega arith), sub_self a) (round_zero false (down e * down e))
+minus_itself nan y u h = elim u [ ]
+minus_itself (inf true) y u h = elim u [ ]
+minus_itself (fin true m e) y u h = elim u [ ]
 
 module _ (b : List ℕ) (n k : ℕ) (f : FirstAbove b n (end_of b k) k) where
   abbrev s : Sampled

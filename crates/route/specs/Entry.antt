@@ -26,8 +26,8 @@ route_call image input route answer = tick_from (on_route route) (route_refusal 
 
 -- ---- where the craft should be, on a route at a time
 
-abbrev pub SAMPLE_BYTES : ℕ
-SAMPLE_BYTES = 52
+abbrev pub sample_byte_count : ℕ
+sample_byte_count = 52
 
 -- the leg flown, counted from 0, then position, velocity, acceleration and jerk
 abbrev pub words_of_sample : Sampled → List ℕ
@@ -40,7 +40,7 @@ sample_bytes s = bytes_of (words_of_sample s)
 
 -- 3 for the sample's length, and then the route's own
 unfoldable pub sample_refusal : List ℕ → ℕ → Outcome
-sample_refusal route sampleLen = first_of ((differs sampleLen SAMPLE_BYTES, AnswerLength) ∷ form_table route)
+sample_refusal route sampleLen = first_of ((differs sampleLen sample_byte_count, AnswerLength) ∷ form_table route)
 
 unfoldable pub sample_call : List ℕ → Float → List ℕ → Filled
 unfolding sample_bytes

@@ -5,23 +5,23 @@ use Rattle.std.specs.Float.Ieee.{eq}
 use Rattle.words.specs.Words.{four_bytes}
 use Rattle.relay_math.specs.declared.Vec3.{Vec3}
 use Rattle.joint_tick.specs.declared.state.Leg.{Leg}
-use Rattle.image.specs.Layout.{LEG_WORDS, LEG_BYTES}
+use Rattle.image.specs.Layout.{leg_words, leg_bytes}
 use Rattle.image.specs.Parts.{leg_at}
 use Rattle.outcome.specs.declared.Outcome.{Outcome}
 use Rattle.outcome.specs.declared.Outcome.TheVariants.{LegCount, RouteLength, LegsApart}
 use Rattle.outcome.specs.Outcomes.{Table, first_of, differs}
 
 -- the limit: everything but the check is over any count
-abbrev pub MOST_LEGS : ℕ
-MOST_LEGS = 32
+abbrev pub most_legs : ℕ
+most_legs = 32
 
-abbrev pub ROUTE_TRAILER_BYTES : ℕ
-ROUTE_TRAILER_BYTES = 8
+abbrev pub route_trailer_bytes : ℕ
+route_trailer_bytes = 8
 
 -- ---- the trailer is the last 8 bytes, whatever the length
 
 unfoldable pub leg_count : List ℕ → ℕ
-leg_count b = four_bytes b (length b - ROUTE_TRAILER_BYTES)
+leg_count b = four_bytes b (length b - route_trailer_bytes)
 
 unfoldable pub back_of : List ℕ → ℕ
 back_of b = four_bytes b (length b - 4)
@@ -29,7 +29,7 @@ back_of b = four_bytes b (length b - 4)
 -- ---- the legs, from the first byte on
 
 abbrev pub leg_of : List ℕ → ℕ → Leg
-leg_of b i = leg_at b (LEG_WORDS * i)
+leg_of b i = leg_at b (leg_words * i)
 
 -- ---- "each p0, v0, a0 equals the earlier leg's pf, vf, af as numbers": of the words as they stand, before mending
 
@@ -56,16 +56,16 @@ all_meet b n = meet_from b (n - 1) 1
 
 abbrev pub form_table_to : ℕ → List ℕ → Table
 form_table_to most b =
-    (ltb (length b) ROUTE_TRAILER_BYTES, RouteLength)
+    (ltb (length b) route_trailer_bytes, RouteLength)
     ∷ (eqb (leg_count b) 0, LegCount)
     ∷ (ltb most (leg_count b), LegCount)
-    ∷ (differs (back_of b) (LEG_BYTES * leg_count b), RouteLength)
-    ∷ (differs (length b) (LEG_BYTES * leg_count b + ROUTE_TRAILER_BYTES), RouteLength)
+    ∷ (differs (back_of b) (leg_bytes * leg_count b), RouteLength)
+    ∷ (differs (length b) (leg_bytes * leg_count b + route_trailer_bytes), RouteLength)
     ∷ (not (all_meet b (leg_count b)), LegsApart)
     ∷ []
 
 abbrev pub form_table : List ℕ → Table
-form_table b = form_table_to MOST_LEGS b
+form_table b = form_table_to most_legs b
 
 unfoldable pub form_refusal : List ℕ → Outcome
 unfolding leg_count back_of all_meet

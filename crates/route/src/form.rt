@@ -2,9 +2,9 @@
 ghost use Rattle.std.specs.Prelude.{◌≡◌, true, ◌+◌, ◌-◌, ◌*◌, ◌≤◌, length};
 ghost use Rattle.std.specs.Float.Ieee.{eq};
 ghost use Rattle.words.specs.Words.{float_of, vec};
-ghost use Rattle.image.specs.Layout.{LEG_BYTES};
+ghost use Rattle.image.specs.Layout.{leg_bytes};
 ghost use Rattle.image.specs.Parts.{leg_at};
-ghost use Rattle.route.specs.Form.{ROUTE_TRAILER_BYTES, leg_count, back_of, vecs_meet, legs_meet, all_meet, form_refusal};
+ghost use Rattle.route.specs.Form.{route_trailer_bytes, leg_count, back_of, vecs_meet, legs_meet, all_meet, form_refusal};
 
 use image::{LEG_BYTES, LEG_WORDS};
 use outcome::Outcome;
@@ -17,14 +17,14 @@ pub const TRAILER_BYTES: usize = 8;
 
 // The trailer is the last 8 bytes, whatever the length.
 pub(crate) fn leg_count(route: &[u8]) -> usize
-    requires { ROUTE_TRAILER_BYTES ≤ length route.now }
+    requires { route_trailer_bytes ≤ length route.now }
     ensures { result ≡ leg_count route.now }
 {
     four_bytes(route, route.len() - TRAILER_BYTES) as usize
 }
 
 fn bytes_back(route: &[u8]) -> usize
-    requires { ROUTE_TRAILER_BYTES ≤ length route.now }
+    requires { route_trailer_bytes ≤ length route.now }
     ensures { result ≡ back_of route.now }
 {
     four_bytes(route, route.len() - 4) as usize
@@ -62,7 +62,7 @@ fn vecs_meet(a: &[u8], j: usize, b: &[u8], k: usize) -> bool
 
 // The legs whose first words are these. They may stand in different bytes: a pattern's are not a route's.
 pub fn legs_meet(earlier: &[u8], j: usize, later: &[u8], k: usize) -> bool
-    requires { (4 * j + LEG_BYTES ≤ length earlier.now) × (4 * k + LEG_BYTES ≤ length later.now) }
+    requires { (4 * j + leg_bytes ≤ length earlier.now) × (4 * k + leg_bytes ≤ length later.now) }
     ensures { result ≡ legs_meet (leg_at earlier.now j) (leg_at later.now k) }
 {
     if vecs_meet(later, k, earlier, j + 9) {
@@ -93,7 +93,7 @@ fn vecs_apart(a: &[u8], j: usize, b: &[u8], k: usize) -> u32
 }
 
 fn legs_apart(earlier: &[u8], j: usize, later: &[u8], k: usize) -> u32
-    requires { (4 * j + LEG_BYTES ≤ length earlier.now) × (4 * k + LEG_BYTES ≤ length later.now) }
+    requires { (4 * j + leg_bytes ≤ length earlier.now) × (4 * k + leg_bytes ≤ length later.now) }
     ensures { result ≡ 0 → legs_meet (leg_at earlier.now j) (leg_at later.now k) ≡ true }
 {
     vecs_apart(later, k, earlier, j + 9)
@@ -104,7 +104,7 @@ fn legs_apart(earlier: &[u8], j: usize, later: &[u8], k: usize) -> u32
 // Whether each of the legs but the first starts with the very words that the one before it ends with, and none of them a NaN's: then all meet. One test a
 // join, where the walk below has nine (docs/SPEED.md says what that saves). With -0.0 at a join it says no, and the walk decides.
 fn all_alike(route: &[u8], count: usize) -> bool
-    requires { LEG_BYTES * count ≤ length route.now }
+    requires { leg_bytes * count ≤ length route.now }
     ensures { result ≡ true → all_meet route.now count ≡ true }
 {
     let mut i = 1;
@@ -119,7 +119,7 @@ fn all_alike(route: &[u8], count: usize) -> bool
 
 // Whether each of the legs but the first meets the one before it.
 fn all_meet(route: &[u8], count: usize) -> bool
-    requires { LEG_BYTES * count ≤ length route.now }
+    requires { leg_bytes * count ≤ length route.now }
     ensures { result ≡ all_meet route.now count }
 {
     if all_alike(route, count) {

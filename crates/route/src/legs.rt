@@ -2,7 +2,7 @@
 ghost use Rattle.std.specs.Prelude.{◌≡◌, ◌+◌, ◌*◌, ◌<◌, ◌≤◌, length};
 ghost use Rattle.words.specs.Words.{float};
 ghost use Rattle.relay_traj.specs.Quintic.{mend_ends};
-ghost use Rattle.image.specs.Layout.{LEG_BYTES};
+ghost use Rattle.image.specs.Layout.{leg_bytes};
 ghost use Rattle.route.specs.Legs.{duration_of, sample_of, sample_on, reference_of, reference_on, PassedBy};
 
 use image::{LEG_WORDS, leg_at};
@@ -28,7 +28,7 @@ pub struct Sampled {
 }
 
 fn duration_of(route: &[u8], i: usize) -> f32
-    requires { LEG_BYTES * i + LEG_BYTES ≤ length route.now }
+    requires { leg_bytes * i + leg_bytes ≤ length route.now }
     ensures { result ≡ duration_of route.now i }
 {
     mended_duration(float_at(route, LEG_WORDS * i + DURATION))
@@ -54,7 +54,7 @@ fn axis_at(route: &[u8], k: usize, t: f32) -> Mended
 // The base's own sample, of one leg. Its segment is made of the words at once, which is quicker than a leg read first and `segment_of` called on it
 // (docs/SPEED.md).
 fn reference_of(route: &[u8], i: usize, at: f32) -> Reference
-    requires { LEG_BYTES * i + LEG_BYTES ≤ length route.now }
+    requires { leg_bytes * i + leg_bytes ≤ length route.now }
     ensures { result ≡ reference_of route.now i at }
 {
     let k = LEG_WORDS * i;
@@ -67,7 +67,7 @@ fn reference_of(route: &[u8], i: usize, at: f32) -> Reference
 
 // All that a leg asks at a time. No tick calls it, so it may take the plain way: a leg read, and `segment_of` it.
 fn sample_of(route: &[u8], i: usize, at: f32) -> Sampled
-    requires { LEG_BYTES * i + LEG_BYTES ≤ length route.now }
+    requires { leg_bytes * i + leg_bytes ≤ length route.now }
     ensures { result ≡ sample_of route.now i at }
 {
     let leg = leg_at(route, LEG_WORDS * i);
@@ -77,7 +77,7 @@ fn sample_of(route: &[u8], i: usize, at: f32) -> Sampled
 
 // The legs whose ends are not above the time, up to the first whose end is.
 fn passed(route: &[u8], count: usize, time: f32) -> Behind
-    requires { LEG_BYTES * count ≤ length route.now }
+    requires { leg_bytes * count ≤ length route.now }
     ensures { PassedBy route.now count time result }
 {
     let mut i = 0;
@@ -96,7 +96,7 @@ fn passed(route: &[u8], count: usize, time: f32) -> Behind
 // Of the first leg whose end is above the time, at the time less the end before it; past all ends of the last leg, at its duration. The two calls keep
 // `reference_of` from being inlined, so that its stack is free again when the tick goes on: 128 bytes, for next to no time.
 pub(crate) fn reference_on(route: &[u8], count: usize, time: f32) -> Reference
-    requires { (0 < count) × (LEG_BYTES * count ≤ length route.now) }
+    requires { (0 < count) × (leg_bytes * count ≤ length route.now) }
     ensures { result ≡ reference_on route.now count time }
 {
     let before = passed(route, count, time);
@@ -107,7 +107,7 @@ pub(crate) fn reference_on(route: &[u8], count: usize, time: f32) -> Reference
 }
 
 pub(crate) fn sample_on(route: &[u8], count: usize, time: f32) -> Sampled
-    requires { (0 < count) × (LEG_BYTES * count ≤ length route.now) }
+    requires { (0 < count) × (leg_bytes * count ≤ length route.now) }
     ensures { result ≡ sample_on route.now count time }
 {
     let before = passed(route, count, time);

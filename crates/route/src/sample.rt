@@ -1,8 +1,8 @@
 // Where the craft should be on a route at a time, on lent bytes. Nothing is asked of the caller; a refused call changes no byte.
 ghost use Rattle.std.specs.Prelude.{◌≡◌, ◌<◌, length};
 ghost use Rattle.outcome.specs.Outcomes.{left};
-ghost use Rattle.route.specs.Form.{MOST_LEGS};
-ghost use Rattle.route.specs.Entry.{SAMPLE_BYTES, sample_bytes, sample_call};
+ghost use Rattle.route.specs.Form.{most_legs};
+ghost use Rattle.route.specs.Entry.{sample_byte_count, sample_bytes, sample_call};
 
 use super::form::{form_refusal, leg_count};
 use super::legs::{Sampled, sample_on};
@@ -21,7 +21,7 @@ const ACC: usize = 7;
 const JERK: usize = 10;
 
 fn put_sample(bytes: &mut [u8], s: Sampled)
-    requires { (length bytes.old ≡ SAMPLE_BYTES) × (s.leg < MOST_LEGS) }
+    requires { (length bytes.old ≡ sample_byte_count) × (s.leg < most_legs) }
     ensures { bytes.new ≡ sample_bytes s }
 {
     put_word(bytes, 0, s.leg as u32);

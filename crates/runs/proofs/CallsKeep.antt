@@ -8,7 +8,7 @@ use Rattle.relay_traj.{specs.Governor.advance, proofs.GovernorClock.never_nan}
 use Rattle.relay_adrc.specs.{declared.{gains.AdrcGains.AdrcGains, axis.AdrcAxis.AdrcAxis}, Axis.axis_tick, Biquad.{biquad_filter, gyro_filter}}
 use Rattle.joint_tick.specs.{declared.{profile.Profile.TheVariants.LostRotor, state.{Leg.Leg, State.State, TickInput.TickInput}, stages.Reference.Reference}, Profile.is_profile}
 use Rattle.joint_tick.{specs.{SetUp.{set_up, exchange}, Tick.{prepare, follow, pick, guide_pick_follow, ticked, state_after}}, proofs.{TickKeeps.tick_keeps as gains-kept, LostRotor.third_stands}}
-use Rattle.image.specs.{Layout.{IMAGE_BYTES, COUNT, GOVERNOR, PROFILE, IMAGE_WORDS, SETUP_PROFILE}, Parts.{leg_at, profile_at, floats_of_adrc_gains, floats_of_axis}}
+use Rattle.image.specs.{Layout.{image_bytes, COUNT, GOVERNOR, PROFILE, image_words, setup_profile}, Parts.{leg_at, profile_at, floats_of_adrc_gains, floats_of_axis}}
 use Rattle.image.{specs.{Image.{fixed_at, state_at, words_of_state, image_of}, Inputs.{setup_at, input_at}}, proofs.Decoded.{profile_written, decode_encode}}
 use Rattle.outcome.{specs.Outcomes.{number, is_done, Filled, Called}, proofs.Tables.{done_none, same, either}}
 use Rattle.lent_tick.{specs.{Unbroken.{unbroken, Unbroken}, Tick.{tick_table, tick_from}}, proofs.{RowFour.{profile_of_word, own_words}, NeverRefused.set_up_fits, TickLeaves.taken_unbroken}}
@@ -60,7 +60,7 @@ canons_at b k (suc n) (suc i) h =
     let e : k + suc i ≡ suc k + i = omega arith in
     rw e (canons_at b (suc k) n i (omega arith))
 
-read_again : (image : List ℕ) → Unbroken image → words_of_state (state_at image) ≡ canons image COUNT IMAGE_WORDS
+read_again : (image : List ℕ) → Unbroken image → words_of_state (state_at image) ≡ canons image COUNT image_words
 read_again image a = sym (own_words image a).is
 
 kept_at : (these : ℕ → Bool) (image : List ℕ) (s : State) → Unbroken image → masked these 0 (words_of_state s) ≡ masked these 0 (words_of_state (state_at image)) → SameWords these image (image_of s)
@@ -69,7 +69,7 @@ kept_at these image s a e k h t =
     let z = zero-add k in
     word_back {ws = words_of_state s} record { is = refl } k
     (masked_at these 0 (words_of_state s) (words_of_state (state_at image)) e k (rw z t) ∙ ap (λ (ws : List ℕ). get_or ws k 0) (read_again image a)
-    ∙ rw z at (canons_at image COUNT IMAGE_WORDS k h))
+    ∙ rw z at (canons_at image COUNT image_words k h))
     (bits_lt _ (of_bits-fits binary32 (word image k)))
 
 -- ---- the words that ticks keep, from any source of references
@@ -100,7 +100,7 @@ unfolding route_refusal
 taken_on Segment image inputLen answerLen e = (taken_unbroken image inputLen answerLen e).0
 taken_on (Route route) image inputLen answerLen e =
     let t = done_none (tick_table image inputLen answerLen ++ form_table route) refl e in
-    record { whole = same (length image) IMAGE_BYTES (t 0); row_four_lem = not-false (unbroken image) (t 3) }
+    record { whole = same (length image) image_bytes (t 0); row_four_lem = not-false (unbroken image) (t 3) }
 
 -- what an accepted tick of either kind leaves, so far as these words go
 module _ (image : List ℕ) (t : Tick) (done : number (tick_of image t).outcome ≡ 0) where
@@ -135,7 +135,7 @@ exchange_same image segment a = kept_at kept_by_exchanges image (exchange (state
 
 -- ---- over runs: what set-up wrote has no other NaN, so that these words do not change by a bit
 
-one_keeps : (image : List ℕ) (c : Call) → Unbroken image → (k : ℕ) → k < IMAGE_WORDS → kept_by_call c k ≡ true → canon (word image k) ≡ word image k → word (left_by image c) k ≡ word image k
+one_keeps : (image : List ℕ) (c : Call) → Unbroken image → (k : ℕ) → k < image_words → kept_by_call c k ≡ true → canon (word image k) ≡ word image k → word (left_by image c) k ≡ word image k
 unfolding left_by tick_from exchange_call
 one_keeps image (Ticks t) a k h w e =
     subst (λ (c : Called). word c.later.image k ≡ word image k) (sym (flying_is t.course image t.input t.answer))
@@ -144,7 +144,7 @@ one_keeps image (Ticks t) a k h w e =
 one_keeps image (Exchanges segment) a k h w e =
     either (λ (l : Filled). word l.later k ≡ word image k) (exchange_refusal image (length segment)) (λ d. exchange_same image segment a k h w ∙ e) (λ d. refl)
 
-run_keeps : (image : List ℕ) (calls : List Call) → Unbroken image → (k : ℕ) → k < IMAGE_WORDS → AllKeep calls k → canon (word image k) ≡ word image k
+run_keeps : (image : List ℕ) (calls : List Call) → Unbroken image → (k : ℕ) → k < image_words → AllKeep calls k → canon (word image k) ≡ word image k
     → word (image_after image calls) k ≡ word image k
 unfolding image_after
 run_keeps image [] a k h w e = refl
@@ -153,7 +153,7 @@ run_keeps image (c ∷ calls) a k h w e =
     run_keeps (left_by image c) calls (call_steps image c a).unbroken k h w.1 (rw one e) ∙ one
 
 -- words that every call of the run keeps are set-up's ..
-pub words_kept_over_any_run : (setup : List ℕ) (calls : List Call) (k : ℕ) → k < IMAGE_WORDS → AllKeep calls k → word (image_after (start setup) calls) k ≡ word (start setup) k
+pub words_kept_over_any_run : (setup : List ℕ) (calls : List Call) (k : ℕ) → k < image_words → AllKeep calls k → word (image_after (start setup) calls) k ≡ word (start setup) k
 unfolding start
 words_kept_over_any_run setup calls k h all =
     let s = set_up (setup_at setup) in
@@ -172,9 +172,9 @@ all_keep_ticking k w [] = tt
 all_keep_ticking k w (t ∷ ticks) = (w, all_keep_ticking k w ticks)
 
 -- "The profile never changes over any run": it is the 51st word that set-up was given.
-pub profile_over_any_run : (setup : List ℕ) (calls : List Call) → is_profile (word setup SETUP_PROFILE) ≡ true
-    → word (image_after (start setup) calls) PROFILE ≡ word setup SETUP_PROFILE
+pub profile_over_any_run : (setup : List ℕ) (calls : List Call) → is_profile (word setup setup_profile) ≡ true
+    → word (image_after (start setup) calls) PROFILE ≡ word setup setup_profile
 unfolding start set_up setup_at profile_at
 profile_over_any_run setup calls p =
     words_kept_over_any_run setup calls PROFILE (lit< tt) (all_keep_lasting PROFILE refl calls)
-    ∙ profile_written (set_up (setup_at setup)) ∙ sym (profile_of_word (word setup SETUP_PROFILE) p)
+    ∙ profile_written (set_up (setup_at setup)) ∙ sym (profile_of_word (word setup setup_profile) p)

@@ -7,7 +7,7 @@ use Rattle.relay_geo.specs.declared.shield.SimplexShield.{SimplexShield}
 use Rattle.relay_traj.proofs.GovernorClock.{starts_at_zero}
 use Rattle.joint_tick.specs.SetUp.{segment_of, set_up, exchange}
 use Rattle.outcome.specs.{declared.Outcome.TheVariants.Done, Outcomes.{left, Filled}}
-use Rattle.image.specs.{Layout.{ENGAGED, GOVERNOR, SEGMENT, PEAKS, LEG_BYTES, SETUP_LEG}, Parts.{segment_at, leg_at}, Image.{state_at, image_of, peaks_of}, Inputs.setup_at}
+use Rattle.image.specs.{Layout.{ENGAGED, GOVERNOR, SEGMENT, PEAKS, leg_bytes, setup_leg}, Parts.{segment_at, leg_at}, Image.{state_at, image_of, peaks_of}, Inputs.setup_at}
 use Rattle.image.proofs.Decoded.{image_is, segment_written, state_fits}
 use Rattle.lent_tick.{specs.Unbroken.Unbroken, proofs.{RowFour.unbroken_has, NeverRefused.{set_up_fits, exchange_fits}}}
 use Rattle.calls.{specs.Entry.{exchange_refusal, exchange_call}, proofs.ExchangeSteps.exchange_steps}
@@ -31,12 +31,12 @@ clock_between_exchanges setup calls ticks = clock_over_any_run (image_after (sta
 -- ---- one exchange
 
 -- of an unbroken image, by a leg of the right length: it is accepted
-pub exchange_done : (image segment : List ℕ) → Unbroken image → length segment ≡ LEG_BYTES
+pub exchange_done : (image segment : List ℕ) → Unbroken image → length segment ≡ leg_bytes
     → exchange_call image segment ≡ left Done (image_of (exchange (state_at image) (leg_at segment 0)))
 unfolding exchange_call exchange_refusal
 exchange_done image segment u e = rw (u.whole, e, u.row_four_lem)
 
-module _ (image segment : List ℕ) (a : Unbroken image) (e : length segment ≡ LEG_BYTES) where
+module _ (image segment : List ℕ) (a : Unbroken image) (e : length segment ≡ leg_bytes) where
   abbrev later : List ℕ
   later = (exchange_call image segment).later
 
@@ -59,7 +59,7 @@ module _ (image segment : List ℕ) (a : Unbroken image) (e : length segment ≡
   exchange_keeps = subst (λ (l : Filled). SameWords kept_by_exchanges image l.later) (sym (exchange_done image segment a e)) (exchange_same image segment a)
 
 -- after set-up too the segment is the leg's
-pub segment_after_set_up : (setup : List ℕ) → segment_at (start setup) SEGMENT ≡ segment_of (leg_at setup SETUP_LEG)
+pub segment_after_set_up : (setup : List ℕ) → segment_at (start setup) SEGMENT ≡ segment_of (leg_at setup setup_leg)
 unfolding start set_up setup_at
 segment_after_set_up setup = segment_written (set_up (setup_at setup)) (set_up_fits setup).segment
 

@@ -7,7 +7,7 @@ use Rattle.relay_adrc.{specs.{declared.biquad.Biquad.Biquad, Biquad.{lowpass_at,
 use Rattle.joint_tick.specs.{declared.state.State.State, Profile.is_profile, SetUp.set_up}
 use Rattle.outcome.specs.{declared.Outcome.{Outcome, TheVariants.{Done, BadProfile, PassThrough}}, Outcomes.{is_done, Table, left, left_unless, Filled}}
 use Rattle.outcome.proofs.Tables.{done_none, never_given, in_turn, either}
-use Rattle.image.{specs.{Layout.{LPF, BIQUAD_WORDS, IMAGE_WORDS, IMAGE_BYTES, SETUP_PROFILE, SETUP_BYTES}, Parts.{biquad_at, lpf_at}, Image.moving_at, Inputs.setup_at}, proofs.Decoded.decode_encode}
+use Rattle.image.{specs.{Layout.{LPF, biquad_words, image_words, image_bytes, setup_profile, setup_bytes}, Parts.{biquad_at, lpf_at}, Image.moving_at, Inputs.setup_at}, proofs.Decoded.decode_encode}
 use Rattle.lent_tick.{specs.{Unbroken.Unbroken, Tick.{tick_table, tick_refusal}}, proofs.NeverRefused.set_up_fits}
 use Rattle.calls.specs.Entry.{set_up_table, exchange_table, set_up_refusal, exchange_refusal, SetsUp, set_up_call}
 use Rattle.route.specs.{Form.form_table, Entry.route_refusal}
@@ -18,8 +18,8 @@ use Rattle.runs.proofs.{Induction.start_unbroken, DemandThree.demand_three, Call
 -- ---- what is refused
 
 -- "11, after 10": exactly where the routine's own condition holds
-pub eleven_exactly : (setup : List ℕ) → length setup ≡ SETUP_BYTES → is_profile (word setup SETUP_PROFILE) ≡ true
-    → set_up_refusal IMAGE_BYTES setup ≡ cond (unfiltered setup) PassThrough Done
+pub eleven_exactly : (setup : List ℕ) → length setup ≡ setup_bytes → is_profile (word setup setup_profile) ≡ true
+    → set_up_refusal image_bytes setup ≡ cond (unfiltered setup) PassThrough Done
 eleven_exactly setup e p = ten_exactly setup e ∙ ap (λ (b : Bool). cond b (cond (unfiltered setup) PassThrough Done) BadProfile) p
 
 -- "at set-up alone"
@@ -82,7 +82,7 @@ module _ (image setup : List ℕ) (e : (set_up_before image setup).outcome ≡ D
 module _ (setup : List ℕ) (taken : SetsUp setup) where
   is_filtered : unfiltered setup ≡ false
   unfolding set_up_refusal
-  is_filtered = done_none (set_up_table IMAGE_BYTES setup) refl (ap is_done taken) 3
+  is_filtered = done_none (set_up_table image_bytes setup) refl (ap is_done taken) 3
 
   -- of its filter b0 and b2 are one number, where a pass-through has 1 and 0
   alike : (f : Biquad) → f ≡ lowpass (setup_at setup).fc (setup_at setup).fs → f.b0 ≡ f.b2
@@ -101,14 +101,14 @@ module _ (setup : List ℕ) (taken : SetsUp setup) where
       let f = biquad_at (start setup) k in let e : f.b0 ≡ f.b2 = alike f (stored axis) in
       no (sym (ap (λ (w : ℕ). lt 0·0 (float_of w)) zero) ∙ ap (lt 0·0) (sym e) ∙ ap (λ (w : ℕ). lt 0·0 (float_of w)) one)
 
-  at : (calls : List Call) (k : ℕ) → k < IMAGE_WORDS → lasting k ≡ true → word (image_after (start setup) calls) k ≡ word (start setup) k
+  at : (calls : List Call) (k : ℕ) → k < image_words → lasting k ≡ true → word (image_after (start setup) calls) k ≡ word (start setup) k
   at calls k h w = words_kept_over_any_run setup calls k h (all_keep_lasting k w calls)
 
   kept : (calls : List Call) {k : ℕ} → Filter k
       → let image = image_after (start setup) calls in (word image k ≡ word (start setup) k) × (word image (k + 2) ≡ word (start setup) (k + 2))
   kept calls Roll = (at calls LPF (lit< tt) refl, at calls (LPF + 2) (lit< tt) refl)
-  kept calls Pitch = (at calls (LPF + BIQUAD_WORDS) (lit< tt) refl, at calls (LPF + BIQUAD_WORDS + 2) (lit< tt) refl)
-  kept calls Yaw = (at calls (LPF + BIQUAD_WORDS + BIQUAD_WORDS) (lit< tt) refl, at calls (LPF + BIQUAD_WORDS + BIQUAD_WORDS + 2) (lit< tt) refl)
+  kept calls Pitch = (at calls (LPF + biquad_words) (lit< tt) refl, at calls (LPF + biquad_words + 2) (lit< tt) refl)
+  kept calls Yaw = (at calls (LPF + biquad_words + biquad_words) (lit< tt) refl, at calls (LPF + biquad_words + biquad_words + 2) (lit< tt) refl)
 
   -- "Set-up no longer takes a cut-off that `Biquad::lowpass` would turn into a pass-through": no axis of the gyro is unfiltered, after any calls.
   pub always_filtered : (calls : List Call) {k : ℕ} → Filter k → ¬ (Passes (image_after (start setup) calls) k)

@@ -5,7 +5,7 @@ use Rattle.latch.specs.Latch.{latch, after, engaged_after}
 use Rattle.relay_geo.{specs.declared.shield.SimplexShield.SimplexShield, proofs.SetUp.starts_engaged}
 use Rattle.joint_tick.{specs.{declared.state.State.State, SetUp.set_up}, proofs.Shielding.tick_latch}
 use Rattle.outcome.specs.{declared.Outcome.TheVariants.Done, Outcomes.{left, Called}}
-use Rattle.image.{specs.{Layout.{ENTER, EXIT, IMAGE_BYTES}, Image.{fixed_at, state_at}, Inputs.{setup_at, input_at}}, proofs.Decoded.decode_encode}
+use Rattle.image.{specs.{Layout.{ENTER, EXIT, image_bytes}, Image.{fixed_at, state_at}, Inputs.{setup_at, input_at}}, proofs.Decoded.decode_encode}
 use Rattle.lent_tick.{specs.{Unbroken.Unbroken, Steps.{margins_if, shield_at, stepped, Steps}}, proofs.{RowFour.unbroken_has, NeverRefused.{set_up_fits, set_up_never_refused}, TickSteps.tick_steps}}
 use Rattle.calls.{specs.Entry.{SetsUp, set_up_call}, proofs.ExchangeSteps.exchange_steps}
 use Rattle.runs.specs.{Runs.{Tick, Call, Ticks, Exchanges, left_by, source_on, guided, margins_by, start, image_after, margins_along}, DemandThree.{enter_of, exit_of}}
@@ -47,7 +47,7 @@ run_steps image (c ∷ calls) u =
 -- ---- from set-up on
 
 -- the image that an accepted set-up leaves is the one that runs start at
-pub set_up_starts : (image setup : List ℕ) → length image ≡ IMAGE_BYTES → SetsUp setup → set_up_call image setup ≡ left Done (start setup)
+pub set_up_starts : (image setup : List ℕ) → length image ≡ image_bytes → SetsUp setup → set_up_call image setup ≡ left Done (start setup)
 unfolding set_up_call start
 set_up_starts image setup p e = rw (p, e)
 

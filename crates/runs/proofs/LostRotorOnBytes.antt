@@ -7,7 +7,7 @@ use Rattle.relay_adrc.specs.Biquad.{passes_through}
 use Rattle.joint_tick.specs.{declared.{state.{State.State, TickInput.TickInput}, stages.Ticked.Ticked}, Profile.is_profile, SetUp.set_up, Tick.{reference_at, ticked, state_after}}
 use Rattle.joint_tick.proofs.LostRotor.{headed, heading_unread, third_stands, third_command_zero}
 use Rattle.outcome.specs.{declared.Outcome.{Outcome, TheVariants.{Done, ImageLength, BrokenImage, BadProfile, PassThrough}}, Outcomes.{left_unless, lent, Called}}
-use Rattle.image.specs.{Layout.{COUNT, PROFILE, IMAGE_WORDS, IMAGE_BYTES, SETUP_FC, SETUP_FS, SETUP_PROFILE, SETUP_BYTES, YAW, YAW_RATE, INPUT_BYTES, TORQUE, COMMAND, ANSWER_BYTES}, Parts.quat_at}
+use Rattle.image.specs.{Layout.{COUNT, PROFILE, image_words, image_bytes, setup_fc, setup_fs, setup_profile, setup_bytes, YAW, yaw_rate_word, input_bytes, TORQUE, COMMAND, answer_bytes}, Parts.quat_at}
 use Rattle.image.{specs.{Image.{state_at, image_of}, Inputs.{setup_at, input_at, answer_of}, Fits.F32}, proofs.{Decoded.decode_encode, AnswerWords.{third_torque_word, command_words_lem}}}
 use Rattle.image.proofs.AnswerFits.{command_fits}
 use Rattle.lent_tick.{specs.{Unbroken.{unbroken, Unbroken}, Tick.{tick_refusal, tick_from}}, proofs.NeverRefused.set_up_fits}
@@ -17,7 +17,7 @@ use Rattle.runs.proofs.{Shown.{refusal_on, flying_is, done, tick_done, flag_show
 
 -- ---- "yaw isn't read"
 
-same_but_heading : (a b : List ℕ) → ButHeading a b → input_at b ≡ headed (input_at a) (float b YAW) (float b YAW_RATE)
+same_but_heading : (a b : List ℕ) → ButHeading a b → input_at b ≡ headed (input_at a) (float b YAW) (float b yaw_rate_word)
 unfolding input_at vec quat_at float
 same_but_heading a b d =
     let w = d.words in
@@ -28,8 +28,8 @@ pub heading_unread_on_bytes : (c : Course) (image a b answer : List ℕ) → wor
 unfolding tick_from
 heading_unread_on_bytes c image a b answer p d =
     let source = source_on c image in let s = state_at image in
-    let i = headed (input_at a) (float b YAW) (float b YAW_RATE) in
-    let u = heading_unread source s (input_at a) (lost image p) (float b YAW) (float b YAW_RATE) in
+    let i = headed (input_at a) (float b YAW) (float b yaw_rate_word) in
+    let u = heading_unread source s (input_at a) (lost image p) (float b YAW) (float b yaw_rate_word) in
     flying_is c image b answer
     ∙ ap (λ (n : ℕ). tick_from source (refusal_on c image n (length answer)) image b answer) (sym d.lengths)
     ∙ ap (λ (x : TickInput). left (state_after source s x) (ticked source s x)) (same_but_heading a b d)
@@ -74,25 +74,25 @@ planner_flies_unheaded yaw =
 -- ---- what is refused
 
 -- "10 set-up word 51 not 0 or 1, after 2", and before 11, which proofs/Gyro.antt is about
-pub ten_exactly : (input : List ℕ) → length input ≡ SETUP_BYTES
-    → set_up_refusal IMAGE_BYTES input ≡ cond (is_profile (word input SETUP_PROFILE)) (cond (passes_through (float input SETUP_FC) (float input SETUP_FS)) PassThrough Done) BadProfile
+pub ten_exactly : (input : List ℕ) → length input ≡ setup_bytes
+    → set_up_refusal image_bytes input ≡ cond (is_profile (word input setup_profile)) (cond (passes_through (float input setup_fc) (float input setup_fs)) PassThrough Done) BadProfile
 unfolding set_up_refusal
-ten_exactly input e = rw e (by (is_profile (word input SETUP_PROFILE)) (cond (passes_through (float input SETUP_FC) (float input SETUP_FS)) PassThrough Done))
+ten_exactly input e = rw e (by (is_profile (word input setup_profile)) (cond (passes_through (float input setup_fc) (float input setup_fs)) PassThrough Done))
   where
     by : (b : Bool) (o : Outcome) → cond (not b) BadProfile o ≡ cond b o BadProfile
     by true o = refl
     by false o = refl
 
 -- "Old images get 1", and 4 in the new length: by any other length and any other count
-pub other_length_refused : (image : List ℕ) (inputLen answerLen : ℕ) → ¬ (length image ≡ IMAGE_BYTES) → tick_refusal image inputLen answerLen ≡ ImageLength
+pub other_length_refused : (image : List ℕ) (inputLen answerLen : ℕ) → ¬ (length image ≡ image_bytes) → tick_refusal image inputLen answerLen ≡ ImageLength
 unfolding tick_refusal
-other_length_refused image inputLen answerLen d = rw (ne_eqb (length image) IMAGE_BYTES d)
+other_length_refused image inputLen answerLen d = rw (ne_eqb (length image) image_bytes d)
 
-pub other_count_refused : (image : List ℕ) → length image ≡ IMAGE_BYTES → ¬ (word image COUNT ≡ IMAGE_WORDS) → tick_refusal image INPUT_BYTES ANSWER_BYTES ≡ BrokenImage
+pub other_count_refused : (image : List ℕ) → length image ≡ image_bytes → ¬ (word image COUNT ≡ image_words) → tick_refusal image input_bytes answer_bytes ≡ BrokenImage
 unfolding tick_refusal unbroken
-other_count_refused image e d = rw (e, ne_eqb (word image COUNT) IMAGE_WORDS d)
+other_count_refused image e d = rw (e, ne_eqb (word image COUNT) image_words d)
 
 -- "a tick finds a bad word 95 under 4"
-pub bad_profile_refused : (image : List ℕ) → length image ≡ IMAGE_BYTES → is_profile (word image PROFILE) ≡ false → tick_refusal image INPUT_BYTES ANSWER_BYTES ≡ BrokenImage
+pub bad_profile_refused : (image : List ℕ) → length image ≡ image_bytes → is_profile (word image PROFILE) ≡ false → tick_refusal image input_bytes answer_bytes ≡ BrokenImage
 unfolding tick_refusal unbroken
 bad_profile_refused image e p = simp (e, p, and-false)

@@ -11,7 +11,7 @@ use Rattle.image.specs.{Layout.{PROFILE, YAW, TORQUE, COMMAND, TIME, PSI, MARGIN
 use Rattle.image.proofs.{AnswerFits.{margin_fits, command_fits, torque_fits}, AnswerWords.{torque_answered, command_answered, command_words_lem, time_answered, psi_word, margin_answered, margin_word}}
 use Rattle.outcome.specs.declared.Outcome.TheVariants.{Done}
 use Rattle.lent_tick.{specs.{Unbroken.Unbroken, Tick.tick_from}, proofs.RowFour.unbroken_has}
-use Rattle.route.{specs.{Form.form_refusal, Entry.{SAMPLE_BYTES, sample_call, on_route, reference_told}}, proofs.{Sampled.{sampled_done, told_on_route}, OneLeg.one_leg}}
+use Rattle.route.{specs.{Form.form_refusal, Entry.{sample_byte_count, sample_call, on_route, reference_told}}, proofs.{Sampled.{sampled_done, told_on_route}, OneLeg.one_leg}}
 use Rattle.runs.specs.{Runs.{Course, Segment, Route, Tick, tick_of, source_on, RightCourse, Right, Flies}, DemandThree.{flag_of, command_words}}
 use Rattle.runs.proofs.{Shown.{done, tick_done, flag_shown}, CallsKeep.lost}
 
@@ -89,7 +89,7 @@ module _ (image : List ℕ) (t : Tick) (a : Unbroken image) (r : Right t) where
   unfolding tick_from ticked guide_pick_follow pick
   by_the_time next e = tick_done image t a r ∙ rw e
 
-  module _ (route sample : List ℕ) (l : length sample ≡ SAMPLE_BYTES) where
+  module _ (route sample : List ℕ) (l : length sample ≡ sample_byte_count) where
     has_form : (c : Course) → RightCourse c → Flies c image route → form_refusal route ≡ Done
     has_form Segment r f = f.0
     has_form (Route own) r f = ap form_refusal (sym f) ∙ r

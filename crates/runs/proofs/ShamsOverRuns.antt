@@ -6,7 +6,7 @@ use Rattle.words.specs.Words.{word, float, flag}
 use Rattle.latch.specs.Latch.{Flies}
 use Rattle.joint_tick.{specs.declared.profile.Profile.TheVariants.Whole, proofs.TickNoAttitude.nan_heading_tick}
 use Rattle.outcome.specs.Outcomes.{Filled, Called}
-use Rattle.image.specs.{Layout.{SETUP_PROFILE, FLAG, INPUT_BYTES}, Parts.profile_at, Image.{fixed_at, state_at}, Inputs.input_at}
+use Rattle.image.specs.{Layout.{setup_profile, FLAG, input_bytes}, Parts.profile_at, Image.{fixed_at, state_at}, Inputs.input_at}
 use Rattle.calls.specs.{Entry.on_segment, Shams.{Program, Keeps, AnswersOnly, EchoesAfter, blank_answer, blank_image, ran, answered, level_set_up, level_input, lost_input}}
 use Rattle.calls.proofs.Shams.{level_profile, level_sets_up, planner_flies}
 use Rattle.runs.specs.{Runs.{Call, Ticks, flying, left_by, guided, start, image_after, margins_along}, DemandThree.{enter_of, exit_of, flag_of}, Shams.{plain, KeepsDemandThree}}
@@ -23,7 +23,7 @@ unfolding input_at float word of_bits
 no_heading = refl
 
 -- by the old rules, which no call changes
-level_word : word level_set_up SETUP_PROFILE ≡ 0
+level_word : word level_set_up setup_profile ≡ 0
 unfolding word
 level_word = refl
 
@@ -56,7 +56,7 @@ keeps_demand_three p k =
 
 module _ (p : Program) (k : KeepsDemandThree p) where
   -- its flag is 0 exactly if the promised one is ..
-  as_promised : (calls : List Call) (input : List ℕ) → length input ≡ INPUT_BYTES
+  as_promised : (calls : List Call) (input : List ℕ) → length input ≡ input_bytes
       → let image = image_after (start level_set_up) calls in (word (answered p image input) FLAG ≡ 0) ↔ (flag_of image (plain input) ≡ 0)
   as_promised calls input e =
       let promised = (demand_three level_set_up calls (plain input) (e, refl, tt)).flies in
@@ -80,7 +80,7 @@ module _ (p : Program) (k : KeepsDemandThree p) where
       image : List ℕ
       image = start level_set_up
 
-      alike : (input : List ℕ) → length input ≡ INPUT_BYTES → answered p image input ≡ c
+      alike : (input : List ℕ) → length input ≡ input_bytes → answered p image input ≡ c
       alike input e =
           r.always image input blank_answer
           (k.outcome image input ∙ ap (λ (c : Called). c.outcome) (tick_done image (plain input) (start_unbroken level_set_up) (e, refl, tt)))

@@ -5,7 +5,7 @@ use Rattle.relay_math.specs.declared.Vec3.{Vec3}
 use Rattle.relay_geo.specs.Vectors.{sanitise3}
 use Rattle.joint_tick.specs.declared.{profile.Profile.{Profile, TheVariants.{Whole, LostRotor}}, state.{TickInput.TickInput, State.State}, stages.{Reference.Reference, Ticked.Ticked}}
 use Rattle.joint_tick.{specs.Tick.{planner_of, guidance, ticked, state_after}, proofs.Shielding.{tick_margin, tick_planner, tick_fallback, planner_is}}
-use Rattle.image.specs.{Layout.{PROFILE, FLAG, MARGIN, INPUT_BYTES, ANSWER_BYTES}, Parts.profile_at, Image.{fixed_at, state_at, image_of}, Inputs.{input_at, answer_of}, Passed.{passed_on, planner_word}}
+use Rattle.image.specs.{Layout.{PROFILE, FLAG, MARGIN, input_bytes, answer_bytes}, Parts.profile_at, Image.{fixed_at, state_at, image_of}, Inputs.{input_at, answer_of}, Passed.{passed_on, planner_word}}
 use Rattle.image.{specs.Fits.F32, proofs.{AnswerWords.{flag_answered, margin_answered, margin_word, command_words_lem}, AnswerFits.{margin_fits, command_fits}}}
 use Rattle.outcome.specs.{declared.Outcome.{Outcome, TheVariants.Done}, Outcomes.{left, lent}}
 use Rattle.lent_tick.{specs.{Unbroken.Unbroken, Tick.{tick_refusal, tick_from}}, proofs.TickLeaves.unbroken_taken}
@@ -46,9 +46,9 @@ unfolding flying tick_call route_call
 flying_is Segment image input answer = refl
 flying_is (Route route) image input answer = refl
 
-not_refused : (c : Course) (image : List ℕ) → Unbroken image → RightCourse c → refusal_on c image INPUT_BYTES ANSWER_BYTES ≡ Done
-not_refused Segment image u r = sym (unbroken_taken image INPUT_BYTES ANSWER_BYTES u refl refl)
-not_refused (Route route) image u r = rw (in_their_turn, ← unbroken_taken image INPUT_BYTES ANSWER_BYTES u refl refl, r)
+not_refused : (c : Course) (image : List ℕ) → Unbroken image → RightCourse c → refusal_on c image input_bytes answer_bytes ≡ Done
+not_refused Segment image u r = sym (unbroken_taken image input_bytes answer_bytes u refl refl)
+not_refused (Route route) image u r = rw (in_their_turn, ← unbroken_taken image input_bytes answer_bytes u refl refl, r)
 
 -- ---- what a tick does
 

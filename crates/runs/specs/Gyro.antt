@@ -3,7 +3,7 @@ use Rattle.std.specs.Prelude.{◌≡◌, Bool, not, List, [], ◌∷◌, ℕ, �
 use Rattle.words.specs.Words.{word, float}
 use Rattle.relay_adrc.specs.Biquad.{passes_through}
 use Rattle.joint_tick.specs.Profile.{is_profile}
-use Rattle.image.specs.Layout.{LPF, BIQUAD_WORDS, IMAGE_BYTES, SETUP_FC, SETUP_FS, SETUP_PROFILE, SETUP_BYTES}
+use Rattle.image.specs.Layout.{LPF, biquad_words, image_bytes, setup_fc, setup_fs, setup_profile, setup_bytes}
 use Rattle.outcome.specs.declared.Outcome.{Outcome}
 use Rattle.outcome.specs.declared.Outcome.TheVariants.{ImageLength, InputLength, BadProfile}
 use Rattle.outcome.specs.Outcomes.{Table, first_of, differs, left_unless, Filled}
@@ -11,14 +11,14 @@ use Rattle.runs.specs.Runs.{start}
 
 -- whether `Biquad::lowpass` turns a set-up's cut-off and sample rate into a pass-through
 abbrev pub unfiltered : List ℕ → Bool
-unfiltered setup = passes_through (float setup SETUP_FC) (float setup SETUP_FS)
+unfiltered setup = passes_through (float setup setup_fc) (float setup setup_fs)
 
 -- set-up before: its table had no 11
 abbrev pub table_before : ℕ → List ℕ → Table
 table_before imageLen setup =
-    (differs imageLen IMAGE_BYTES, ImageLength)
-    ∷ (differs (length setup) SETUP_BYTES, InputLength)
-    ∷ (not (is_profile (word setup SETUP_PROFILE)), BadProfile)
+    (differs imageLen image_bytes, ImageLength)
+    ∷ (differs (length setup) setup_bytes, InputLength)
+    ∷ (not (is_profile (word setup setup_profile)), BadProfile)
     ∷ []
 
 unfoldable pub refusal_before : ℕ → List ℕ → Outcome
@@ -31,8 +31,8 @@ set_up_before image setup = left_unless (refusal_before (length image) setup) (s
 -- where the filter of an axis stands in an image
 pub data Filter : ℕ → Type 0 where
   Roll : Filter LPF
-  Pitch : Filter (LPF + BIQUAD_WORDS)
-  Yaw : Filter (LPF + BIQUAD_WORDS + BIQUAD_WORDS)
+  Pitch : Filter (LPF + biquad_words)
+  Yaw : Filter (LPF + biquad_words + biquad_words)
 
 -- the coefficients of the filter at k are a pass-through's: b0 1.0, and +0.0 for the other four
 pub record Passes (image : List ℕ) (k : ℕ) : Type 0 where

@@ -1,7 +1,7 @@
 -- The words of an image that calls keep, by their numbers. Definitions only.
 use Rattle.std.specs.Prelude.{◌≡◌, Bool, true, ◌&&◌, ◌||◌, List, [], ◌∷◌, ℕ, ◌+◌, ◌<◌, leb, ltb}
 use Rattle.words.specs.Words.{word, canon}
-use Rattle.image.specs.Layout.{COUNT, ENGAGED, GOVERNOR, SEGMENT, RATE, LPF, PROFILE, PEAKS, AXIS_WORDS, BIQUAD_WORDS, ADRC_WORDS, IMAGE_WORDS}
+use Rattle.image.specs.Layout.{COUNT, ENGAGED, GOVERNOR, SEGMENT, RATE, LPF, PROFILE, PEAKS, axis_words, biquad_words, adrc_words, image_words}
 use Rattle.runs.specs.Runs.{Call, Ticks, Exchanges}
 
 -- k is one of n numbers from `first` on
@@ -14,12 +14,12 @@ abbrev pub lasting : ℕ → Bool
 lasting k =
     among COUNT 15 k
     || among (GOVERNOR + 1) 3 k
-    || among (RATE + 5) ADRC_WORDS k
-    || among (RATE + AXIS_WORDS + 5) ADRC_WORDS k
-    || among (RATE + AXIS_WORDS + AXIS_WORDS + 5) ADRC_WORDS k
+    || among (RATE + 5) adrc_words k
+    || among (RATE + axis_words + 5) adrc_words k
+    || among (RATE + axis_words + axis_words + 5) adrc_words k
     || among LPF 5 k
-    || among (LPF + BIQUAD_WORDS) 5 k
-    || among (LPF + BIQUAD_WORDS + BIQUAD_WORDS) 5 k
+    || among (LPF + biquad_words) 5 k
+    || among (LPF + biquad_words + biquad_words) 5 k
     || among PROFILE 1 k
 
 -- Those that no tick changes: 20 to 40 and 96 to 98 too, the segment and its peaks.
@@ -32,11 +32,11 @@ kept_by_exchanges k = lasting k || among ENGAGED 1 k || among RATE 54 k
 
 -- ADRC's third axis, 59 to 67
 abbrev pub third_axis : ℕ → Bool
-third_axis k = among (RATE + AXIS_WORDS + AXIS_WORDS) AXIS_WORDS k
+third_axis k = among (RATE + axis_words + axis_words) axis_words k
 
 -- each of these words is the one before, a NaN made 7fc00000
 abbrev pub SameWords : (ℕ → Bool) → List ℕ → List ℕ → Type 0
-SameWords these before later = (k : ℕ) → k < IMAGE_WORDS → these k ≡ true → word later k ≡ canon (word before k)
+SameWords these before later = (k : ℕ) → k < image_words → these k ≡ true → word later k ≡ canon (word before k)
 
 -- every call of a run keeps word number k
 abbrev pub kept_by_call : Call → ℕ → Bool

@@ -4,7 +4,7 @@ use Rattle.joint_tick.specs.declared.stages.Guided.{Guided}
 use Rattle.joint_tick.specs.declared.stages.Reference.{Reference}
 use Rattle.joint_tick.specs.SetUp.{segment_of, set_up}
 use Rattle.joint_tick.specs.Tick.{guidance}
-use Rattle.image.specs.Layout.{INPUT_BYTES, ANSWER_BYTES}
+use Rattle.image.specs.Layout.{input_bytes, answer_bytes}
 use Rattle.image.specs.Image.{fixed_at, state_at, image_of}
 use Rattle.image.specs.Inputs.{setup_at, input_at}
 use Rattle.outcome.specs.declared.Outcome.TheVariants.{Done}
@@ -88,7 +88,7 @@ RightCourse Segment = Unit
 RightCourse (Route route) = form_refusal route ≡ Done
 
 abbrev pub Right : Tick → Type 0
-Right t = (length t.input ≡ INPUT_BYTES) × (length t.answer ≡ ANSWER_BYTES) × RightCourse t.course
+Right t = (length t.input ≡ input_bytes) × (length t.answer ≡ answer_bytes) × RightCourse t.course
 
 abbrev pub AllRight : List Tick → Type 0
 AllRight [] = Unit

@@ -2,7 +2,7 @@
 use Rattle.std.specs.Prelude.{ℕ, ◌≡◌, ◌↔◌, List, [], ◌∷◌, ◌++◌, length}
 use Rattle.words.specs.Words.{word}
 use Rattle.latch.specs.Latch.{Flies}
-use Rattle.image.specs.Layout.{FLAG, INPUT_BYTES}
+use Rattle.image.specs.Layout.{FLAG, input_bytes}
 use Rattle.calls.specs.Entry.{set_up_call, tick_call}
 use Rattle.calls.specs.Shams.{Program, blank_answer, answered}
 use Rattle.runs.specs.Runs.{Segment, Tick, Call, guided, start, image_after, margins_along}
@@ -18,6 +18,6 @@ pub record KeepsDemandThree (p : Program) : Type 0 where
   pub set_up : (image input : List ℕ) → p.set_up image input ≡ set_up_call image input
   pub outcome : (image input : List ℕ) → (p.tick image input blank_answer).outcome ≡ (tick_call image input blank_answer).outcome
   pub image : (image input : List ℕ) → (p.tick image input blank_answer).later.image ≡ (tick_call image input blank_answer).later.image
-  pub flies : (setup : List ℕ) (calls : List Call) (input : List ℕ) → length input ≡ INPUT_BYTES
+  pub flies : (setup : List ℕ) (calls : List Call) (input : List ℕ) → length input ≡ input_bytes
       → let image = image_after (start setup) calls in
       (word (answered p image input) FLAG ≡ 0) ↔ Flies (enter_of setup) (exit_of setup) (margins_along (start setup) calls ++ (guided image (plain input)).margin ∷ [])

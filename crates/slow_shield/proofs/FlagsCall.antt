@@ -7,7 +7,7 @@ use Rattle.words.specs.Words.{word, float, flag, bytes_of}
 use Rattle.latch.specs.Latch.{FliesAt}
 use Rattle.relay_geo.{specs.{declared.{set.RecoverableSet.RecoverableSet, shield.Thresholds.Thresholds}, Shield.{mend_thresholds, new_shield}}, proofs.SetUp.{enter_finite_positive, enter_below_exit}}
 use Rattle.outcome.{specs.{declared.Outcome.TheVariants.{Done, PassThrough}, Outcomes.{first_of, left}}, proofs.Tables.never_given}
-use Rattle.slow_shield.specs.{Back.{look_back, flags_to, slow_flags}, Entry.{MOST_MARGINS, margins_from, margins_in, flag_bytes, flags_table, flags_call}}
+use Rattle.slow_shield.specs.{Back.{look_back, flags_to, slow_flags}, Entry.{most_margins, margins_from, margins_in, flag_bytes, flags_table, flags_call}}
 use Rattle.slow_shield.specs.Stepping.{StepGiven, margins_given, stepped_flags}
 use Rattle.slow_shield.proofs.{Slow.{slow_flies_at, slow_is_stepping}, Loops.margins_length}
 
@@ -15,11 +15,11 @@ use Rattle.slow_shield.proofs.{Slow.{slow_flies_at, slow_is_stepping}, Loops.mar
 pub mended : (enter exit : Float) {t : Thresholds} → T (fits binary32 enter) → t ≡ mend_thresholds enter exit → (is_finite t.enter ≡ true) × (lt t.enter t.exit ≡ true)
 mended enter exit f e = rw e ((both (is_finite (mend_thresholds enter exit).enter) (lt 0·0 (mend_thresholds enter exit).enter) (enter_finite_positive enter exit)).0, enter_below_exit enter exit f)
 
-module _ (enter exit : Float) (margins flags : List ℕ) (h : length margins ≡ 4 * length flags) (l : length flags ≤ MOST_MARGINS) where
+module _ (enter exit : Float) (margins flags : List ℕ) (h : length margins ≡ 4 * length flags) (l : length flags ≤ most_margins) where
   -- a list of up to 65,535 margins, with as many flags, is taken
   pub taken : flags_call margins enter exit flags ≡ left Done (flag_bytes enter exit margins)
   unfolding flags_call
-  taken = rw (le-ltb MOST_MARGINS (length flags) l, eq-eqb (length margins) (4 * length flags) h)
+  taken = rw (le-ltb most_margins (length flags) l, eq-eqb (length margins) (4 * length flags) h)
 
   -- what the code does where nothing is refused
   pub finished : {t : Thresholds} {later : List ℕ} → t ≡ mend_thresholds enter exit → later ≡ map flag (slow_flags t.enter t.exit (margins_in margins)) → left Done later

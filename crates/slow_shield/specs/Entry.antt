@@ -6,8 +6,8 @@ use Rattle.outcome.specs.declared.Outcome.TheVariants.{NoRoom}
 use Rattle.outcome.specs.Outcomes.{Table, first_of, differs, left_unless, Filled}
 use Rattle.slow_shield.specs.Back.{slow_flags}
 
-abbrev pub MOST_MARGINS : ℕ
-MOST_MARGINS = 65535
+abbrev pub most_margins : ℕ
+most_margins = 65535
 
 -- n margins from word k on, and those of all the bytes
 unfoldable pub margins_from : List ℕ → ℕ → ℕ → List Float
@@ -27,7 +27,7 @@ flag_bytes enter exit margins =
 
 -- "9 if the flag buffer's length differs from the list's or the list is longer than 65,535; no flag is then written"
 abbrev pub flags_table : ℕ → ℕ → Table
-flags_table marginsLen flagsLen = (ltb MOST_MARGINS flagsLen, NoRoom) ∷ (differs marginsLen (4 * flagsLen), NoRoom) ∷ []
+flags_table marginsLen flagsLen = (ltb most_margins flagsLen, NoRoom) ∷ (differs marginsLen (4 * flagsLen), NoRoom) ∷ []
 
 unfoldable pub flags_call : List ℕ → Float → Float → List ℕ → Filled
 unfolding flag_bytes

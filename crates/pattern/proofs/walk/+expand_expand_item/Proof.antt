@@ -1,6 +1,6 @@
 -- `pattern::walk::expand` and `expand_item` call each other: the depth falls, and in the loop the bytes do. Assumes nothing.
 use Rattle.laws.proofs.Prelude.{needs, ◌≡◌, sym, ◌∙◌, ℕ, ◌+◌, ◌-◌, ◌≤◌, ◌<◌, arith, length, slice}
-use Rattle.route.specs.Form.{MOST_LEGS}
+use Rattle.route.specs.Form.{most_legs}
 use Rattle.pattern.specs.{declared.form.Head.Head, Read.{read, head_of}}
 use Rattle.pattern.proofs.ItemByItem.{Item, Turn, Going, going_few, going_start, told, came_up, item_next, leg_fits, repeat_fits, neither_done, leg_done, too_deep, body_broken, repeat_done}
 use Rattle.pattern.proofs.{ItemByItem.{step_broken, step_on, step_end}, walk.+expand_expand_item.{statement, Tie.close}}
@@ -48,7 +48,7 @@ head_is t head e = sym e ∙ head.head_at.ensures
 
 abbrev expand_Inv_loop : expand-lts.invariant-loop
 expand_Inv_loop b from end depth places₀ count at₀ n₀ places at n =
-    (at ≤ end) × (length places ≡ MOST_LEGS) × Going b (read depth (slice from end b)) (read depth (slice at end b)) count places₀ n places
+    (at ≤ end) × (length places ≡ most_legs) × Going b (read depth (slice from end b)) (read depth (slice at end b)) count places₀ n places
 
 abbrev expand_μ_loop : expand-lts.decreases-loop
 expand_μ_loop b from end depth places₀ count at₀ n₀ places at n = end - at

@@ -34,10 +34,10 @@ pub record Formed (route : List ℕ) : Type 0 where
 
 -- a function was asked for the form, and said f (t is whether f is done)
 module _ (route : List ℕ) {f : Outcome} {t : Bool} (e : f ≡ form_refusal route) (d : t ≡ is_done f) where
-  pub formed : not t ≡ false → Formed route
+  pub formed : t ≡ true → Formed route
   unfolding form_refusal
   formed n =
-      let r = done_none (form_table route) refl (ap is_done (sym e) ∙ sym d ∙ not-false t n) in
+      let r = done_none (form_table route) refl (ap is_done (sym e) ∙ sym d ∙ n) in
       let count = leg_count route in
       record {
         trailer = ltb-false (length route) route_trailer_bytes (r 0);

@@ -55,6 +55,6 @@ module _ (route sample : List ℕ) (time : Float) (f : form_refusal route ≡ Do
   pub told_on_route : reference_told (sample_call route time sample).later ≡ on_route route time
   unfolding on_route reference_on
   told_on_route =
-      let k = formed route refl refl (ap (λ (o : Outcome). not (is_done o)) f) in
+      let k = formed route refl refl (ap (λ (o : Outcome). is_done o) f) in
       let s = sample_told route (leg_count route) time k.some k.few in
       rw (sampled_done, s.acc, s.jerk)

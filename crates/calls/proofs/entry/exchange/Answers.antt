@@ -1,5 +1,5 @@
 -- `calls::entry::exchange`: refused as it stands, or read, exchanged and written. Assumes nothing.
-use Rattle.laws.proofs.Prelude.{◌≡◌, Bool, false, not, List, ℕ, length, eq-eqb, ne_eqb, not-true, not-false}
+use Rattle.laws.proofs.Prelude.{true, ◌≡◌, Bool, false, not, List, ℕ, length, eq-eqb, ne_eqb, not-true, not-false}
 use Rattle.joint_tick.specs.declared.state.State.{State}
 use Rattle.joint_tick.specs.declared.state.Leg.{Leg}
 use Rattle.joint_tick.specs.SetUp.{exchange}
@@ -12,12 +12,12 @@ use Rattle.lent_tick.specs.Unbroken.{unbroken}
 use Rattle.calls.specs.Entry.{exchange_call, exchange_refusal}
 use Rattle.calls.proofs.entry.exchange.Goals as goal
 
-exchanged : (image segment : List ℕ) {b : Bool} → length image ≡ image_bytes → length segment ≡ leg_bytes → b ≡ unbroken image → not b ≡ false
+exchanged : (image segment : List ℕ) {b : Bool} → length image ≡ image_bytes → length segment ≡ leg_bytes → b ≡ unbroken image → b ≡ true
     → {held : State} {leg : Leg} {s : State} {later : List ℕ} → held ≡ state_at image → leg ≡ leg_at segment 0 → s ≡ exchange held leg
     → later ≡ image_of record { fixed = s.fixed; moving = record { engaged = s.moving.engaged; governor = s.moving.governor; rate = s.moving.rate; lpf = s.moving.lpf } }
     → left Done later ≡ exchange_call image segment
 unfolding exchange_call exchange_refusal exchange
-exchanged image segment {b} p q e n k g x w = rw (p, q, ← e, not-false b n, w, x, g, k)
+exchanged image segment {b} p q e n k g x w = rw (p, q, ← e, n, w, x, g, k)
 
 pub returns-then-image-ne-IMAGE_BYTES : goal.returns-then-image-ne-IMAGE_BYTES
 unfolding exchange_call exchange_refusal

@@ -83,10 +83,10 @@ module _ (profile : Profile) (enter exit : Float) (o : lt enter exit ≡ true) (
   pub carried : now ≡ look_back enter exit (margins_in rs) (i + 1)
   carried = rw (add-one i) demanded
 
-  pub goes_on : not fine ≡ false → verdict_from profile enter exit rs i (length rs - i) ≡ verdict_from profile enter exit rs (i + 1) (length rs - (i + 1))
+  pub goes_on : fine ≡ true → verdict_from profile enter exit rs i (length rs - i) ≡ verdict_from profile enter exit rs (i + 1) (length rs - (i + 1))
   unfolding verdict_from
-  goes_on e = rw (add-one i, left_over, ← judges, not-false fine e)
+  goes_on e = rw (add-one i, left_over, ← judges, e)
 
-  pub stops : not fine ≡ true → verdict_from profile enter exit rs i (length rs - i) ≡ FirstWrong i
+  pub stops : fine ≡ false → verdict_from profile enter exit rs i (length rs - i) ≡ FirstWrong i
   unfolding verdict_from
-  stops e = rw (left_over, ← judges, not-true fine e)
+  stops e = rw (left_over, ← judges, e)

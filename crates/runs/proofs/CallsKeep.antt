@@ -104,10 +104,10 @@ taken_on (Route route) image inputLen answerLen e =
 
 -- what an accepted tick of either kind leaves, so far as these words go
 module _ (image : List ℕ) (t : Tick) (done : number (tick_of image t).outcome ≡ 0) where
-  abbrev left_by : List ℕ
-  left_by = image_of (state_after (source_on t.course image) (state_at image) (input_at t.input))
+  abbrev left_now : List ℕ
+  left_now = image_of (state_after (source_on t.course image) (state_at image) (input_at t.input))
 
-  accepted_keeps : (these : ℕ → Bool) → (Unbroken image → SameWords these image left_by) → SameWords these image (tick_of image t).later.image
+  accepted_keeps : (these : ℕ → Bool) → (Unbroken image → SameWords these image left_now) → SameWords these image (tick_of image t).later.image
   unfolding tick_from
   accepted_keeps these kept =
       let o = refusal_on t.course image (length t.input) (length t.answer) in

@@ -1,0 +1,11 @@
+use Rattle.laws.proofs.Prelude.{◌≡◌, refl, ◌∙◌, ℕ, ◌-◌, ◌*◌, ◌≤◌, ◌<◌, mul-le-mul, arith, length, take, length-set, sets, slice}
+use Rattle.pattern.specs.Tree.times as rounds
+use Rattle.pattern.specs.Walk.{capped}
+use Rattle.pattern.proofs.Rounds.{capped_below, to_end, rounds_start, rounds_on, rounds_end}
+use Rattle.pattern.proofs.walk.put_rounds.Given as goal
+
+abbrev pub invariant-loop-i : goal.invariant-loop-i
+invariant-loop-i l = (l.to ≤ l.i) × (l.i ≤ l.end) × (length l.places ≡ length l.initial.places) × (l.places ≡ sets l.initial.places l.from (take (l.i - l.from) (rounds l.times (slice l.from l.to l.initial.places))))
+
+abbrev pub decreases-loop-i : goal.decreases-loop-i
+decreases-loop-i l = l.end - l.i

@@ -1,0 +1,7 @@
+
+use Rattle.desk.specs.Filters.{desk_step}
+use Rattle.desk.proofs.filters.step.Goals as goal
+
+pub returns : goal.returns
+unfolding desk_step
+returns c = simp (c.step-zoom.ensures, c.step-turn.ensures, c.step-heading.ensures)

@@ -3,6 +3,7 @@ use Rattle.laws.proofs.Prelude.{refl, ap, List, ℕ}
 use Rattle.outcome.specs.Outcomes.{Left, Lent}
 use Rattle.pattern.specs.Entry.{Buffers}
 use Rattle.laws.proofs.Determined.{OneAnswer, no_second, both}
+use Rattle.fosavalo.specs.contracts as promised
 use Rattle.fosavalo.proofs.fosavalo_version
 use Rattle.fosavalo.proofs.fosavalo_sinf
 use Rattle.fosavalo.proofs.fosavalo_cosf
@@ -19,60 +20,60 @@ use Rattle.fosavalo.proofs.fosavalo_flags
 use Rattle.fosavalo.proofs.fosavalo_log_check
 use Rattle.fosavalo.proofs.fosavalo_pattern_expand
 
-pub fosavalo_version_once : OneAnswer fosavalo_version.ended fosavalo_version.Reads.Post
+pub fosavalo_version_once : OneAnswer promised.fosavalo_version.ended fosavalo_version.Reads.Post
 fosavalo_version_once κs a x y v w p q = (no_second p q, refl)
 
-pub fosavalo_sinf_once : OneAnswer fosavalo_sinf.ended fosavalo_sinf.Reads.Post
+pub fosavalo_sinf_once : OneAnswer promised.fosavalo_sinf.ended fosavalo_sinf.Reads.Post
 fosavalo_sinf_once κs a x y v w p q = (no_second p.1 q.1, refl)
 
-pub fosavalo_cosf_once : OneAnswer fosavalo_cosf.ended fosavalo_cosf.Reads.Post
+pub fosavalo_cosf_once : OneAnswer promised.fosavalo_cosf.ended fosavalo_cosf.Reads.Post
 fosavalo_cosf_once κs a x y v w p q = (no_second p.1 q.1, refl)
 
-pub fosavalo_setup_once : OneAnswer fosavalo_setup.ended fosavalo_setup.Reads.Post
+pub fosavalo_setup_once : OneAnswer promised.fosavalo_setup.ended fosavalo_setup.Reads.Post
 fosavalo_setup_once κs a x y v w p q =
     let e = no_second p q in (ap (λ (f : Left ℕ (List ℕ)). f.outcome) e, both (ap (λ (f : Left ℕ (List ℕ)). f.later) e) refl)
 
-pub fosavalo_exchange_once : OneAnswer fosavalo_exchange.ended fosavalo_exchange.Reads.Post
+pub fosavalo_exchange_once : OneAnswer promised.fosavalo_exchange.ended fosavalo_exchange.Reads.Post
 fosavalo_exchange_once κs a x y v w p q =
     let e = no_second p q in (ap (λ (f : Left ℕ (List ℕ)). f.outcome) e, both (ap (λ (f : Left ℕ (List ℕ)). f.later) e) refl)
 
-pub fosavalo_tick_once : OneAnswer fosavalo_tick.ended fosavalo_tick.Reads.Post
+pub fosavalo_tick_once : OneAnswer promised.fosavalo_tick.ended fosavalo_tick.Reads.Post
 fosavalo_tick_once κs a x y v w p q =
     let e = no_second p q in (ap (λ (c : Left ℕ Lent). c.outcome) e, both (ap (λ (c : Left ℕ Lent). c.later.image) e) (both refl (both (ap (λ (c : Left ℕ Lent). c.later.answer) e) refl)))
 
-pub fosavalo_tick_refusal_once : OneAnswer fosavalo_tick_refusal.ended fosavalo_tick_refusal.Reads.Post
+pub fosavalo_tick_refusal_once : OneAnswer promised.fosavalo_tick_refusal.ended fosavalo_tick_refusal.Reads.Post
 fosavalo_tick_refusal_once κs a x y v w p q = (no_second p q, refl)
 
-pub fosavalo_route_tick_once : OneAnswer fosavalo_route_tick.ended fosavalo_route_tick.Reads.Post
+pub fosavalo_route_tick_once : OneAnswer promised.fosavalo_route_tick.ended fosavalo_route_tick.Reads.Post
 fosavalo_route_tick_once κs a x y v w p q =
     let e = no_second p q in
     (ap (λ (c : Left ℕ Lent). c.outcome) e, both (ap (λ (c : Left ℕ Lent). c.later.image) e) (both refl (both refl (both (ap (λ (c : Left ℕ Lent). c.later.answer) e) refl))))
 
-pub fosavalo_route_sample_once : OneAnswer fosavalo_route_sample.ended fosavalo_route_sample.Reads.Post
+pub fosavalo_route_sample_once : OneAnswer promised.fosavalo_route_sample.ended fosavalo_route_sample.Reads.Post
 fosavalo_route_sample_once κs a x y v w p q =
     let e = no_second p q in (ap (λ (f : Left ℕ (List ℕ)). f.outcome) e, both refl (both refl (both (ap (λ (f : Left ℕ (List ℕ)). f.later) e) refl)))
 
-pub fosavalo_log_append_once : OneAnswer fosavalo_log_append.ended fosavalo_log_append.Reads.Post
+pub fosavalo_log_append_once : OneAnswer promised.fosavalo_log_append.ended fosavalo_log_append.Reads.Post
 fosavalo_log_append_once κs a x y v w p q =
     let e = no_second p q in (ap (λ (f : Left ℕ (List ℕ)). f.outcome) e, both (ap (λ (f : Left ℕ (List ℕ)). f.later) e) refl)
 
-pub fosavalo_log_count_once : OneAnswer fosavalo_log_count.ended fosavalo_log_count.Reads.Post
+pub fosavalo_log_count_once : OneAnswer promised.fosavalo_log_count.ended fosavalo_log_count.Reads.Post
 fosavalo_log_count_once κs a x y v w p q =
     let e = no_second p q in (ap (λ (f : Left ℕ (List ℕ)). f.outcome) e, both refl (both (ap (λ (f : Left ℕ (List ℕ)). f.later) e) refl))
 
-pub fosavalo_log_record_once : OneAnswer fosavalo_log_record.ended fosavalo_log_record.Reads.Post
+pub fosavalo_log_record_once : OneAnswer promised.fosavalo_log_record.ended fosavalo_log_record.Reads.Post
 fosavalo_log_record_once κs a x y v w p q =
     let e = no_second p q in (ap (λ (f : Left ℕ (List ℕ)). f.outcome) e, both refl (both refl (both (ap (λ (f : Left ℕ (List ℕ)). f.later) e) refl)))
 
-pub fosavalo_flags_once : OneAnswer fosavalo_flags.ended fosavalo_flags.Reads.Post
+pub fosavalo_flags_once : OneAnswer promised.fosavalo_flags.ended fosavalo_flags.Reads.Post
 fosavalo_flags_once κs a x y v w p q =
     let e = no_second p q in (ap (λ (f : Left ℕ (List ℕ)). f.outcome) e, both refl (both refl (both refl (both (ap (λ (f : Left ℕ (List ℕ)). f.later) e) refl))))
 
-pub fosavalo_log_check_once : OneAnswer fosavalo_log_check.ended fosavalo_log_check.Reads.Post
+pub fosavalo_log_check_once : OneAnswer promised.fosavalo_log_check.ended fosavalo_log_check.Reads.Post
 fosavalo_log_check_once κs a x y v w p q =
     let e = no_second p q in (ap (λ (f : Left ℕ (List ℕ)). f.outcome) e, both refl (both refl (both refl (both refl (both (ap (λ (f : Left ℕ (List ℕ)). f.later) e) refl)))))
 
-pub fosavalo_pattern_expand_once : OneAnswer fosavalo_pattern_expand.ended fosavalo_pattern_expand.Reads.Post
+pub fosavalo_pattern_expand_once : OneAnswer promised.fosavalo_pattern_expand.ended fosavalo_pattern_expand.Reads.Post
 fosavalo_pattern_expand_once κs a x y v w p q =
     let e = no_second p q in
     (ap (λ (c : Left ℕ Buffers). c.outcome) e, both refl (both (ap (λ (c : Left ℕ Buffers). c.later.route) e) (both (ap (λ (c : Left ℕ Buffers). c.later.written) e) refl)))

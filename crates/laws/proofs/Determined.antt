@@ -2,7 +2,7 @@
 use mathlib.Core.Path.{◌≡◌, sym, ◌∙◌}
 use seplogic.Ra.Ura.{Ura}
 use base.Logic.{SProp}
-use prog.{Memory.Memory, Routine.Routine, Wp.Heap}
+use prog.{Memory.Memory, Routine.Routine}
 use types.Logic.{Logic}
 use contract.{Lifetimes.Lfts, Monad.{Fun, fact}}
 use denote.Triple.{Entry.{Args, Res}, Clauses.{Ended, Lasts, AtExit, at_exit, Clauses}}

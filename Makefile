@@ -19,10 +19,10 @@
 # make choices     the pass with other choices of set, filter and noise: what hangs on them
 # make test        the gate: proofs, must-fail edits, programs, the host's comparisons; its last line is `N passed, 0 failed`.
 #                  What the prover says is kept in gate/. Where an emulator cannot be had it ends with `, M skipped` (docs/PLATFORM.md)
-# make quick       between whole gates: the libraries that changed and those above them are proved, the host takes a tenth of its cases; its last line
-#                  says what it left out
-# make edits       every must-fail edit by the toolchain's own way, each with its whole crate proved anew (some forty minutes); `make edits CRATE=calls`
-#                  has those of one crate
+# make quick       between whole gates: what changed and what stands above it is proved, over what earlier checks kept, the host takes a tenth of its cases;
+#                  its last line says what it left out
+# make edits       every must-fail edit by itself, over the work of a check of its crate: that it is refused at each fact that it names, with all that the prover
+#                  says in target/edits/; `make edits CRATE=calls` has those of one crate, CRATE=calls/NAME one
 # make table       roots, sines and cosines beside the hardware's and document 01's
 # make exhaustive  every f32 (some minutes)
 # make routines    every routine beside the Rust's, ROWS rows of input each: `make routines ROWS=100000000` (without it, the gate's million)
@@ -32,8 +32,8 @@
 # make bench       times, as ratios to the other side in one run; `make bench BEFORE=../old/libfosavalo.a` has an earlier archive's tick beside ours;
 #                  that archive has to be for this machine
 # make stack       the stack that each C call takes, painted and looked at on the compiled archive
-# make core        proves the core and the desk above it and makes their archives for this machine and for x86-64, libfosavalo.a and libfosavalo_desk.a in
-#                  target/staticlib/TARGET/; where nothing changed, nothing is proved
+# make core        proves the core and the desk above it and makes their archives for this machine, libfosavalo.a and libfosavalo_desk.a in
+#                  target/staticlib/x86_64-linux/; where nothing changed, nothing is proved
 # make archives    these, and this machine's archive of the test face
 # make targets     the archives of all five targets, of the same proved modules, and each driven with the same calls: x86-64, aarch64, riscv64, Cortex-M
 #                  and WebAssembly. What runs another machine's code is installed as gnuplot is (INSTALL=no)
@@ -44,7 +44,7 @@
 #                  to copy (docs/CONFORMANCE.md)
 # make docs        the safe crates' pages, host/target/doc/fosavalo/index.html and fosavalo_desk beside it
 # make map         MAP.md, PROMISES.md, STATEMENTS.md and EDITS.md of crates/ anew, from the sources
-# make clean       removes all that was built, and no flight
+# make clean       removes all that was built and what checks have kept, and no flight
 # make help        these lines, as `make` alone
 .DEFAULT_GOAL := help
 .PHONY: fly log explain check review expand choices test quick edits table archives targets core exhaustive routines ticks answers bench stack dist kit docs map clean help
@@ -92,7 +92,7 @@ quick:
 	@tools/gate quick
 
 edits:
-	@tools/edits --plain $(CRATE)
+	@tools/edits $(CRATE)
 
 core:
 	@$(CORE)
@@ -137,7 +137,7 @@ map:
 	@$(HOST) run --release --offline --quiet --bin pages
 
 clean:
-	rm -rf target host/target gate dist examples/c/joint examples/rust/target python/__pycache__
+	rm -rf target host/target gate dist examples/c/joint examples/rust/target python/__pycache__ crates/*/out
 
 help:
 	@sed -n 's/^# //p; /^\.PHONY/q' Makefile

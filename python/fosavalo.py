@@ -58,7 +58,7 @@ _MEANINGS = (
 
 class Refusal(Exception):
     """Why a call was refused: `number`, or None where the core was not called; `meaning` in words; and `leg`, of number 7 where a Route is made, the leg that does
-    not start where the one before it ends, counted from 0. Of 2, 9 and 12, which several faults share, `meaning` is the one that the call met."""
+    not start where the one before it ends, counted from 0."""
 
     def __init__(self, number, meaning=None, leg=None):
         self.number, self.leg = number, leg
@@ -71,47 +71,10 @@ class Refusal(Exception):
         return _MEANINGS[number] if 0 <= number < len(_MEANINGS) else "a number that this version has no words for"
 
     @staticmethod
-    def check(number, own=None):
-        """Raises the refusal of a call's number, unless it is 0. Where several faults share the number, `own` has for it what tells which one it is."""
+    def check(number):
+        """Raises the refusal of a call's number, unless it is 0."""
         if number != 0:
-            raise Refusal(number, own[number]() if own and number in own else None)
-
-
-# ---- what is told of a fault that shares its number with others; None where nothing is found
-
-
-def _input_of(words, wanted):
-    return {2: lambda: None if len(words) == wanted else f"the input is {len(words)} bytes long, not {wanted}"}
-
-
-# of a repeat: its tag, its count and the length of what it holds
-_HEAD_BYTES, _MOST_HELD = 4, 65535
-
-
-def _count_fault(at, count):
-    return f"the repeat at byte {at} of the pattern has a count of {count}, which is not 1 to 9"
-
-
-def _pattern_fault(data, at=0, end=None, inside=0):
-    """The first fault in the bytes of a pattern from `at` to `end`, which stand inside so many repeats."""
-    end = len(data) if end is None else end
-    while at < end:
-        tag, left = data[at], end - at
-        if tag > 1:
-            return f"the item at byte {at} of the pattern begins with {tag}, which is neither 0, a leg, nor 1, a repeat"
-        needs = 1 + LEG_BYTES if tag == 0 else _HEAD_BYTES + (int.from_bytes(data[at + 2 : at + 4], "little") if left >= _HEAD_BYTES else 0)
-        if left < needs:
-            return f"the item at byte {at} of the pattern needs {needs} bytes, and {left} are left for it"
-        if tag == 1:
-            if not 1 <= data[at + 1] <= 9:
-                return _count_fault(at, data[at + 1])
-            if inside == DEEPEST_REPEAT:
-                return f"the repeat at byte {at} of the pattern stands inside {inside} others, and repeats stand {inside} deep at most"
-            within = _pattern_fault(data, at + _HEAD_BYTES, at + needs, inside + 1)
-            if within:
-                return within
-        at += needs
-    return None
+            raise Refusal(number)
 
 
 class Pilot(enum.IntEnum):
@@ -228,7 +191,7 @@ class _Words:
         """Refused where these are too few or too many."""
         data = _bytes(data)
         if len(data) != _size(cls):
-            Refusal.check(cls._refusal, _input_of(data, _size(cls)))
+            raise Refusal(cls._refusal)
         return _take(cls, data, 0)
 
 
@@ -541,10 +504,10 @@ def check_floats():
         raise Refusal(None, "the floating-point environment of this thread does not round to nearest, or does not keep subnormal numbers")
 
 
-def _filled(length, call, own=None):
+def _filled(length, call):
     """What a call writes into a buffer of this length."""
     data = bytearray(length)
-    Refusal.check(call(data), own)
+    Refusal.check(call(data))
     return bytes(data)
 
 
@@ -570,14 +533,7 @@ def slow_flags(margins, enter, exit):
     """Who flies at each of these margins, found by looking back from each; the thresholds are mended as at set-up."""
     check_floats()
     words = _bytes(margins) if isinstance(margins, (bytes, bytearray)) else b"".join(_put(float, margin, f"margins[{k}]") for k, margin in enumerate(margins))
-    count = len(words) // 4
-
-    def fault():
-        if len(words) % 4:
-            return f"the margins are {len(words)} bytes long, and each takes 4"
-        return f"there are {count} margins, and the most are {MOST_MARGINS}" if count > MOST_MARGINS else None
-
-    return [Pilot(flag) for flag in _filled(count, lambda flags: calls().flags(words, enter, exit, flags), {9: fault})]
+    return [Pilot(flag) for flag in _filled(len(words) // 4, lambda flags: calls().flags(words, enter, exit, flags))]
 
 
 class _Held:
@@ -613,25 +569,24 @@ class Image(_Held):
     def set_up(cls, set_up):
         check_floats()
         words = _given(SetUp, set_up, "set_up")
-        return cls(_filled(IMAGE_BYTES, lambda image: calls().setup(image, words), _input_of(words, SETUP_BYTES)))
+        return cls(_filled(IMAGE_BYTES, lambda image: calls().setup(image, words)))
 
     def tick(self, input):
         """One tick."""
         check_floats()
         words = _given(TickInput, input, "input")
-        return Answer.from_bytes(_filled(ANSWER_BYTES, lambda answer: calls().tick(self._data, words, answer), _input_of(words, TICK_BYTES)))
+        return Answer.from_bytes(_filled(ANSWER_BYTES, lambda answer: calls().tick(self._data, words, answer)))
 
     def route_tick(self, input, route):
         """One tick toward a route in place of the image's segment."""
         check_floats()
         words, legs = _given(TickInput, input, "input"), _route_bytes(route)
-        return Answer.from_bytes(_filled(ANSWER_BYTES, lambda answer: calls().route_tick(self._data, words, legs, answer), _input_of(words, TICK_BYTES)))
+        return Answer.from_bytes(_filled(ANSWER_BYTES, lambda answer: calls().route_tick(self._data, words, legs, answer)))
 
     def exchange(self, segment):
         """Another segment in flight: the time starts again, who flies goes on."""
         check_floats()
-        words = _given(Leg, segment, "segment")
-        Refusal.check(calls().exchange(self._data, words), _input_of(words, LEG_BYTES))
+        Refusal.check(calls().exchange(self._data, _given(Leg, segment, "segment")))
 
     def check(self):
         """Refused where a tick would be, for the image."""
@@ -739,17 +694,14 @@ class Pattern:
     def repeat(self, count, inner):
         if not isinstance(inner, Pattern):
             raise _wrong("inner", "a Pattern", inner)
-        at, holds = len(self._data), len(inner._data)
-        if _whole(count, "count", 32) > 255:
-            raise Refusal(12, _count_fault(at, count))
-        if holds > _MOST_HELD:
-            raise Refusal(12, f"the repeat at byte {at} of the pattern holds {holds} bytes, and the most are {_MOST_HELD}")
+        if _whole(count, "count", 32) > 255 or len(inner._data) > 65535:
+            raise Refusal(12)
         return self._add(bytes([1, count]) + len(inner._data).to_bytes(2, "little") + inner._data)
 
     def _add(self, items):
         # items behind a pattern make one if they are one by themselves; that is judged before the room for a route, of which there is none
         if calls().pattern_expand(items, bytearray(), bytearray(4)) == 12:
-            raise Refusal(12, _pattern_fault(self._data + items))
+            raise Refusal(12)
         self._data += items
         return self
 
@@ -793,8 +745,7 @@ class Log:
         number = calls().log_append(self._data, end, *words)
         if number != 0:
             del self._data[end:]
-            # there is room for a record
-            Refusal.check(number, {**_input_of(words[0], TICK_BYTES), 9: lambda: f"the log has {MOST_RECORDS} records, and takes no more"})
+        Refusal.check(number)
 
     def __len__(self):
         return _word(_filled(4, lambda count: calls().log_count(self._data, count)), 0)
@@ -949,7 +900,7 @@ class Desk(_Held):
         if not isinstance(image, Image):
             raise _wrong("image", "an Image", image)
         flown, answer = bytearray(_given(TickInput, input, "input")), bytearray(ANSWER_BYTES)
-        Refusal.check(call(self._data, _given(Sticks, sticks, "sticks"), image._data, flown, *route, answer), _input_of(flown, TICK_BYTES))
+        Refusal.check(call(self._data, _given(Sticks, sticks, "sticks"), image._data, flown, *route, answer))
         if isinstance(input, TickInput):
             input.yaw, input.yaw_rate = _number(flown, 8), _number(flown, 9)
         elif isinstance(input, bytearray):

@@ -501,55 +501,6 @@ def routes():
     same((fosavalo.sinf(NAN), fosavalo.cosf(0.0), fosavalo.cosf(8192.001)), (0.0, 1.0, 0.0))
 
 
-def faults():
-    """each fault has its own sentence, as in Rust"""
-    wanted = dict(line.split(": ", 1) for line in text("host/fosavalo/tests/faults.txt").splitlines())
-    leg, image = bytes(77), Image.set_up(SetUp())
-    one = lambda: Pattern.from_bytes(leg)
-
-    def full():
-        log = Log()
-        for _ in range(65536):
-            log.append(bytes(68), bytes(40))
-
-    said = {
-        "a tick's input": [
-            lambda: image.tick(bytes(67)),
-            lambda: image.route_tick(bytes(67), Route([Leg()])),
-            lambda: TickInput.from_bytes(bytes(67)),
-            lambda: Desk.from_bytes(bytes(60)).tick(Sticks(), image, bytearray(67)),
-        ],
-        "a set-up": [lambda: Image.set_up(bytes(205)), lambda: SetUp.from_bytes(bytes(205))],
-        "a leg": [lambda: image.exchange(b""), lambda: Leg.from_bytes(b"")],
-        "a record's input": [lambda: Log().append(bytes(108), bytes(40)), lambda: LogSeries().append(bytes(108), bytes(40))],
-        "a full log": [full],
-        "many margins": [lambda: fosavalo.slow_flags([1.0] * 65536, 0.5, 1.0), lambda: fosavalo.slow_flags(bytes(4 * 65536), 0.5, 1.0)],
-        "margins cut": [lambda: fosavalo.slow_flags(bytes(7), 0.5, 1.0)],
-        "a tag": [lambda: Pattern.from_bytes(leg + bytes([1, 9, 0, 0, 2]) + leg)],
-        "a count": [lambda: Pattern.from_bytes(bytes([1, 10, 0, 0]))],
-        "a repeat's count": [lambda: one().repeat(0, Pattern())],
-        "a depth": [lambda: Pattern.from_bytes(bytes([1, 9, 16, 0, 1, 9, 12, 0, 1, 9, 8, 0, 1, 9, 4, 0, 1, 9, 0, 0]))],
-        "a leg cut": [lambda: Pattern.from_bytes(bytes([1, 9, 40, 0]) + bytes(40) + leg)],
-        "a repeat cut": [lambda: Pattern.from_bytes(leg + bytes([1, 9, 0, 1, 0, 0]))],
-        "a repeat's head cut": [lambda: Pattern.from_bytes(bytes([1, 9, 0]))],
-        "a repeat that holds too much": [lambda: one().repeat(1, Pattern.from_bytes(leg * 852))],
-        "a route's pattern": [lambda: Pattern.from_bytes(b"\xff")],
-    }
-    same({name: [str(raised(Refusal, call)) for call in calls] for name, calls in said.items()}, {name: [wanted[name]] * len(said.get(name, [])) for name in wanted})
-    # a count that no byte holds, too
-    raised(Refusal, lambda: one().repeat(256, Pattern()), "the repeat at byte 77 of the pattern has a count of 256, which is not 1 to 9")
-    # what the core calls broken is told of, whatever it is
-    dice, broken = random.Random(12), 0
-    for _ in range(3000):
-        data = bytes(dice.choice([0, 1, 1, 2, 4, 8, 0, 9, 10]) for _ in range(dice.randrange(12)))
-        if fosavalo.calls().pattern_expand(data, bytearray(), bytearray(4)) == 12:
-            error = raised(Refusal, lambda: Pattern.from_bytes(data))
-            assert re.match(r"refused \(12\): the (item|repeat) at byte \d+ of the pattern ", str(error)), error
-            broken += 1
-    assert broken > 1000
-    return f"{len(wanted)} sentences, {broken} broken patterns"
-
-
 def desk():
     """the desk"""
     stick = Stick(2.0, 3.1, 0.5)
@@ -628,7 +579,7 @@ def versions():
         assert ask(room).startswith(f"{library} cannot be loaded: "), ask(room)
 
 
-for check in (constants, places, words, ticks, cut_anywhere, full_logs, series, seams, routes, faults, desk, mistakes, floats_asked, versions):
+for check in (constants, places, words, ticks, cut_anywhere, full_logs, series, seams, routes, desk, mistakes, floats_asked, versions):
     group(check)
 print(f"{counts['passed']} passed, {counts['failed']} failed")
 sys.exit(counts["failed"] != 0)

@@ -18,7 +18,7 @@ export const RECORD_BYTES: 108;
 export const LOG_TRAILER_BYTES: 12;
 export const MOST_RECORDS: 65535;
 /** The most that a LogSeries puts into a log. */
-export const MOST_IN_SERIES: 65534;
+export const IN_SERIES_MOST: 65534;
 export const MOST_MARGINS: 65535;
 export const LOG_RIGHT: 0xffffffff;
 export const DESK_BYTES: 60;
@@ -29,15 +29,14 @@ export const STICKS_BYTES: 12;
 export class Refusal extends Error {
     readonly name: 'Refusal';
     readonly number: number;
-    /** Of 2, 9 and 12, which several faults share, the one that the call met. */
     readonly meaning: string;
     /** Of number 7 where a Route is made: the leg that does not start where the one before it ends, counted from 0. Else null. */
     readonly leg: number | null;
-    constructor(number: number, leg?: number | null, meaning?: string);
+    constructor(number: number, leg?: number | null);
     /** What a call's number means, in words. */
     static meaning(number: number): string;
-    /** Throws the refusal of a call's number, unless it is 0; with the words that `own` has for that number. */
-    static check(number: number, own?: { readonly [number: number]: () => string | undefined }): void;
+    /** Throws the refusal of a call's number, unless it is 0. */
+    static check(number: number): void;
 }
 
 /** Whose rate command is flown: the flag's 0 and 1. */

@@ -12,7 +12,7 @@ export const [IMAGE_BYTES, SETUP_BYTES, TICK_BYTES, ANSWER_BYTES] = [396, 204, 6
 export const [LEG_BYTES, ROUTE_TRAILER_BYTES, MOST_LEGS, SAMPLE_BYTES, DEEPEST_REPEAT] = [76, 8, 32, 52, 4];
 export const [RECORD_BYTES, LOG_TRAILER_BYTES, MOST_RECORDS, MOST_MARGINS, LOG_RIGHT] = [108, 12, 65535, 65535, 0xffffffff];
 /** What a LogSeries puts into a log, one fewer than fit: so each can be checked behind one record more. */
-export const MOST_IN_SERIES = MOST_RECORDS - 1;
+export const IN_SERIES_MOST = MOST_RECORDS - 1;
 export const [DESK_BYTES, DESK_SETUP_BYTES, STICKS_BYTES] = [60, 36, 12];
 
 const MEANINGS = [
@@ -38,40 +38,15 @@ const MEANINGS = [
 ];
 
 export class Refusal extends Error {
-    constructor(number, leg = null, own = undefined) {
-        const meaning = own ?? (leg === null ? Refusal.meaning(number) : `leg ${leg + 1} of the route does not start where leg ${leg} ends`);
+    constructor(number, leg = null) {
+        const meaning = leg === null ? Refusal.meaning(number) : `leg ${leg + 1} of the route does not start where leg ${leg} ends`;
         super(`refused (${number}): ${meaning}`);
         Object.assign(this, { name: 'Refusal', number, meaning, leg });
     }
 
     static meaning(number) { return MEANINGS[number] ?? 'a number that this version has no words for'; }
-    /** Where several faults share the number, `own` has for it what tells which one it is. */
-    static check(number, own = {}) { if (number !== 0) throw new Refusal(number, null, own[number]?.()); }
+    static check(number) { if (number !== 0) throw new Refusal(number); }
 }
-
-// What is told of a fault that shares its number with others; undefined where nothing is found.
-const inputOf = (bytes, wanted) => ({ 2: () => (bytes.length === wanted ? undefined : `the input is ${bytes.length} bytes long, not ${wanted}`) });
-const countFault = (at, count) => `the repeat at byte ${at} of the pattern has a count of ${count}, which is not 1 to 9`;
-const HEAD_BYTES = 4; // of a repeat: its tag, its count and the length of what it holds
-const MOST_HELD = 65535;
-/** The first fault in the bytes of a pattern from `at` to `end`, which stand inside so many repeats. */
-const patternFault = (bytes, at = 0, end = bytes.length, inside = 0) => {
-    while (at < end) {
-        const [tag, count, low, high] = bytes.subarray(at, end);
-        if (tag > 1) return `the item at byte ${at} of the pattern begins with ${tag}, which is neither 0, a leg, nor 1, a repeat`;
-        const needs = tag === 0 ? 1 + LEG_BYTES : HEAD_BYTES + (high === undefined ? 0 : low + 256 * high);
-        const left = end - at;
-        if (left < needs) return `the item at byte ${at} of the pattern needs ${needs} bytes, and ${left} are left for it`;
-        if (tag === 1) {
-            if (count < 1 || count > 9) return countFault(at, count);
-            const most = DEEPEST_REPEAT;
-            if (inside === most) return `the repeat at byte ${at} of the pattern stands inside ${most} others, and repeats stand ${most} deep at most`;
-            const within = patternFault(bytes, at + HEAD_BYTES, at + needs, inside + 1);
-            if (within !== undefined) return within;
-        }
-        at += needs;
-    }
-};
 
 // Arguments: each of these hands on what is right, and says of anything else by its name what it has to be.
 const told = (x) => {
@@ -185,7 +160,7 @@ class Words extends Held {
 const struct = (name, sample, refusal, more) => Object.freeze({
     toBytes: (value) => written(sample, value, name),
     fromBytes(bytes) {
-        if (typed(Uint8Array, bytes, 'bytes').length !== sizeOf(sample)) Refusal.check(refusal, inputOf(bytes, sizeOf(sample)));
+        if (typed(Uint8Array, bytes, 'bytes').length !== sizeOf(sample)) throw new Refusal(refusal);
         return take(sample, viewOf(bytes), 0);
     },
     ...more,
@@ -294,9 +269,9 @@ const load = async (source, what, prefix, table) => {
 };
 
 /** What a call writes into a buffer of this length. */
-const filled = (length, call, own) => {
+const filled = (length, call) => {
     const bytes = new Uint8Array(length);
-    Refusal.check(call(bytes), own);
+    Refusal.check(call(bytes));
     return bytes;
 };
 
@@ -314,12 +289,7 @@ export class Core {
     slowFlags(margins, enter, exit) {
         need(margins instanceof Uint8Array || isList(margins), margins, 'margins', 'an array');
         const words = margins instanceof Uint8Array ? margins : written(Array(margins.length).fill(0), margins, 'margins');
-        const count = words.length >> 2;
-        const fault = () => {
-            if (words.length % 4 !== 0) return `the margins are ${words.length} bytes long, and each takes 4`;
-            return count > MOST_MARGINS ? `there are ${count} margins, and the most are ${MOST_MARGINS}` : undefined;
-        };
-        const flags = filled(count, (flags) => this.calls.flags(words, enter, exit, flags), { 9: fault });
+        const flags = filled(words.length >> 2, (flags) => this.calls.flags(words, enter, exit, flags));
         return Array.from(flags, (flag) => PILOTS[flag]);
     }
 }
@@ -334,27 +304,19 @@ export class Image extends Held {
 
     static setUp(core, setUp) {
         const { calls } = typed(Core, core, 'core');
-        const words = given(SetUp, setUp);
-        return new Image(core, filled(IMAGE_BYTES, (image) => calls.setup(image, words), inputOf(words, SETUP_BYTES)));
+        return new Image(core, filled(IMAGE_BYTES, (image) => calls.setup(image, given(SetUp, setUp))));
     }
 
     tick(input) {
-        const words = given(TickInput, input);
-        return Answer.fromBytes(filled(ANSWER_BYTES, (answer) => this.#calls.tick(own(this), words, answer), inputOf(words, TICK_BYTES)));
+        return Answer.fromBytes(filled(ANSWER_BYTES, (answer) => this.#calls.tick(own(this), given(TickInput, input), answer)));
     }
 
     routeTick(input, route) {
         const legs = route instanceof Uint8Array ? route : own(typed(Route, route, 'route'));
-        const words = given(TickInput, input);
-        const call = (answer) => this.#calls.routeTick(own(this), words, legs, answer);
-        return Answer.fromBytes(filled(ANSWER_BYTES, call, inputOf(words, TICK_BYTES)));
+        return Answer.fromBytes(filled(ANSWER_BYTES, (answer) => this.#calls.routeTick(own(this), given(TickInput, input), legs, answer)));
     }
 
-    exchange(leg) {
-        const words = given(Leg, leg);
-        Refusal.check(this.#calls.exchange(own(this), words), inputOf(words, LEG_BYTES));
-    }
-
+    exchange(leg) { Refusal.check(this.#calls.exchange(own(this), given(Leg, leg))); }
     check() { Refusal.check(this.#calls.tickRefusal(own(this), TICK_BYTES, ANSWER_BYTES)); }
     get enter() { return floatAt(own(this), 13); }
     get exit() { return floatAt(own(this), 14); }
@@ -386,7 +348,7 @@ export class Route extends Held {
     static expand(core, pattern) {
         const { calls } = typed(Core, core, 'core');
         const bytes = new Uint8Array(MOST_LEGS * LEG_BYTES + ROUTE_TRAILER_BYTES);
-        const length = wordAt(filled(4, (length) => calls.patternExpand(pattern, bytes, length), { 12: () => patternFault(pattern) }), 0);
+        const length = wordAt(filled(4, (length) => calls.patternExpand(pattern, bytes, length)), 0);
         return new Route(core, bytes.subarray(0, length));
     }
 
@@ -403,18 +365,15 @@ export class Pattern {
     leg(leg) { return this.#add([0], Leg.toBytes(leg)); }
     repeat(count, inner) {
         const { length } = typed(Pattern, inner, 'inner').#bytes;
-        if (NUMBERS.u32(count, 'count') > 255) throw new Refusal(12, null, countFault(this.#bytes.length, count));
-        const holds = `the repeat at byte ${this.#bytes.length} of the pattern holds ${length} bytes, and the most are ${MOST_HELD}`;
-        if (length > MOST_HELD) throw new Refusal(12, null, holds);
+        if (NUMBERS.u32(count, 'count') > 255 || length > 65535) throw new Refusal(12);
         return this.#add([1, count, length & 255, length >> 8], inner.#bytes);
     }
 
     #add(...parts) {
         // items behind a pattern make one if they are one by themselves; that is judged before the room for a route, of which there is none
         const items = concat(...parts);
-        const [number, all] = [this.#core.calls.patternExpand(items, new Uint8Array(0), new Uint8Array(4)), concat(this.#bytes, items)];
-        if (number === 12) throw new Refusal(12, null, patternFault(all));
-        this.#bytes = all;
+        if (this.#core.calls.patternExpand(items, new Uint8Array(0), new Uint8Array(4)) === 12) throw new Refusal(12);
+        this.#bytes = concat(this.#bytes, items);
         return this;
     }
 
@@ -446,12 +405,7 @@ export class Log {
             this.#buffer = longer;
         }
         const buffer = new Part(this.#buffer.subarray(0, end), [this.#end - LOG_TRAILER_BYTES, end]);
-        const words = given(TickInput, input);
-        Refusal.check(this.#calls.logAppend(buffer, this.#end, words, given(Answer, answer)), {
-            ...inputOf(words, TICK_BYTES),
-            // there is room for a record
-            9: () => `the log has ${MOST_RECORDS} records, and takes no more`,
-        });
+        Refusal.check(this.#calls.logAppend(buffer, this.#end, given(TickInput, input), given(Answer, answer)));
         this.#end = end;
     }
 
@@ -483,7 +437,7 @@ export class LogSeries {
     constructor(core) { [this.#core, this.#logs] = [core, [new Log(core)]]; }
     append(input, answer) {
         const last = this.#logs.at(-1);
-        if (last.length < MOST_IN_SERIES) return last.append(input, answer);
+        if (last.length < IN_SERIES_MOST) return last.append(input, answer);
         const next = new Log(this.#core);
         next.append(input, answer);
         this.#logs.push(next);
@@ -566,7 +520,7 @@ export class Desk extends Held {
     #fly(call, sticks, image, input, ...route) {
         const [desk, held] = [this.asBytes(), typed(Image, image, 'image').asBytes()];
         const [flown, answer] = [new Uint8Array(given(TickInput, input)), new Uint8Array(ANSWER_BYTES)];
-        Refusal.check(call(desk, given(Sticks, sticks), held, flown, ...route, answer), inputOf(flown, TICK_BYTES));
+        Refusal.check(call(desk, given(Sticks, sticks), held, flown, ...route, answer));
         // the input first: one that is frozen throws here, and nothing has changed
         if (input instanceof Uint8Array) input.set(flown);
         else Object.assign(input, { yaw: floatAt(flown, 8), yawRate: floatAt(flown, 9) });

@@ -64,7 +64,7 @@ const threes = [...headers.matchAll(/#define FOSAVALO_(\w+)\((?:axis|stick)\) \(
 threes.forEach(([, name, first = '0', each]) => (defined[name] = [0, 1, 2].map((k) => Number(first) + k * Number(each))));
 
 await group("the headers' numbers", () => {
-    const names = Object.keys(fosavalo).filter((name) => /_(BYTES|LEGS|RECORDS|MARGINS|REPEAT|RIGHT)$/.test(name) || /^MOST_(?!IN_SERIES)/.test(name));
+    const names = Object.keys(fosavalo).filter((name) => /_(BYTES|LEGS|RECORDS|MARGINS|REPEAT|RIGHT)$/.test(name) || /^MOST_/.test(name));
     assert.equal(names.length, 17);
     names.forEach((name) => assert.equal(fosavalo[name], defined[name], name));
     assert.equal(fosavalo.VERSION, ['MAJOR', 'MINOR', 'PATCH'].map((part) => defined[`VERSION_${part}`]).join('.'));
@@ -650,54 +650,6 @@ await group('a log of 65,535 records, and memory', () => {
     assert.deepEqual(Log.fromBytes(core, wrong).check('whole', 0.5, 1), { right: false, wrongAt: 65534 });
     assert.equal(memory.buffer.byteLength, large, 'a second such log takes no more');
     return `${small >> 10} KiB, with the log ${large >> 10} KiB`;
-});
-
-await group('each fault has its own sentence, as in Rust', async () => {
-    const wanted = (await text('host/fosavalo/tests/faults.txt')).trim().split('\n').map((line) => line.match(/^(.*?): (.*)$/).slice(1));
-    const pattern = (...parts) => Pattern.fromBytes(core, Uint8Array.from(parts.flatMap((part) => [...part])));
-    const [leg, image, empty] = [bytes(77), Image.setUp(core, quad), new Pattern(core)];
-    const full = () => {
-        const log = new Log(core);
-        for (let k = 0; k <= 65535; k++) log.append(bytes(68), bytes(40));
-    };
-    const told = (call) => {
-        try {
-            return call();
-        } catch (error) {
-            return error instanceof Refusal && error.message === `refused (${error.number}): ${error.meaning}` ? error.message : error;
-        }
-    };
-    const said = {
-        "a tick's input": [() => image.tick(bytes(67)), () => image.routeTick(bytes(67), routeBytes([rest])), () => TickInput.fromBytes(bytes(67)),
-            () => Desk.fromBytes(deskCore, bytes(60)).tick(Sticks.default(), image, bytes(67))],
-        'a set-up': [() => Image.setUp(core, bytes(205)), () => SetUp.fromBytes(bytes(205))],
-        'a leg': [() => image.exchange(bytes(0)), () => Leg.fromBytes(bytes(0))],
-        "a record's input": [() => new Log(core).append(bytes(108), bytes(40)), () => new LogSeries(core).append(bytes(108), bytes(40))],
-        'a full log': [full],
-        'many margins': [() => core.slowFlags(Array(65536).fill(1), 0.5, 1), () => core.slowFlags(bytes(4 * 65536), 0.5, 1)],
-        'margins cut': [() => core.slowFlags(bytes(7), 0.5, 1)],
-        'a tag': [() => pattern(leg, [1, 9, 0, 0, 2], leg)],
-        'a count': [() => pattern([1, 10, 0, 0])],
-        "a repeat's count": [() => pattern(leg).repeat(0, empty)],
-        'a depth': [() => pattern([1, 9, 16, 0], [1, 9, 12, 0], [1, 9, 8, 0], [1, 9, 4, 0], [1, 9, 0, 0])],
-        'a leg cut': [() => pattern([1, 9, 40, 0], leg.slice(37), leg)],
-        'a repeat cut': [() => pattern(leg, [1, 9, 0, 1, 0, 0])],
-        "a repeat's head cut": [() => pattern([1, 9, 0])],
-        'a repeat that holds too much': [() => pattern(leg).repeat(1, pattern(bytes(77 * 852)))],
-        "a route's pattern": [() => Route.expand(core, bytes(1, 255))],
-    };
-    assert.deepEqual(Object.fromEntries(Object.entries(said).map(([name, calls]) => [name, calls.map(told)])),
-        Object.fromEntries(wanted.map(([name, sentence]) => [name, said[name]?.map(() => sentence)])));
-    // a count that no byte holds, too
-    assert.match(told(() => pattern(leg).repeat(256, empty)), /byte 77 of the pattern has a count of 256, which is not 1 to 9$/);
-    // what is broken by the core is told of, whatever it is; number and meaning alone stay as they were
-    let state = 12345;
-    const next = () => (state = (Math.imul(state, 1103515245) + 12345) >>> 0) >>> 16;
-    const broken = Array.from({ length: 3000 }, () => Uint8Array.from({ length: next() % 12 }, () => [0, 1, 1, 2, 4, 8, 0, 9, 10][next() % 9]))
-        .filter((data) => core.calls.patternExpand(data, bytes(0), bytes(4)) === 12);
-    broken.forEach((data) => assert.match(told(() => Pattern.fromBytes(core, data)), /^refused \(12\): the (item|repeat) at byte \d+ of the pattern /));
-    assert.ok(broken.length > 1000);
-    return `${wanted.length} sentences, ${broken.length} broken patterns`;
 });
 
 /** A record's bytes: its flag, its margin and the word of its command's first part; all else is 0. */

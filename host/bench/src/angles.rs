@@ -1,9 +1,9 @@
 //! Sine and cosine beside relay's own f32 kernels.
 
-use crate::machine::Bars;
-use crate::tries::{Held, Report, Taken, Tries};
+use crate::tries::{row, Bar, Taken};
 use crate::Rng;
 use compare::numbers::LIMIT;
+use compare::println;
 use std::hint::black_box;
 use std::time::Instant;
 
@@ -58,13 +58,16 @@ fn once(f: impl Fn(f32) -> f32, headings: &[f32], calls: Calls) -> f64 {
 
 /// The two sides taking turns.
 fn turns(ours: impl Fn(f32) -> f32, theirs: impl Fn(f32) -> f32, headings: &[f32], calls: Calls) -> [Taken; 2] {
-    let mut tries = Tries::new();
-    (0..TRIES).for_each(|_| tries.push([once(&ours, black_box(headings), calls), once(&theirs, black_box(headings), calls)]));
-    tries.taken()
+    let (mut a, mut b) = (Vec::with_capacity(TRIES), Vec::with_capacity(TRIES));
+    for _ in 0..TRIES {
+        a.push(once(&ours, black_box(headings), calls));
+        b.push(once(&theirs, black_box(headings), calls));
+    }
+    [a, b].map(Taken::of)
 }
 
-/// The rows. Relay's kernels are floats, ours whole numbers, whose products take longer on Arm: the bars are of x86-64.
-pub fn rows(report: &mut Report, rng: &mut Rng) {
+/// The rows; false where one is over its bar.
+pub fn rows(rng: &mut Rng) -> bool {
     let ours = |x| {
         let (s, c) = archives::sincos(x);
         s + c
@@ -77,18 +80,15 @@ pub fn rows(report: &mut Report, rng: &mut Rng) {
     let mut within = |size: f64| (0..HEADINGS).map(|_| ((rng.draw() - 0.5) * 2.0 * size) as f32).collect::<Vec<f32>>();
     let (turn, near, limit) = (within(std::f64::consts::PI), within(128.0), within(LIMIT.into()));
     let slow: Vec<f32> = (0..HEADINGS).map(|k| 0.3 + k as f32 * 1e-5).collect();
-    report.head("Sine and cosine beside relay's kernels");
-    for (name, headings, barred) in
-        [("±pi", turn, true), ("±128", near, true), ("±8192", limit, true), ("a heading that turns slowly", slow, false)]
-    {
-        let mut row = |what: &str, taken, bar| {
-            let bars = if barred { Bars::x86_64(bar) } else { Bars::NONE };
-            report.beside(&format!("{what} beside relay's, {name}"), taken, Held::Both, bars);
-        };
+    println!("sine and cosine, against relay's kernels: median / least");
+    let mut good = true;
+    for (name, headings, barred) in [("±pi", turn, true), ("±128", near, true), ("±8192", limit, true), ("a heading that turns slowly", slow, false)] {
+        let bar = |bar: f64| if barred { Bar::Both(bar) } else { Bar::None };
         let h = &headings;
-        row("sine", turns(archives::sinf, |x| theirs::sinf(x), h, Calls::Apart), 0.6);
-        row("cosine", turns(archives::cosf, |x| theirs::cosf(x), h, Calls::Apart), 0.6);
-        row("pair", turns(ours, theirs, h, Calls::Apart), 0.7);
-        row("pair in a chain", turns(ours, theirs, h, Calls::Chained), 0.85);
+        good &= row(&format!("sine, {name}"), turns(archives::sinf, |x| theirs::sinf(x), h, Calls::Apart), bar(0.6));
+        good &= row(&format!("cosine, {name}"), turns(archives::cosf, |x| theirs::cosf(x), h, Calls::Apart), bar(0.6));
+        good &= row(&format!("pair, {name}"), turns(ours, theirs, h, Calls::Apart), bar(0.7));
+        good &= row(&format!("pair in a chain, {name}"), turns(ours, theirs, h, Calls::Chained), bar(0.85));
     }
+    good
 }

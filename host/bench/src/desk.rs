@@ -1,9 +1,7 @@
 //! The desk tick beside the core's own tick of the input that the desk flies.
 
-use super::joint::{Page, Run};
-use super::machine::Bars;
+use super::joint::Run;
 use super::stack;
-use super::tries::Tries;
 use compare::desk::{DESK, DESK_SETUP, STICKS};
 use compare::joint::bytes::{put, ANSWER, TICK};
 use compare::joint::guide::{Guide, MIXED};
@@ -12,7 +10,7 @@ use std::hint::black_box;
 use std::time::Instant;
 
 /// How many plain ticks a desk tick may take.
-pub const BAR: Bars = Bars::all(1.25);
+pub const BAR: f64 = 1.25;
 
 const TRIES: usize = 201;
 
@@ -33,36 +31,36 @@ fn sticks(tick: usize) -> Sticks {
     sticks
 }
 
-/// Adds to the tries the nanoseconds of a desk tick and of a plain one on the same inputs, in turn; the desk tick's stack, where it can be measured. None
-/// where a call is refused or the two answer differently.
-pub fn visit(run: &Run, tries: &mut Tries<2>) -> Option<Option<usize>> {
+/// Nanoseconds of a desk tick and of a plain one on the same inputs, the least of many tries in turn; and the desk tick's stack, where it can be measured.
+pub type Times = ((f64, f64), Option<usize>);
+
+/// None where a call is refused or the two answer differently.
+pub fn times(run: &Run) -> Option<Times> {
     let desk = set_up()?;
     let moved: Vec<Sticks> = (0..run.inputs.len()).map(sticks).collect();
     let flown = flown(run, desk, &moved)?;
-    let mut page = Page((run.start, [0; ANSWER], desk));
-    let (image, answer, held) = &mut page.0;
+    let mut least = (f64::INFINITY, f64::INFINITY);
     for _ in 0..TRIES {
         // the input is written: the same words each time, so that it need not be copied
-        let mut inputs = flown.clone();
-        (*image, *held) = (run.start, desk);
+        let (mut held, mut image, mut inputs, mut answer) = (desk, run.start, flown.clone(), [0; ANSWER]);
         let start = Instant::now();
         for (input, sticks) in inputs.iter_mut().zip(black_box(&moved)) {
-            black_box(calls::tick(held, sticks, image, input, answer));
+            black_box(calls::tick(&mut held, sticks, &mut image, input, &mut answer));
             black_box(&answer);
         }
-        let ours = start.elapsed().as_nanos() as f64 / flown.len() as f64;
-        *image = run.start;
-        let start = Instant::now();
+        least.0 = least.0.min(start.elapsed().as_nanos() as f64 / flown.len() as f64);
+        let (mut image, start) = (run.start, Instant::now());
         for input in black_box(&flown) {
-            black_box(archives::tick(image, input, answer));
+            black_box(archives::tick(&mut image, input, &mut answer));
             black_box(&answer);
         }
-        tries.push([ours, start.elapsed().as_nanos() as f64 / flown.len() as f64]);
+        least.1 = least.1.min(start.elapsed().as_nanos() as f64 / flown.len() as f64);
     }
     let (mut held, mut image, mut input, mut answer) = (desk, run.start, *flown.first()?, [0; ANSWER]);
-    Some(stack::depth(&mut || {
+    let depth = stack::depth(&mut || {
         black_box(calls::tick(&mut held, &sticks(1), &mut image, &mut input, &mut answer));
-    }))
+    });
+    Some((least, depth))
 }
 
 /// The inputs as the desk flies them, each beside a plain tick of it.

@@ -1,13 +1,13 @@
 //! The joint tick beside relay as it is flown: its modules on the kernels that it publishes, where `joint` has them on our sine and cosine.
 
 use super::joint::{self, ours, published, Input, OnBytes, Run};
-use super::machine::Bars;
-use super::tries::{Held, Report, Taken};
+use super::tries::{row, Bar, Taken};
 use compare::generate::{self, Kind, Part, Rng};
 use compare::joint::bytes::{float, raw, word, ANSWER, TICK};
 use compare::joint::model::Profile;
 use compare::joint::pilot::Pilot;
 use compare::numbers::LIMIT;
+use compare::println;
 use std::hint::black_box;
 use std::sync::atomic::{AtomicBool, Ordering::Relaxed};
 use std::thread;
@@ -45,11 +45,11 @@ fn random() -> Run {
     joint::run(Pilot::on_a_pass(Profile::Whole, PASS), TICKS, any)
 }
 
-fn runs() -> [(&'static str, Run, Bars); 3] {
+fn runs() -> [(&'static str, Run, Bar); 3] {
     [
-        ("slow pass", pass(Profile::Whole), Bars::x86_64(0.62).n1(0.57)),
-        ("random inputs", random(), Bars::all(0.7)),
-        ("slow pass with a rotor lost", pass(Profile::LostRotor), Bars::NONE.n1(0.6)),
+        ("slow pass", pass(Profile::Whole), Bar::Median(0.65)),
+        ("random inputs", random(), Bar::Median(0.7)),
+        ("slow pass, rotor lost", pass(Profile::LostRotor), Bar::None),
     ]
 }
 
@@ -94,21 +94,23 @@ fn beside_a_busy_core(work: impl FnOnce()) {
     });
 }
 
-/// The rows. The bars are for a machine that does nothing else.
-pub fn rows(report: &mut Report) {
-    let runs = runs();
-    report.head("Joint tick beside relay as it is flown, bytes to bytes");
-    for (name, run, bars) in &runs {
+/// The rows; false where one is over its bar. The bars are for a machine that does nothing else.
+pub fn rows() -> bool {
+    let (runs, mut good) = (runs(), true);
+    println!("joint tick, against relay as it is flown, bytes to bytes: median / least");
+    for (name, run, bar) in &runs {
         if !(joint::alike(run) && near(run)) {
-            report.wrong(&format!("tick beside relay, {name}: the sides answer differently"));
+            println!("{name}: the sides answer differently");
+            good = false;
         }
-        report.beside(&format!("tick beside relay, {name}"), times(run), Held::Median, *bars);
+        good &= row(name, times(run), *bar);
     }
     beside_a_busy_core(|| {
         for (name, run, _) in &runs {
-            report.beside(&format!("tick beside relay, {name}, core busy"), times(run), Held::Median, Bars::NONE);
+            row(&format!("{name}, beside a busy core"), times(run), Bar::None);
         }
     });
+    good
 }
 
 #[cfg(test)]

@@ -83,7 +83,7 @@ pub trait Side {
 }
 
 /// A call on an image's bytes, which begin a line of the cache: no row hangs on where they happen to lie.
-#[repr(C, align(64))]
+#[repr(align(64))]
 pub struct OnBytes<F>(pub Image, pub F);
 
 impl<F: Fn(&mut Image, &Input, &mut Answer)> Side for OnBytes<F> {
@@ -136,32 +136,24 @@ impl Side for Kept {
     }
 }
 
-/// The C calls of an earlier archive, on an image of its own length: before request Seven that was 96 words, before request Six 95.
+/// The C call of an earlier archive, on an image of its own length: before request Seven that was 96 words, before request Six 95.
 #[cfg(before)]
-#[repr(C, align(64))]
-pub struct Before {
+struct Before {
     image: Image,
     len: usize,
 }
 
 #[cfg(before)]
 impl Before {
-    pub fn new(start: &Image, input: &Input) -> Self {
-        let mut before = Before { image: *start, len: IMAGE };
+    fn new(run: &Run) -> Self {
+        let mut before = Before { image: run.start, len: IMAGE };
         for words in [99, 96, 95] {
             before.len = 4 * words;
-            if before.call(input, &mut [0; ANSWER]) != 1 {
+            if before.call(&run.inputs[0], &mut [0; ANSWER]) != 1 {
                 break;
             }
         }
         before
-    }
-
-    /// Its own image for this one.
-    pub fn own(&self, start: &Image) -> Image {
-        let mut image = *start;
-        put(&mut image, 0, (self.len / 4) as u32);
-        image
     }
 
     fn call(&mut self, input: &Input, answer: &mut Answer) -> u32 {
@@ -172,41 +164,13 @@ impl Before {
         // SAFETY: each pointer goes with its own buffer's length, and all three live until the call is over.
         unsafe { fosavalo_tick_before(image.as_mut_ptr(), image.len(), input.as_ptr(), TICK, answer.as_mut_ptr(), ANSWER) }
     }
-
-    pub fn route_tick(&self, image: &mut Image, input: &Input, route: &[u8], answer: &mut Answer) -> u32 {
-        extern "C" {
-            fn fosavalo_route_tick_before(
-                image: *mut u8,
-                image_len: usize,
-                input: *const u8,
-                input_len: usize,
-                route: *const u8,
-                route_len: usize,
-                answer: *mut u8,
-                answer_len: usize,
-            ) -> u32;
-        }
-        let (image, n) = (&mut image[..self.len], route.len());
-        // SAFETY: alike, of four.
-        unsafe {
-            fosavalo_route_tick_before(
-                image.as_mut_ptr(),
-                image.len(),
-                input.as_ptr(),
-                TICK,
-                route.as_ptr(),
-                n,
-                answer.as_mut_ptr(),
-                ANSWER,
-            )
-        }
-    }
 }
 
 #[cfg(before)]
 impl Side for Before {
     fn begin(&mut self, start: &Image) {
-        self.image = self.own(start);
+        self.image = *start;
+        put(&mut self.image, 0, (self.len / 4) as u32);
     }
 
     fn tick(&mut self, input: &Input, answer: &mut Answer) {
@@ -214,22 +178,22 @@ impl Side for Before {
     }
 }
 
-/// Nanoseconds a tick of many short tries, the sides taking turns.
+/// Nanoseconds a tick: ours, theirs made from bytes, theirs kept. The least of many short tries, the sides taking turns, for a
+/// machine that does other things as well only ever adds.
 pub struct Times {
-    pub ours: Taken,
-    /// The Rust's objects made from the bytes, and kept.
-    pub made: Taken,
-    pub kept: Taken,
+    pub ours: f64,
+    pub made: f64,
+    pub kept: f64,
     /// An earlier archive's, where there is one.
-    pub before: Option<Taken>,
+    pub before: Option<f64>,
 }
 
 pub fn times(run: &Run) -> Times {
     let mut sides: Vec<Box<dyn Side>> = vec![Box::new(OnBytes(run.start, ours)), Box::new(OnBytes(run.start, made)), Box::new(Kept(None))];
     #[cfg(before)]
-    sides.push(Box::new(Before::new(&run.start, &run.inputs[0])));
-    let taken = turns(&mut sides, run, TRIES);
-    Times { ours: taken[0], made: taken[1], kept: taken[2], before: taken.get(3).copied() }
+    sides.push(Box::new(Before::new(run)));
+    let least: Vec<f64> = turns(&mut sides, run, TRIES).iter().map(|taken| taken.least).collect();
+    Times { ours: least[0], made: least[1], kept: least[2], before: least.get(3).copied() }
 }
 
 /// Nanoseconds a tick of each side, taking turns slice by slice of the run: the mean over the slices of what each took.
@@ -247,15 +211,11 @@ pub fn turns(sides: &mut [Box<dyn Side>], run: &Run, tries: usize) -> Vec<Taken>
     taken.into_iter().map(|slices| Taken::mean(slices.into_iter().map(Taken::of))).collect()
 }
 
-/// What begins a page: the stack of a call below it then begins at the same place of one each time, and no row hangs on where that happens to lie.
-#[repr(align(4096))]
-pub struct Page<T>(pub T);
-
 /// And of one side once.
 fn once(side: &mut dyn Side, inputs: &[Input]) -> f64 {
-    let (mut answer, start) = (Page([0; ANSWER]), Instant::now());
+    let (mut answer, start) = ([0; ANSWER], Instant::now());
     for input in black_box(inputs) {
-        side.tick(input, &mut answer.0);
+        side.tick(input, &mut answer);
         black_box(&answer);
     }
     start.elapsed().as_nanos() as f64 / inputs.len() as f64

@@ -1,8 +1,6 @@
 //! The flight log's calls on logs of different lengths: appending takes the same time on each, and reading a log goes with its length. The check of the
 //! longest log beside reading each of its records once.
 
-use super::machine::Bars;
-use super::tries::{turns, Taken};
 use compare::audit::{AGILE, COMMAND, FLAG, MARGIN, RIGHT};
 use compare::joint::bytes::{put, ANSWER, TICK};
 use compare::log::{model, ARCHIVE, MOST, RECORD, TRAILER};
@@ -12,9 +10,8 @@ use std::time::Instant;
 /// How many records the logs have.
 pub const COUNTS: [usize; 3] = [1, 1_000, MOST];
 
-/// What an append may take, and the reading of a record, ns.
-pub const APPEND: Bars = Bars::x86_64(10.0).n1(11.0);
-pub const READ: Bars = Bars::x86_64(7.0).n1(9.0);
+/// What an append may take, ns.
+pub const BAR: f64 = 15.0;
 
 const TRIES: usize = 101;
 const CALLS: usize = 4096;
@@ -25,16 +22,27 @@ fn log(count: usize) -> Vec<u8> {
     model::written(&vec![&record[..]; count])
 }
 
-/// Nanoseconds of the append that makes a log of so many records, at each count; and of a record, where all are read one after another. The counts take
-/// turns. None where a call is refused.
-pub fn times() -> Option<[[Taken; COUNTS.len()]; 2]> {
-    let mut logs = COUNTS.map(log);
-    let once = || {
-        let [a, b, c] = &mut logs;
-        Some([append(a)?, append(b)?, append(c)?, read(a)?, read(b)?, read(c)?])
-    };
-    let [a, b, c, x, y, z] = turns(TRIES, once)?;
-    Some([[a, b, c], [x, y, z]])
+/// Nanoseconds a call at each count, the least of many tries, the counts taking turns.
+pub struct Times {
+    /// Of the append that makes a log of so many records.
+    pub append: [f64; COUNTS.len()],
+    /// Of a record, where all are read one after another.
+    pub read: [f64; COUNTS.len()],
+}
+
+/// None where a call is refused.
+pub fn times() -> Option<Times> {
+    let least = [f64::INFINITY; COUNTS.len()];
+    let (mut times, mut logs) = (Times { append: least, read: least }, COUNTS.map(log));
+    for _ in 0..TRIES {
+        for (at, log) in logs.iter_mut().enumerate() {
+            times.append[at] = times.append[at].min(append(log)?);
+        }
+        for (at, log) in logs.iter().enumerate() {
+            times.read[at] = times.read[at].min(read(log)?);
+        }
+    }
+    Some(times)
 }
 
 /// The last record appended again and again: before each call the trailer that it overwrites is put back, twelve bytes at every length.
@@ -76,12 +84,16 @@ pub const FLOWN: [(&str, Flag); 2] = [
     ("hands change at random", |at| (at as u32).wrapping_mul(0x9e37_79b9).rotate_left(15).wrapping_mul(0x85eb_ca6b) >> 31),
 ];
 
-/// Of each, nanoseconds a record: of the check, and of reading them one after another, all taking turns. None where a call is refused or a verdict is
-/// another.
-pub fn checked() -> Option<[[Taken; 2]; FLOWN.len()]> {
-    let [far, near] = FLOWN.map(|(_, flag)| right(flag));
-    let [a, b, x, y] = turns(TRIES, || Some([check(&far)?, read(&far)?, check(&near)?, read(&near)?]))?;
-    Some([[a, b], [x, y]])
+/// Of each, nanoseconds a record: of the check, and of reading them one after another; the least of many tries, all taking turns. None where a call is
+/// refused or a verdict is another.
+pub fn checked() -> Option<[[f64; 2]; FLOWN.len()]> {
+    let (mut least, logs) = ([[f64::INFINITY; 2]; FLOWN.len()], FLOWN.map(|(_, flag)| right(flag)));
+    for _ in 0..TRIES {
+        for (least, log) in least.iter_mut().zip(&logs) {
+            *least = [least[0].min(check(log)?), least[1].min(read(log)?)];
+        }
+    }
+    Some(least)
 }
 
 /// The longest log, of right records with these flags.

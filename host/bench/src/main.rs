@@ -6,7 +6,6 @@ mod desk;
 mod flown;
 mod joint;
 mod log;
-mod machine;
 mod pattern;
 mod route;
 mod slow;
@@ -14,11 +13,9 @@ mod stack;
 mod tries;
 
 use compare::println;
-use machine::{Bars, Machine};
 use std::hint::black_box;
 use std::process::ExitCode;
 use std::time::Instant;
-use tries::{Held, Report, Tries, WIDTH};
 
 /// The other side's calls, kept out of line as ours are.
 mod theirs {
@@ -35,8 +32,8 @@ const CALLS: usize = 4096;
 const ROUNDS: usize = 60;
 const TRIES: usize = 101;
 
-/// Adds to the tries the nanoseconds that one call takes, the two sides taking turns.
-fn pair(ours: impl Fn(f32) -> f32, theirs: impl Fn(f32) -> f32, inputs: &[f32], tries: &mut Tries<2>) {
+/// The least over many tries of the nanoseconds that one call takes, the two sides taking turns: what else the machine does only adds.
+fn pair(ours: impl Fn(f32) -> f32, theirs: impl Fn(f32) -> f32, inputs: &[f32]) -> (f64, f64) {
     let once = |f: &dyn Fn(&[f32]) -> f32| {
         let start = Instant::now();
         for _ in 0..ROUNDS {
@@ -47,7 +44,7 @@ fn pair(ours: impl Fn(f32) -> f32, theirs: impl Fn(f32) -> f32, inputs: &[f32], 
     // independent calls: no call waits for the answer of the one before it
     let a = |xs: &[f32]| xs.iter().fold(0.0f32, |last, &x| if ours(x) == -7.0 { x } else { last });
     let b = |xs: &[f32]| xs.iter().fold(0.0f32, |last, &x| if theirs(x) == -7.0 { x } else { last });
-    (0..TRIES).for_each(|_| tries.push([once(&a), once(&b)]));
+    (0..TRIES).fold((f64::INFINITY, f64::INFINITY), |least, _| (once(&a).min(least.0), once(&b).min(least.1)))
 }
 
 /// Numbers in 0..1, the same every time.
@@ -60,78 +57,117 @@ impl Rng {
     }
 }
 
+fn line(name: &str, (ours, theirs): (f64, f64), bar: f64) -> bool {
+    let ratio = ours / theirs;
+    let verdict = if ratio <= bar { "within" } else { "OVER" };
+    println!("{name:48} ours {ours:6.2} ns  other {theirs:6.2} ns  ratio {ratio:5.2}  ({verdict} the bar of {bar})");
+    ratio <= bar
+}
+
+/// The same with no bar.
+fn free(name: &str, (ours, theirs): (f64, f64)) {
+    println!("{name:48} ours {ours:6.2} ns  other {theirs:6.2} ns  ratio {:5.2}  (no bar)", ours / theirs);
+}
+
 /// The longest log beside the shortest: what goes with the length would be thousands of times as much. A bar leaves room for what the longest
-/// log, seven megabytes, costs the memory. At each length there is a bar in nanoseconds too.
-fn logs(report: &mut Report) {
-    let Some([append, read]) = log::times() else {
-        return report.wrong("flight log: a call is refused");
+/// log, seven megabytes, costs the memory. An append has a bar in nanoseconds too, at each length.
+fn logs() -> bool {
+    let Some(times) = log::times() else {
+        println!("flight log: a call is refused");
+        return false;
     };
-    for (name, times, bars, longest) in [("append", append, log::APPEND, 1.5), ("a record read", read, log::READ, 3.0)] {
-        for (count, taken) in log::COUNTS.iter().zip(times) {
-            report.alone(&format!("flight log, {name}, {count} in it"), "ns", taken, Held::Least, bars);
-        }
-        let [one, _, most] = times;
-        report.beside(&format!("flight log, {name}, the longest beside one"), [most, one], Held::Least, Bars::all(longest));
+    let mut good = true;
+    for (name, times, bar, longest) in [("append", times.append, 1.5, Some(log::BAR)), ("read, a record", times.read, 3.0, None)] {
+        let [one, thousand, most] = times;
+        let (ratio, [_, _, count]) = (most / one, log::COUNTS);
+        let within = ratio <= bar && longest.is_none_or(|longest| times.iter().all(|&time| time <= longest));
+        let verdict = if within { "within" } else { "OVER" };
+        let bars = longest.map_or(format!("bar of {bar}"), |longest| format!("bars of {bar} and {longest} ns"));
+        println!(
+            "{:48} 1: {one:5.2} ns  1000: {thousand:5.2} ns  {count}: {most:5.2} ns  ratio {ratio:5.2}  ({verdict} the {bars})",
+            format!("flight log, {name}, by the records in it")
+        );
+        good &= within;
     }
+    good
 }
 
 /// The check of the longest log, beside reading each of its records once.
-fn checks(report: &mut Report) {
+fn checks() -> bool {
     let Some(times) = log::checked() else {
-        return report.wrong("log check: a call is refused, or a verdict is wrong");
+        println!("log check: a call is refused, or a verdict is wrong");
+        return false;
     };
-    for ((flown, _), times) in log::FLOWN.into_iter().zip(times) {
-        report.beside(&format!("log check, a record, beside its reading, {flown}"), times, Held::Least, Bars::all(3.0));
+    let mut good = true;
+    for ((flown, _), [ours, read]) in log::FLOWN.into_iter().zip(times) {
+        good &= line(&format!("log check, a record, {flown}"), (ours, read), 3.0);
     }
+    good
 }
 
 /// The route tick by the legs of the route and the leg flown, beside the Rust's calls on the same legs.
-fn routes(report: &mut Report) {
-    let pass = joint::pass();
-    let Some(times) = route::times(&pass) else {
-        return report.wrong("route tick: the sides answer differently");
+fn routes() -> bool {
+    let Some(times) = route::times(&joint::pass()) else {
+        println!("route tick: the sides answer differently");
+        return false;
     };
-    for ((legs, flown, bars), [ours, theirs, no_joins, plain]) in route::CASES.into_iter().zip(times) {
-        let name = format!("route tick, leg {} of {legs}", flown + 1);
-        report.beside(&format!("{name}, beside Rust from the bytes"), [ours, theirs], Held::Least, Bars::all(1.0));
-        report.beside(&format!("{name}, beside Rust that compares no joins"), [ours, no_joins], Held::Least, Bars::NONE);
-        report.beside(&format!("{name}, beside a plain tick"), [ours, plain], Held::Least, bars);
+    let mut good = true;
+    for ((legs, flown), [ours, theirs, no_joins, plain]) in route::CASES.into_iter().zip(times) {
+        good &= line(&format!("route tick, leg {} of {legs}, Rust from the bytes", flown + 1), (ours, theirs), 1.0);
+        free("  .. and Rust that compares no joins", (ours, no_joins));
+        let name = "  .. and a plain tick";
+        if legs == 1 {
+            good &= line(name, (ours, plain), route::BAR);
+        } else {
+            free(name, (ours, plain));
+        }
     }
-    #[cfg(before)]
-    match route::beside_before(&pass) {
-        Some(times) => report.beside("route tick, leg 1 of 1, beside the archive before", times, Held::Least, route::NOT_SLOWER),
-        None => report.wrong("route tick: a call is refused"),
-    }
+    good
 }
 
 /// The slow shield's longest search, and the longest list with none.
-fn slow_shield(report: &mut Report) {
+fn slow_shield() -> bool {
     let Some([far, near]) = slow::times() else {
-        return report.wrong("slow shield: a call is refused, or a flag is wrong");
+        println!("slow shield: a call is refused, or a flag is wrong");
+        return false;
     };
-    report.alone("slow shield, 65,535 margins that look far back", "s", far, Held::Least, slow::BAR);
-    report.alone("slow shield, 65,535 margins that do not look back", "ms", near, Held::Least, Bars::NONE);
+    let (name, within) = ("slow shield, 65,535 margins", far <= slow::BAR);
+    let verdict = if within { "within" } else { "OVER" };
+    println!("{name:48} far back: {far:5.2} s  not at all: {:5.2} ms  ({verdict} the bar of {} s)", near * 1e3, slow::BAR);
+    within
 }
 
-/// The desk tick, and its stack.
-fn desks(report: &mut Report, tries: Tries<2>, depths: &[Option<Option<usize>>]) {
-    let Some(depths) = depths.iter().copied().collect::<Option<Vec<_>>>() else {
-        return report.wrong("desk tick: a call is refused, or the sides answer differently");
+/// The desk tick, and its stack: the least of visits that are seconds apart.
+fn desks(visits: &[Option<desk::Times>]) -> bool {
+    let Some(visits) = visits.iter().copied().collect::<Option<Vec<_>>>() else {
+        println!("desk tick: a call is refused, or the sides answer differently");
+        return false;
     };
-    report.beside("desk tick, beside a plain tick of what it flies", tries.taken(), Held::Least, desk::BAR);
-    if let Some(depth) = depths.into_iter().flatten().max() {
-        report.stack("desk tick, its stack", depth, stack::BAR);
-    }
+    let never = (f64::INFINITY, f64::INFINITY);
+    let times = visits.iter().fold(never, |least, (now, _)| (least.0.min(now.0), least.1.min(now.1)));
+    let depth = visits.iter().filter_map(|(_, depth)| *depth).max();
+    let within = line("desk tick, against a plain tick of what it flies", times, desk::BAR);
+    let shallow = depth.map(|depth| {
+        println!("{:48} {depth:6} B   (the bar is {} B)", "  .. and the stack that one takes", stack::BAR);
+        depth <= stack::BAR
+    });
+    within && shallow.unwrap_or(true)
 }
 
 /// The patterns that would take longest if a body were walked as often as it is flown.
-fn patterns(report: &mut Report) {
-    let Some(times) = pattern::times() else {
-        return report.wrong("pattern: another number is said");
+fn patterns() -> bool {
+    let Some([alone, beside, about]) = pattern::times() else {
+        println!("pattern: another number is said");
+        return false;
     };
-    for ((name, taken), bars) in ["alone", "between legs", "about a leg flown 27 times"].iter().zip(times).zip(pattern::BARS) {
-        report.alone(&format!("pattern, 16,381 empty repeats, {name}"), "ms", taken, Held::Least, bars);
-    }
+    let within = alone.max(beside) <= pattern::BAR;
+    println!(
+        "{:48} alone: {alone:5.3} ms  between legs: {beside:5.3} ms  ({} the bar of {} ms)  about a leg flown 27 times: {about:5.3} ms  (no bar)",
+        "pattern, 16,381 empty repeats in three of 9",
+        if within { "within" } else { "OVER" },
+        pattern::BAR
+    );
+    within
 }
 
 /// The stack of each call, the most over a slow pass, one with random headings, one with a rotor lost and one with a NaN in its image.
@@ -157,9 +193,7 @@ fn stacks() -> bool {
     good
 }
 
-const USAGE: &str =
-    "bench          times, as ratios to the other side in one run, with the bars of this machine; ends with 1 where a row that is
-               not disturbed is over its bar
+const USAGE: &str = "bench          times, as ratios to the other side in one run; ends with 1 where one is over its bar
 bench stack    the stack that each C call takes
 bench --help   this";
 
@@ -181,58 +215,60 @@ fn main() -> ExitCode {
     ExitCode::from(u8::from(!good))
 }
 
-/// Every row; whether none is over its bar, those left out that are disturbed.
+/// Every row; whether each is within its bar.
 fn all() -> bool {
-    let mut report = Report::on(Machine::here());
     let mut rng = Rng(1);
     let positive: Vec<f32> = (0..CALLS).map(|_| (rng.draw() * 1000.0) as f32).collect();
-    // Visits with the ticks between them: what disturbs the machine for a second or two meets one of them only.
-    let mut root = Tries::new();
-    let mut visit = || pair(archives::sqrtf, |x| theirs::sqrtf(x), &positive, &mut root);
-    flown::rows(&mut report);
+    // Three visits, with the ticks between them: what disturbs the machine for a second or two meets one of them only.
+    let mut least = (f64::INFINITY, f64::INFINITY);
+    let mut visit = || {
+        let now = pair(archives::sqrtf, |x| theirs::sqrtf(x), &positive);
+        least = (least.0.min(now.0), least.1.min(now.1));
+    };
+    let mut good = flown::rows();
     visit();
-    report.head("Calls beside the Rust's, which have our sine and cosine, and beside one another");
-    let mut whole = None;
+    let mut whole = f64::INFINITY;
     for (name, run) in [("slow pass", joint::pass()), ("headings", joint::headings()), (LOST, joint::lost_rotor())] {
-        let name = format!("joint tick, {name}");
         if !joint::alike(&run) {
-            report.wrong(&format!("{name}: the sides answer differently"));
+            println!("joint tick, {name}: the sides answer differently");
+            good = false;
         }
         let times = joint::times(&run);
-        // with a rotor lost no sine nor cosine and fewer roots, of which our time is made
-        let lost = name.ends_with(LOST);
-        let bars = if lost { Bars::NONE } else { Bars::all(0.7) };
-        report.beside(&format!("{name}, beside Rust made from the image"), [times.ours, times.made], Held::Least, bars);
-        report.beside(&format!("{name}, beside Rust with its objects kept"), [times.ours, times.kept], Held::Least, Bars::NONE);
-        let whole = *whole.get_or_insert(times.ours);
-        if lost {
-            report.beside(&format!("{name}, beside a slow pass with all"), [times.ours, whole], Held::Least, Bars::NONE);
+        let made = format!("joint tick, {name}, Rust made from the image");
+        if name == LOST {
+            // no sine nor cosine and fewer roots, of which our time is made
+            free(&made, (times.ours, times.made));
+            good &= line("  .. and with all rotors, the quicker of both", (times.ours, whole), 0.6);
+        } else {
+            good &= line(&made, (times.ours, times.made), 0.7);
+            whole = whole.min(times.ours);
         }
-        if let Some(before) = times.before.filter(|_| !lost) {
-            report.beside(&format!("{name}, beside the archive before"), [times.ours, before], Held::Least, Bars::NONE);
+        free("  .. and Rust with its objects kept", (times.ours, times.kept));
+        if let Some(before) = times.before.filter(|_| name != LOST) {
+            free("  .. and the archive before", (times.ours, before));
         }
         match joint::stacks(&run) {
-            Some(depths) => {
-                report.stack(&format!("{name}, its stack"), depths[joint::TICKED], stack::BAR);
-                println!("{:WIDTH$} {} B", format!("{name}, the Rust's stack"), depths[joint::RUST]);
-            }
-            None => println!("{name}, its stack: not measured on this machine"),
+            Some(depths) => println!(
+                "{:48} ours {:6} B   other {:6} B",
+                "  .. and the stack that one tick takes",
+                depths[joint::TICKED],
+                depths[joint::RUST]
+            ),
+            None => println!("  .. and the stack that one tick takes: not measured on this machine"),
         }
         visit();
     }
-    // the hardware's root is far quicker on Arm: beside it a bar says nothing there
-    report.beside("root, beside the hardware's", root.taken(), Held::Least, Bars::x86_64(1.9));
-    let (pass, mut desk) = (joint::pass(), Tries::new());
-    let mut depths = vec![desk::visit(&pass, &mut desk)];
-    angles::rows(&mut report, &mut rng);
-    depths.push(desk::visit(&pass, &mut desk));
-    report.head("Routes, logs, the desk, margins and patterns");
-    routes(&mut report);
-    logs(&mut report);
-    checks(&mut report);
-    depths.push(desk::visit(&pass, &mut desk));
-    desks(&mut report, desk, &depths);
-    slow_shield(&mut report);
-    patterns(&mut report);
-    report.end()
+    good &= line("root, against the hardware's", least, 2.5);
+    let pass = joint::pass();
+    let mut desk = vec![desk::times(&pass)];
+    good &= angles::rows(&mut rng);
+    desk.push(desk::times(&pass));
+    good &= routes();
+    good &= logs();
+    good &= checks();
+    desk.push(desk::times(&pass));
+    good &= desks(&desk);
+    good &= slow_shield();
+    good &= patterns();
+    good
 }

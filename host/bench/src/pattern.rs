@@ -1,14 +1,12 @@
 //! Patterns that are long: as many empty repeats as three repeats of 9 hold, and a million items.
 
-use super::machine::Bars;
 use super::stack;
-use super::tries::{turns, Taken};
 use compare::joint::bytes::{LEG, MOST_LEGS, TRAILER};
 use std::hint::black_box;
 use std::time::Instant;
 
-/// The longest that the first two may take, ms; the third, which is flown, has no bar.
-pub const BARS: [Bars; 3] = [Bars::all(1.0), Bars::all(1.0), Bars::NONE];
+/// The longest that the first may take, ms.
+pub const BAR: f64 = 1.0;
 /// How many items the second has beside its legs.
 pub const MANY: usize = 1_000_000;
 /// The most repeats of nothing that the lengths of three repeats around them allow.
@@ -38,16 +36,20 @@ fn timed() -> [(Vec<u8>, u32); 3] {
     [(nest.clone(), 5), ([&leg()[..], &nest, &leg()].concat(), 0), (thrice(3, &[&half[..], &leg(), &half].concat()), 0)]
 }
 
-/// Milliseconds of each; none where another number is said.
-pub fn times() -> Option<[Taken; 3]> {
-    let (patterns, mut route) = (timed(), [0; MOST_LEGS * LEG + TRAILER]);
-    let mut once = |(pattern, said): &(Vec<u8>, u32)| {
-        let start = Instant::now();
-        let number = archives::pattern_expand(black_box(pattern), black_box(&mut route), &mut [0; 4]);
-        (number == *said).then(|| start.elapsed().as_secs_f64() * 1e3)
-    };
-    let [a, b, c] = &patterns;
-    turns(TRIES, || Some([once(a)?, once(b)?, once(c)?]))
+/// Milliseconds of each, the least of many tries; none where another number is said.
+pub fn times() -> Option<[f64; 3]> {
+    let (patterns, mut least, mut route) = (timed(), [f64::INFINITY; 3], [0; MOST_LEGS * LEG + TRAILER]);
+    for _ in 0..TRIES {
+        for (least, (pattern, said)) in least.iter_mut().zip(&patterns) {
+            let start = Instant::now();
+            let number = archives::pattern_expand(black_box(pattern), black_box(&mut route), &mut [0; 4]);
+            *least = least.min(start.elapsed().as_secs_f64() * 1e3);
+            if number != *said {
+                return None;
+            }
+        }
+    }
+    Some(least)
 }
 
 /// The stack of a pattern of legs as deep as they may stand, with so many items at the top, and below it so many of them as fit.

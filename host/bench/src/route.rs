@@ -1,26 +1,20 @@
 //! The route tick by how many legs the route has and which is flown: ours through the C call, theirs as the Rust's own calls on the same legs.
 //! Their side makes segments of the legs up to the one flown; it looks at no length and at nothing of row 4, which is its gain.
 
-#[cfg(before)]
-use super::joint::Before;
-use super::joint::{Page, Run};
-use super::machine::Bars;
-use super::tries::{turns, Taken};
-use compare::joint::bytes::{float, put, Take, ANSWER, IMAGE, LEG, MOST_LEGS, TICK, TRAILER};
+use super::joint::Run;
+use compare::joint::bytes::{float, put, Take, ANSWER, IMAGE, LEG, TICK};
 use compare::joint::model::{self, Flight, Steps};
 use compare::joint::route::{segment, Legs, Source};
 use oracle::traj::Sample3;
 use std::hint::black_box;
 use std::time::Instant;
 
-/// How many legs, which of them is flown, counted from 0, and how many plain ticks that may take.
-pub const CASES: [(usize, usize, Bars); 5] =
-    [(1, 0, Bars::NONE), (8, 0, Bars::all(1.25)), (8, 7, Bars::NONE), (32, 0, Bars::all(1.7)), (32, 31, Bars::NONE)];
+/// How many legs, and which of them is flown, counted from 0.
+pub const CASES: [(usize, usize); 5] = [(1, 0), (8, 0), (8, 7), (32, 0), (32, 31)];
 const TRIES: usize = 101;
 
-/// On the one leg of a route: not slower than the archive before, to the hundredth by which two runs differ.
-#[cfg(before)]
-pub const NOT_SLOWER: Bars = Bars::all(1.01);
+/// How many plain ticks a tick on the one leg of a route may take.
+pub const BAR: f64 = 1.1;
 
 /// Where the clock starts, s, and its word in an image.
 const START: f32 = 1.0;
@@ -29,9 +23,6 @@ const TIME: usize = 16;
 type Image = [u8; IMAGE];
 type Input = [u8; TICK];
 type Answer = [u8; ANSWER];
-
-/// A tick on a route, by one of the sides.
-type Each<'a> = &'a mut dyn FnMut(&mut Image, &Input, &[u8], &mut Answer) -> u32;
 
 /// A route of legs that meet, this one flown from `START` on for as long as anyone measures.
 fn route(legs: usize, flown: usize) -> Vec<u8> {
@@ -96,52 +87,35 @@ fn started(run: &Run) -> Image {
     start
 }
 
-/// Nanoseconds a tick for each of the cases: ours, theirs, theirs with no join compared, and our plain tick of the same inputs; many short tries, all
-/// taking turns. None where the two answer differently.
-pub fn times(run: &Run) -> Option<Vec<[Taken; 4]>> {
-    let routes = CASES.map(|(legs, flown, _)| route(legs, flown));
+/// Nanoseconds a tick for each of the cases: ours, theirs, theirs with no join compared, and our plain tick of the same inputs; the least of many
+/// short tries, all taking turns. None where the two answer differently.
+pub fn times(run: &Run) -> Option<[[f64; 4]; CASES.len()]> {
+    let routes = CASES.map(|(legs, flown)| route(legs, flown));
     let start = started(run);
     if !routes.iter().all(|route| alike(run, start, route)) {
         return None;
     }
-    let of = |route: &[u8]| {
-        Some([
-            timed(run, start, route, &mut ours),
-            timed(run, start, route, &mut |image, input, route, answer| theirs(true, image, input, route, answer)),
-            timed(run, start, route, &mut |image, input, route, answer| theirs(false, image, input, route, answer)),
-            timed(run, start, route, &mut |image, input, _, answer| archives::tick(image, input, answer)),
-        ])
+    let timed = |each: &mut dyn FnMut(&mut Image, &Input, &mut Answer) -> u32| {
+        let (mut image, mut answer, from) = (start, [0; ANSWER], Instant::now());
+        for input in black_box(&run.inputs) {
+            black_box(each(&mut image, input, &mut answer));
+            black_box(&answer);
+        }
+        from.elapsed().as_nanos() as f64 / run.inputs.len() as f64
     };
-    routes.iter().map(|route| turns(TRIES, || of(route))).collect()
-}
-
-/// A tick of a run from this image, which every side has at the same place, with its answer and the route behind it: no row hangs on whether a byte of one
-/// lies as far into its page as a byte of another.
-#[inline(never)]
-fn timed(run: &Run, start: Image, route: &[u8], each: Each<'_>) -> f64 {
-    let mut page = Page((start, [0; ANSWER], [0; LEG * MOST_LEGS + TRAILER]));
-    let (image, answer, room) = &mut page.0;
-    let route_at = &mut room[..route.len()];
-    route_at.copy_from_slice(route);
-    let from = Instant::now();
-    for input in black_box(&run.inputs) {
-        black_box(each(image, input, black_box(route_at), answer));
-        black_box(&answer);
+    let mut least = [[f64::INFINITY; 4]; CASES.len()];
+    for _ in 0..TRIES {
+        for (least, route) in least.iter_mut().zip(&routes) {
+            let now = [
+                timed(&mut |image, input, answer| ours(image, input, black_box(route), answer)),
+                timed(&mut |image, input, answer| theirs(true, image, input, black_box(route), answer)),
+                timed(&mut |image, input, answer| theirs(false, image, input, black_box(route), answer)),
+                timed(&mut |image, input, answer| archives::tick(image, input, answer)),
+            ];
+            least.iter_mut().zip(now).for_each(|(least, now)| *least = least.min(now));
+        }
     }
-    from.elapsed().as_nanos() as f64 / run.inputs.len() as f64
-}
-
-/// On a route of one leg: ours, and an earlier archive's.
-#[cfg(before)]
-pub fn beside_before(run: &Run) -> Option<[Taken; 2]> {
-    let (route, start) = (route(1, 0), started(run));
-    let before = Before::new(&start, &run.inputs[0]);
-    let own = before.own(&start);
-    let mut tick = |image: &mut Image, input: &Input, route: &[u8], answer: &mut Answer| before.route_tick(image, input, route, answer);
-    if tick(&mut own.clone(), &run.inputs[0], &route, &mut [0; ANSWER]) != 0 {
-        return None;
-    }
-    turns(TRIES, || Some([timed(run, start, &route, &mut ours), timed(run, own, &route, &mut tick)]))
+    Some(least)
 }
 
 /// What is timed does the same: every answer and the image after it.
@@ -165,7 +139,7 @@ mod tests {
     #[test]
     fn the_leg_of_the_case_is_flown() {
         let run = joint::pass();
-        for (legs, flown, _) in CASES {
+        for (legs, flown) in CASES {
             let (bytes, mut image, mut answer) = (route(legs, flown), started(&run), [0; ANSWER]);
             let route = Right.route(&bytes[..LEG * legs]);
             for input in &run.inputs {
@@ -179,7 +153,7 @@ mod tests {
     #[test]
     fn both_sides_answer_alike() {
         let run = joint::headings();
-        for (legs, flown, _) in CASES {
+        for (legs, flown) in CASES {
             let bytes = route(legs, flown);
             assert!(alike(&run, started(&run), &bytes), "{legs} legs, leg {flown}");
         }

@@ -273,7 +273,7 @@ fn number(rng: &mut Rng) -> f32 {
     }
 }
 
-pub fn words(rng: &mut Rng, bytes: usize) -> Vec<u8> {
+pub(crate) fn words(rng: &mut Rng, bytes: usize) -> Vec<u8> {
     (0..bytes / 4).flat_map(|_| number(rng).to_bits().to_le_bytes()).collect()
 }
 

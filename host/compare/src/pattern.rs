@@ -110,7 +110,7 @@ fn read(fault: Fault, mut bytes: &[u8], deep: usize, items: &mut Vec<Item>) -> O
 }
 
 /// How many legs are flown.
-pub fn count(fault: Fault, items: &[Item]) -> u64 {
+pub(crate) fn count(fault: Fault, items: &[Item]) -> u64 {
     let of = |item: &Item| match item {
         Item::Leg(_) => 1,
         Item::Repeat(times, inner) => u64::from(*times) * count(fault, inner),

@@ -226,9 +226,43 @@ fn refusals_by_hand() {
     assert_eq!(number(&image, TICK, &[], ANSWER), 4);
 }
 
-/// Each of the nine places of each join, as numbers and as the words stand; of the longest route too, which is looked at word by word first.
+/// Each of the nine places of each join, as numbers and as the words stand.
 #[test]
 fn joins_by_hand() {
+    let fresh = set_up(&legs(&[1.0])[0]);
+    let of = |legs: &[[f32; WORDS]]| {
+        let (mut image, mut answer) = ([0; IMAGE], [0; ANSWER]);
+        archives::setup(&mut image, &fresh);
+        archives::route_tick(&mut image, &step(1.0), &bytes(legs), &mut answer)
+    };
+    let (nan, infinity) = (f32::NAN, f32::INFINITY);
+    for join in 0..2 {
+        for place in 0..9 {
+            let with = |a: f32, b: f32| {
+                let mut legs = legs(&[1.0, 2.0, 4.0]);
+                (legs[join][9 + place], legs[join + 1][place]) = (a, b);
+                of(&legs)
+            };
+            for (a, b) in [(0.0, -0.0), (-0.0, 0.0), (infinity, infinity), (-infinity, -infinity), (1e-45, 1e-45), (2.0, 2.0)] {
+                assert_eq!((with(a, b), with(b, a)), (0, 0), "{a}, {b} at {place}");
+            }
+            for (a, b) in
+                [(nan, nan), (nan, 0.0), (infinity, -infinity), (infinity, f32::MAX), (1e-45, 0.0), (2.0, -2.0), (2.0, 2.0f32.next_up())]
+            {
+                assert_eq!((with(a, b), with(b, a)), (7, 7), "{a}, {b} at {place}");
+            }
+        }
+    }
+    // nothing meets the first start nor the last end, and no duration is compared
+    let mut open = legs(&[nan, -1.0, infinity]);
+    open[0][..9].fill(nan);
+    open[2][9..18].fill(nan);
+    assert_eq!(of(&open), 0);
+}
+
+/// And of the longest route too, which is looked at word by word first.
+#[test]
+fn joins_of_the_longest_route() {
     let fresh = set_up(&legs(&[1.0])[0]);
     let of = |legs: &[[f32; WORDS]]| {
         let (mut image, mut answer) = ([0; IMAGE], [0; ANSWER]);
@@ -258,9 +292,4 @@ fn joins_by_hand() {
             }
         }
     }
-    // nothing meets the first start nor the last end, and no duration is compared
-    let mut open = legs(&[nan, -1.0, infinity]);
-    open[0][..9].fill(nan);
-    open[2][9..18].fill(nan);
-    assert_eq!(of(&open), 0);
 }

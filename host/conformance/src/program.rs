@@ -40,12 +40,6 @@ impl Calls {
             desk: Box::new(|call, lent| desk::expected(desk::Fault::None, call, lent)),
         }
     }
-
-    /// What a tick with an input and an answer of these lengths would return: a tick on a copy. A length beyond this one is as wrong as it.
-    pub fn refusal(&self, image: &[u8], input: usize, answer: usize) -> u32 {
-        let [input, mut answer] = [input, answer].map(|length| vec![0; length.min(4096)]);
-        (self.joint.call)(joint::Call::Tick, &mut Lending { image: &mut image.to_vec(), input: &input, route: &[], answer: &mut answer })
-    }
 }
 
 /// Relay's shield, stepped; request Nine's lengths.
@@ -60,12 +54,11 @@ fn stepped(margins: &[u8], enter: f32, exit: f32, flags: &mut [u8]) -> u32 {
 
 /// Its state is what goes from line to line.
 pub struct Program<'a> {
-    pub calls: &'a Calls,
+    calls: &'a Calls,
     pub image: Vec<u8>,
     pub desk: Vec<u8>,
-    /// Where the log stands, and how long it is there.
-    pub buffer: Vec<u8>,
-    pub log_len: u64,
+    buffer: Vec<u8>,
+    log_len: u64,
 }
 
 fn said(number: u32, told: &[u8]) -> Answer {
@@ -106,7 +99,12 @@ impl<'a> Program<'a> {
                 number(0)
             }
             ("refusal", 2) => match (plain(0), plain(1)) {
-                (Some(input), Some(answer)) => number(self.calls.refusal(&self.image, input as usize, answer as usize)),
+                (Some(input @ 0..=4096), Some(answer @ 0..=4096)) => {
+                    let kept = self.image.clone();
+                    let refusal = self.joint(joint::Call::Tick, &vec![0; input as usize], &[], &mut vec![0; answer as usize]);
+                    self.image = kept;
+                    number(refusal)
+                }
                 _ => Answer::Unsupported,
             },
             ("log", 0) => {
@@ -215,7 +213,7 @@ impl<'a> Program<'a> {
         self.buffer.resize(self.buffer.len() + room, 0);
     }
 
-    pub fn log(&self) -> &[u8] {
+    fn log(&self) -> &[u8] {
         &self.buffer[..(self.log_len as usize).min(self.buffer.len())]
     }
 

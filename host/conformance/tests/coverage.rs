@@ -30,14 +30,9 @@ fn another_flies(right: &Answer, own: &Answer) -> bool {
     flag(right).zip(flag(own)).is_some_and(|(right, own)| right != own)
 }
 
-/// What the rule leaves to the bits of those that let another fly at any line: other last places of a margin, quaternions whose products overflow, and the sine of an
-/// angle that is not finite.
-const OF_BITS: [&str; 4] = [
-    "R_d times the feedforward, then R transposed",
-    "a refused feedforward taken for zeros",
-    "a feedforward of zeros taken for refused",
-    "an angle that is not finite refused",
-];
+/// What the rule leaves to the bits of those that let another fly at any line: other last places of a margin, and quaternions whose products overflow.
+const OF_BITS: [&str; 3] =
+    ["R_d times the feedforward, then R transposed", "a refused feedforward taken for zeros", "a feedforward of zeros taken for refused"];
 
 #[test]
 fn every_wrong_release_and_engagement_is_caught_at_the_rule() {

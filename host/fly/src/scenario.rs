@@ -20,7 +20,6 @@ use crate::simulated::{Simulated, LONGEST, MOST_NOISE};
 use fosavalo::{GyroFilter, Image, Leg, Profile, Refusal, Route, SetUp, TickInput, LEG_BYTES, SETUP_BYTES, TICK_BYTES};
 use fosavalo_desk::{DeskSetUp, Stick, Sticks, DESK_SETUP_BYTES};
 use std::fmt;
-use std::num::IntErrorKind;
 use std::ops::Range;
 
 pub const MOST_TICKS: usize = 1_000_000;
@@ -133,8 +132,8 @@ const INPUT: [Field; 9] = [
 ];
 
 /// What else stands on a line.
-pub const OTHERS: [&str; 12] =
-    ["profile", "leg", "repeat", "aircraft", "seed", "noise", "camera", "desk", "exchange", "centre", "tick", "row"];
+pub const OTHERS: [&str; 13] =
+    ["profile", "leg", "repeat", "aircraft", "seed", "noise", "camera", "desk", "sticks", "exchange", "centre", "tick", "row"];
 /// What of an input the simulated aircraft gives.
 pub const FLOWN: [&str; 5] = ["gyro", "attitude", "tracking_error", "delivered", "planner"];
 /// And a desk.
@@ -506,9 +505,6 @@ impl Reader {
         };
         let n = match count.parse::<usize>() {
             Ok(n) if n > 0 => n,
-            Err(error) if *error.kind() == IntErrorKind::PosOverflow => {
-                return wrong("tick", format!("more than {MOST_TICKS} ticks in all"))
-            }
             _ => return wrong("tick", format!("`{count}` is no whole number above 0")),
         };
         if n > MOST_TICKS - self.inputs.len() {
@@ -608,7 +604,7 @@ pub fn leg_of(n: &[f32]) -> Leg {
 }
 
 fn names() -> String {
-    SET_UP.iter().chain(&INPUT).map(|field| field.0).chain(OTHERS).collect::<Vec<_>>().join(", ")
+    fields().into_iter().flatten().map(|field| field.0).chain(OTHERS).collect::<Vec<_>>().join(", ")
 }
 
 /// One of these words.
@@ -619,9 +615,10 @@ fn one_of<T: Copy>(name: &str, words: &[(&str, T)], rest: &[&str]) -> Result<T, 
     }
 }
 
-/// The fields of a set-up and of an input, each with how many numbers it takes.
+/// The fields of a set-up and of an input, each with how many numbers it takes; the sticks, which no input has, apart.
 pub fn fields() -> [Vec<(&'static str, usize)>; 2] {
-    [&SET_UP[..], &INPUT].map(|fields| fields.iter().map(|(name, _, count)| (*name, *count)).collect())
+    let words = INPUT.len() - 1;
+    [&SET_UP[..], &INPUT[..words]].map(|fields| fields.iter().map(|(name, _, count)| (*name, *count)).collect())
 }
 
 /// As many numbers as the field has words.

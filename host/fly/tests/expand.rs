@@ -73,10 +73,7 @@ fn mistakes() {
     for (arguments, what) in [
         (&["bad.txt"][..], "expand: bad.txt: line 2: leg: takes 19 numbers, here are 3\n"),
         (&["none.txt"], "expand: none.txt: no legs: "),
-        (
-            &["bad.pattern"],
-            "expand: bad.pattern: refused (12): the repeat at byte 0 of the pattern has a count of 10, which is not 1 to 9\n",
-        ),
+        (&["bad.pattern"], "expand: bad.pattern: refused (12): the pattern has a tag, a count, a depth or a length that none has\n"),
         (&["apart.pattern"], "expand: apart.pattern: refused (7): leg 2 of the route does not start where leg 1 ends\n"),
         (&["missing.txt"], "expand: missing.txt: "),
         (&[], "expand: which pattern? "),

@@ -5,14 +5,24 @@ use fly::flight::{Flight, Rule};
 use fly::flight_file::{Again, FlightFile};
 use fly::kept::Kept;
 use fly::output;
-use fly::random::Random;
 use fly::replay;
 use fly::salvage::{salvage, End};
 use fly::scenario::{fields, Scenario};
-use fly::{curve, desk, exchange, legs, loop_thrice, pass, rotor};
+use fly::{curve, desk, exchange, legs, pass, rotor, loop_thrice};
 use fosavalo::{BodyRate, Leg, Log, LogSeries, LogView, Profile, Record, SetUp, TickInput, MOST_IN_SERIES, SETUP_BYTES};
 use std::path::{Path, PathBuf};
 use std::process::Command;
+
+struct Random(u64);
+
+impl Random {
+    fn below(&mut self, n: usize) -> usize {
+        self.0 ^= self.0 << 13;
+        self.0 ^= self.0 >> 7;
+        self.0 ^= self.0 << 17;
+        (self.0 >> 33) as usize % n
+    }
+}
 
 fn fosavalo(arguments: &[&str], folder: &Path) -> (Option<i32>, String, String) {
     let output = Command::new(checkout::program("fosavalo")).args(arguments).current_dir(folder).env("PATH", "").output().expect("it runs");
@@ -189,7 +199,7 @@ fn what_differs_is_named() {
 /// Any set-up, route, exchanges and names give their bits back; a file that lacks a line is none.
 #[test]
 fn a_flight_s_file_gives_its_bits_back() {
-    let mut random = Random::new(99);
+    let mut random = Random(99);
     let mut any = |special: bool| {
         let x = [0x7f80_0001, 0xffc0_0000, 0x8000_0000, 1, 0x7f80_0000, 0xff80_0000];
         match random.below(4) {
@@ -257,7 +267,7 @@ fn what_is_no_flight_s_file() {
     ] {
         assert_eq!(FlightFile::read(bytes.as_bytes()).map_err(|mistake| mistake.to_string()), Err(what.to_string()));
     }
-    let mut random = Random::new(5);
+    let mut random = Random(5);
     for _ in 0..3_000 {
         let mut bytes = text.clone().into_bytes();
         for _ in 0..=random.below(3) {
@@ -508,14 +518,13 @@ fn a_new_scenario() {
     assert_eq!((scenario.set_up.to_bytes(), scenario.inputs.len()), (SetUp::falcon_quad().to_bytes(), 600));
     assert_eq!(scenario.inputs[0], TickInput::default());
     assert_eq!(scenario.inputs[599], TickInput { gyro: BodyRate([1.8, 0.0, 0.0]), ..TickInput::default() });
-    for (name, count) in fields().concat().into_iter().filter(|(name, _)| !["adrc", "set_up", "sticks"].contains(name)) {
+    for (name, count) in fields().concat().into_iter().filter(|(name, _)| !["adrc", "set_up"].contains(name)) {
         let lines: Vec<&str> = text.lines().filter(|line| line.split_whitespace().next() == Some(name)).collect();
         let [line] = lines[..] else { panic!("{name}: {lines:?}") };
         let (field, comment) = line.split_once(" # ").expect("there is a comment");
         assert!(field.split_whitespace().count() == count + 1 && comment.len() > 5, "{line}");
     }
-    let others = ["profile", "tick", "leg", "repeat", "aircraft", "seed", "noise", "camera", "desk", "sticks", "exchange", "centre"];
-    for name in others {
+    for name in ["profile", "tick", "leg", "repeat", "aircraft", "seed", "noise", "camera", "desk", "sticks", "exchange", "centre"] {
         assert!(text.lines().any(|line| line.trim_start_matches("# ").starts_with(&format!("{name} "))), "{name}");
     }
     let folder = checkout::scratch("new");
@@ -557,7 +566,7 @@ fn a_simulated_scenario_is_kept() {
     assert!(["one.txt", "two.txt"].iter().all(|name| fosavalo(&["fly", name, "--out", "."], &folder).0 == Some(0)));
     assert!(bytes() == before);
     let (_, out, _) = fosavalo(&["fly", "typed.txt", "--out", "."], &folder);
-    assert!(out.contains(", open loop\n") && out.contains("no torque moves them") && !folder.join("typed-above.points").exists(), "{out}");
+    assert!(out.contains("\nOpen loop: ") && out.contains("no torque moves them") && !folder.join("typed-above.points").exists(), "{out}");
 }
 
 /// Standard input is a log or a flight's file, and no file of that name is looked for.

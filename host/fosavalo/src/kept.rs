@@ -76,7 +76,7 @@ impl Log {
     ///
     /// let mut log = Log::new();
     /// assert_eq!(log.append_bytes(&[0xff; 68], &[0xff; 40]), Ok(()));
-    /// assert_eq!(log.append_bytes(&[0; 67], &[0; 40]), Err(Refusal::InputOf { bytes: 67, wanted: 68 }));
+    /// assert_eq!(log.append_bytes(&[0; 67], &[0; 40]), Err(Refusal::InputLength));
     /// assert_eq!(log.append_bytes(&[0; 68], &[0; 41]), Err(Refusal::AnswerLength));
     /// assert!(log.iter().all(|record| record.as_bytes() == &[0xff; 108]) && log.len() == 1);
     /// ```
@@ -84,12 +84,7 @@ impl Log {
         if self.buffer.len() - self.len < RECORD_BYTES {
             self.make_room(2 * self.len + RECORD_BYTES);
         }
-        let said = Refusal::from_number(calls::log_append(&mut self.buffer, self.len as u64, input, answer));
-        said.map_err(|refusal| match refusal {
-            Refusal::InputLength => Refusal::unless_long(input, TICK_BYTES).err().unwrap_or(refusal),
-            Refusal::NoRoom if self.len == LONGEST => Refusal::LogFull,
-            _ => refusal,
-        })?;
+        Refusal::from_number(calls::log_append(&mut self.buffer, self.len as u64, input, answer))?;
         self.len += RECORD_BYTES;
         Ok(())
     }
@@ -102,7 +97,7 @@ impl Log {
     /// let record = Record::from_bytes(&[7; 108])?;
     /// let mut log = Log::new();
     /// log.try_extend([record; 3])?;
-    /// assert_eq!(log.try_extend(std::iter::repeat(record)), Err(Refusal::LogFull));
+    /// assert_eq!(log.try_extend(std::iter::repeat(record)), Err(Refusal::NoRoom));
     /// assert_eq!(log.len(), MOST_RECORDS);
     /// # Ok::<(), Refusal>(())
     /// ```

@@ -85,7 +85,7 @@ pub use log::{LogView, Record, Records};
 pub use mended::Mended;
 #[cfg(feature = "alloc")]
 pub use pattern::{Pattern, PatternItem};
-pub use refusal::{PatternFault, Refusal};
+pub use refusal::Refusal;
 pub use route::{Leg, Route};
 pub use sample::Sample;
 #[cfg(feature = "alloc")]

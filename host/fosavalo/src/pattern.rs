@@ -1,6 +1,6 @@
-use crate::items::{told, Item, Items, LEG, REPEAT};
+use crate::items::{Item, Items, LEG, REPEAT};
 use crate::words::{Put, Take};
-use crate::{calls, Leg, PatternFault, Refusal, Route, LEG_BYTES};
+use crate::{calls, Leg, Refusal, Route, LEG_BYTES};
 use alloc::vec::Vec;
 use core::fmt;
 
@@ -43,21 +43,18 @@ impl Pattern {
     /// From bytes; refused where these are no pattern.
     ///
     /// ```
-    /// use fosavalo::{Pattern, PatternFault, Refusal};
+    /// use fosavalo::{Pattern, Refusal};
     ///
     /// let nine_times_nothing = [1, 9, 0, 0];
     /// let pattern = Pattern::from_bytes(&nine_times_nothing)?;
     /// assert_eq!(pattern.as_bytes(), nine_times_nothing);
     /// assert_eq!(pattern.expand(), Err(Refusal::LegCount)); // a pattern, but no route
     ///
-    /// let refusal = Refusal::PatternAt(0, PatternFault::Count(10));
-    /// assert_eq!(Pattern::from_bytes(&[1, 10, 0, 0]), Err(refusal));
-    /// let said = "the repeat at byte 0 of the pattern has a count of 10, which is not 1 to 9";
-    /// assert_eq!(refusal.meaning().to_string(), said);
+    /// assert_eq!(Pattern::from_bytes(&[1, 10, 0, 0]), Err(Refusal::BrokenPattern));
     /// # Ok::<(), Refusal>(())
     /// ```
     pub fn from_bytes(bytes: &[u8]) -> Result<Self, Refusal> {
-        check(bytes).map_err(|refusal| told(refusal, bytes))?;
+        check(bytes)?;
         Ok(Pattern { bytes: bytes.to_vec() })
     }
 
@@ -71,10 +68,10 @@ impl Pattern {
     }
 
     /// One repeat more, at the end. Refused where the count is not 1 to 9, where what it holds is longer than 65,535 bytes, and where repeats would stand
-    /// more than four deep; the pattern then stays as it is, and the byte that is told is one of the longer pattern.
+    /// more than four deep; the pattern then stays as it is.
     ///
     /// ```
-    /// use fosavalo::{Pattern, PatternFault, Refusal};
+    /// use fosavalo::{Pattern, Refusal};
     ///
     /// let mut pattern = Pattern::new();
     /// for deep in 1..=4 {
@@ -82,21 +79,18 @@ impl Pattern {
     ///     pattern.repeat(deep, &inner)?;
     /// }
     /// assert_eq!(pattern.as_bytes(), [1, 4, 12, 0, 1, 3, 8, 0, 1, 2, 4, 0, 1, 1, 0, 0]);
-    /// let [depth, count] = [PatternFault::Depth, PatternFault::Count(10)];
-    /// assert_eq!(Pattern::new().repeat(1, &pattern), Err(Refusal::PatternAt(16, depth)));
-    /// assert_eq!(pattern.repeat(10, &Pattern::new()), Err(Refusal::PatternAt(16, count)));
+    /// assert_eq!(Pattern::new().repeat(1, &pattern), Err(Refusal::BrokenPattern));
+    /// assert_eq!(pattern.repeat(10, &Pattern::new()), Err(Refusal::BrokenPattern));
     /// assert_eq!(pattern.as_bytes().len(), 16);
     /// # Ok::<(), Refusal>(())
     /// ```
     pub fn repeat(&mut self, count: u8, inner: &Pattern) -> Result<&mut Self, Refusal> {
-        let before = self.bytes.len();
-        let holds = inner.bytes.len();
-        let len = u16::try_from(holds).map_err(|_| Refusal::PatternAt(before, PatternFault::Holds(holds)))?;
+        let len = u16::try_from(inner.bytes.len()).map_err(|_| Refusal::BrokenPattern)?;
         let [low, high] = len.to_le_bytes();
+        let before = self.bytes.len();
         self.bytes.extend([REPEAT, count, low, high]);
         self.bytes.extend(&inner.bytes);
-        // what stands before it is a pattern
-        let said = check(self.bytes.get(before..).unwrap_or_default()).map_err(|refusal| told(refusal, &self.bytes));
+        let said = check(self.bytes.get(before..).unwrap_or_default());
         if said.is_err() {
             self.bytes.truncate(before);
         }

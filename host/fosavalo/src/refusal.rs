@@ -1,12 +1,9 @@
-use crate::{FloatFault, VersionFault, ANSWER_BYTES, DEEPEST_REPEAT, IMAGE_BYTES, LEG_BYTES, MOST_LEGS, MOST_MARGINS, MOST_RECORDS};
+use crate::{FloatFault, VersionFault, ANSWER_BYTES, IMAGE_BYTES, LEG_BYTES, MOST_LEGS, MOST_MARGINS, MOST_RECORDS};
 use crate::{RECORD_BYTES, ROUTE_TRAILER_BYTES, SAMPLE_BYTES, SETUP_BYTES, TICK_BYTES};
 use core::fmt;
 
 /// Why a call was refused: the documents' number, with its meaning in words. Of 1 to 4 it is the lowest that holds; what is wrong with a
 /// profile, a filter, a route or a log comes after these. A refused call changed no byte. Two refusals are the crate's own, before the core is called.
-///
-/// Several faults share 2, 9 and 12. [`Refusal::InputLength`], [`Refusal::NoRoom`] and [`Refusal::BrokenPattern`] are what such a number alone says, from
-/// [`calls`](crate::calls); the crate's own types say which fault it is, with the same [`number`](Refusal::number).
 ///
 /// ```
 /// use fosavalo::Refusal;
@@ -30,13 +27,6 @@ pub enum Refusal {
     ImageLength,
     /// 2: the input is not 204 bytes long at set-up, 76 at an exchange, 68 at a tick and in a log; or what takes a log's count, the verdict on it or a route's length is not 4.
     InputLength,
-    /// 2, where the crate has the bytes: so many they are, and so many they have to be.
-    InputOf {
-        /// How many there are.
-        bytes: usize,
-        /// How many the call wants.
-        wanted: usize,
-    },
     /// 3: the answer is not 40 bytes long, or the sample not 52.
     AnswerLength,
     /// 4: no set-up, no tick and no exchange leaves such an image.
@@ -53,18 +43,12 @@ pub enum Refusal {
     /// 9: the buffer has under 108 bytes beyond the log, or the log has 65,535 records; or there is not a flag for each margin, or more than
     /// 65,535 of them; or a pattern's route does not fit its buffer.
     NoRoom,
-    /// 9, of a [`Log`](crate::Log): it has 65,535 records.
-    LogFull,
-    /// 9, of [`slow_flags`](crate::slow_flags): there are so many margins, and the most are 65,535.
-    TooManyMargins(usize),
     /// 10: the profile of a set-up, or with which a log is checked, is neither 0 nor 1.
     WrongProfile,
     /// 11: the filter of a set-up would pass the gyro through: [`GyroFilter`](crate::GyroFilter) says which do.
     PassThrough,
     /// 12: a pattern has a tag that is neither 0 nor 1, a count that is not 1 to 9, repeats more than four deep, or a length that does not go with its items.
     BrokenPattern,
-    /// 12, of a [`Pattern`](crate::Pattern) or its bytes: the first fault, and the byte at which its item starts, counted from 0.
-    PatternAt(usize, PatternFault),
     /// 13: the log has no record at that place.
     NoRecord,
     /// 14: what takes a record is not 108 bytes long.
@@ -77,36 +61,7 @@ pub enum Refusal {
     Other(u32),
 }
 
-/// What is wrong with a pattern: [`Refusal::PatternAt`].
-#[derive(Clone, Copy, Debug, PartialEq, Eq, Hash)]
-#[non_exhaustive]
-pub enum PatternFault {
-    /// An item begins with this byte, which is neither a leg's, 0, nor a repeat's, 1.
-    Tag(u8),
-    /// A repeat's count is not 1 to 9.
-    Count(u8),
-    /// A repeat stands inside four others.
-    Depth,
-    /// An item ends beyond the pattern, or beyond the repeat that it stands in.
-    Length {
-        /// How many bytes it has at least.
-        needs: usize,
-        /// How many there are.
-        left: usize,
-    },
-    /// What a repeat is to hold is so long, and the most are 65,535 bytes.
-    Holds(usize),
-}
-
 impl Refusal {
-    /// 2, unless there are as many bytes as are wanted.
-    pub(crate) fn unless_long(bytes: &[u8], wanted: usize) -> Result<(), Refusal> {
-        match bytes.len() == wanted {
-            true => Ok(()),
-            false => Err(Refusal::InputOf { bytes: bytes.len(), wanted }),
-        }
-    }
-
     /// What a call's number says: nothing for 0, else the refusal.
     ///
     /// ```
@@ -148,17 +103,17 @@ impl Refusal {
     pub fn number(self) -> Option<u32> {
         Some(match self {
             Refusal::ImageLength => 1,
-            Refusal::InputLength | Refusal::InputOf { .. } => 2,
+            Refusal::InputLength => 2,
             Refusal::AnswerLength => 3,
             Refusal::BrokenImage => 4,
             Refusal::LegCount => 5,
             Refusal::RouteLength => 6,
             Refusal::LegsApart(_) => 7,
             Refusal::BrokenLog => 8,
-            Refusal::NoRoom | Refusal::LogFull | Refusal::TooManyMargins(_) => 9,
+            Refusal::NoRoom => 9,
             Refusal::WrongProfile => 10,
             Refusal::PassThrough => 11,
-            Refusal::BrokenPattern | Refusal::PatternAt(..) => 12,
+            Refusal::BrokenPattern => 12,
             Refusal::NoRecord => 13,
             Refusal::RecordLength => 14,
             Refusal::Floats(_) | Refusal::Version(_) => return None,
@@ -186,7 +141,6 @@ impl fmt::Display for Meaning {
                 f,
                 "the input is not {SETUP_BYTES} bytes long at set-up, {LEG_BYTES} at an exchange, {TICK_BYTES} at a tick and in a log, or what takes a log's count, its verdict or a route's length is not 4"
             ),
-            Refusal::InputOf { bytes, wanted } => write!(f, "the input is {bytes} bytes long, not {wanted}"),
             Refusal::AnswerLength => write!(f, "the answer is not {ANSWER_BYTES} bytes long, or the sample not {SAMPLE_BYTES}"),
             Refusal::BrokenImage => f.write_str("the image is none that set-up, a tick or an exchange leaves"),
             Refusal::LegCount => write!(f, "a route has 1 to {MOST_LEGS} legs"),
@@ -206,8 +160,6 @@ impl fmt::Display for Meaning {
                 "the buffer has no room for {RECORD_BYTES} bytes more, or the log has {MOST_RECORDS} records; or there is not a flag for each \
                  margin, or more than {MOST_MARGINS} of them; or a pattern's route does not fit its buffer"
             ),
-            Refusal::LogFull => write!(f, "the log has {MOST_RECORDS} records, and takes no more"),
-            Refusal::TooManyMargins(margins) => write!(f, "there are {margins} margins, and the most are {MOST_MARGINS}"),
             Refusal::WrongProfile => f.write_str("the profile is neither 0 nor 1"),
             Refusal::PassThrough => {
                 f.write_str(
@@ -216,24 +168,6 @@ impl fmt::Display for Meaning {
                 )
             }
             Refusal::BrokenPattern => f.write_str("the pattern has a tag, a count, a depth or a length that none has"),
-            Refusal::PatternAt(at, fault) => match fault {
-                PatternFault::Tag(tag) => {
-                    write!(f, "the item at byte {at} of the pattern begins with {tag}, which is neither 0, a leg, nor 1, a repeat")
-                }
-                PatternFault::Count(count) => {
-                    write!(f, "the repeat at byte {at} of the pattern has a count of {count}, which is not 1 to 9")
-                }
-                PatternFault::Depth => write!(
-                    f,
-                    "the repeat at byte {at} of the pattern stands inside {DEEPEST_REPEAT} others, and repeats stand {DEEPEST_REPEAT} deep at most"
-                ),
-                PatternFault::Length { needs, left } => {
-                    write!(f, "the item at byte {at} of the pattern needs {needs} bytes, and {left} are left for it")
-                }
-                PatternFault::Holds(bytes) => {
-                    write!(f, "the repeat at byte {at} of the pattern holds {bytes} bytes, and the most are {}", u16::MAX)
-                }
-            },
             Refusal::NoRecord => f.write_str("the log has no record at that place"),
             Refusal::RecordLength => write!(f, "the record is not {RECORD_BYTES} bytes long"),
             Refusal::Floats(fault) => fault.fmt(f),

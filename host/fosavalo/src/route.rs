@@ -1,4 +1,4 @@
-use crate::items::{flown, told};
+use crate::items::flown;
 use crate::words::{Put, Take};
 use crate::{calls, FloatFault, Refusal, Segment, LEG_BYTES, MOST_LEGS, ROUTE_TRAILER_BYTES, SAMPLE_BYTES};
 use core::fmt;
@@ -77,12 +77,11 @@ impl Route {
     /// leg or more than 32, and where two do not meet; which, is told in flown order.
     ///
     /// ```
-    /// use fosavalo::{PatternFault, Refusal, Route};
+    /// use fosavalo::{Refusal, Route};
     ///
     /// let twice = [&[1, 2, 77, 0], &[0; 77][..]].concat();
     /// assert_eq!(Route::expand(&twice)?.len(), 2);
-    /// let short = PatternFault::Length { needs: 81, left: 80 };
-    /// assert_eq!(Route::expand(&twice[..80]), Err(Refusal::PatternAt(0, short)));
+    /// assert_eq!(Route::expand(&twice[..80]), Err(Refusal::BrokenPattern));
     /// # Ok::<(), Refusal>(())
     /// ```
     pub fn expand(pattern: &[u8]) -> Result<Self, Refusal> {
@@ -103,7 +102,7 @@ impl Route {
                 bytes.iter_mut().skip(back).zip(trailer.as_flattened()).for_each(|(own, byte)| *own = *byte);
                 Err(check(bytes.get(..back + ROUTE_TRAILER_BYTES).unwrap_or_default()).err().unwrap_or(Refusal::LegsApart(None)))
             }
-            Err(refusal) => Err(told(refusal, pattern)),
+            Err(refusal) => Err(refusal),
         }
     }
 

@@ -283,7 +283,9 @@ impl SetUp {
 
     /// From fifty-one words; refused where these are not 204 bytes, then where the last is no profile's.
     pub fn from_bytes(bytes: &[u8]) -> Result<Self, Refusal> {
-        Refusal::unless_long(bytes, SETUP_BYTES)?;
+        if bytes.len() != SETUP_BYTES {
+            return Err(Refusal::InputLength);
+        }
         let mut from = Take(bytes);
         Ok(SetUp {
             gains: Gains { k_r: from.floats(), k_omega: from.floats(), j: from.floats() },

@@ -109,7 +109,9 @@ impl TickInput {
 
     /// From seventeen words; refused where these are not 68 bytes.
     pub fn from_bytes(bytes: &[u8]) -> Result<Self, Refusal> {
-        Refusal::unless_long(bytes, TICK_BYTES)?;
+        if bytes.len() != TICK_BYTES {
+            return Err(Refusal::InputLength);
+        }
         Ok(TickInput::take(&mut Take(bytes)))
     }
 

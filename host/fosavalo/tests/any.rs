@@ -1,8 +1,7 @@
 //! Any bytes at all: nothing panics, what is written is read back, and the typed calls are the C calls.
 
 use fosavalo::{
-    calls, slow_flags, Answer, Image, Leg, Log, LogView, Pattern, PatternFault, Pilot, Profile, Record, Refusal, Route, SetUp, TickInput,
-    Verdict,
+    calls, slow_flags, Answer, Image, Leg, Log, LogView, Pattern, Pilot, Profile, Record, Refusal, Route, SetUp, TickInput, Verdict,
 };
 use fosavalo::{ANSWER_BYTES, IMAGE_BYTES, LEG_BYTES, MOST_LEGS, ROUTE_TRAILER_BYTES, SETUP_BYTES, TICK_BYTES};
 use fosavalo::{EMPTY_LOG, LOG_TRAILER_BYTES, MOST_MARGINS, MOST_RECORDS, RECORD_BYTES};
@@ -234,11 +233,11 @@ fn a_full_log() {
     }
     let full = log.clone();
     for _ in 0..3 {
-        assert_eq!(log.append(&input, &answer), Err(Refusal::LogFull));
-        assert_eq!(log.append_bytes(&[0; 67], &[]), Err(Refusal::InputOf { bytes: 67, wanted: 68 }));
+        assert_eq!(log.append(&input, &answer), Err(Refusal::NoRoom));
+        assert_eq!(log.append_bytes(&[0; 67], &[]), Err(Refusal::InputLength));
         assert_eq!(log.append_bytes(&[0; 68], &[]), Err(Refusal::AnswerLength));
     }
-    assert_eq!(log.try_extend(&full), Err(Refusal::LogFull));
+    assert_eq!(log.try_extend(&full), Err(Refusal::NoRoom));
     assert!(log == full && log.len() == MOST_RECORDS && log.iter().all(|record| record == Record::new(&input, &answer)));
     assert_eq!(Log::with_capacity(usize::MAX), Log::new());
 }
@@ -309,7 +308,7 @@ fn flags_of_any_margins() {
         flags.iter().for_each(|flag| seen[usize::from(*flag)] += 1);
     }
     assert!(seen.iter().all(|count| *count > 1000), "{seen:?}");
-    assert_eq!(slow_flags(&vec![1.0; MOST_MARGINS + 1], 0.5, 1.0), Err(Refusal::TooManyMargins(65_536)));
+    assert_eq!(slow_flags(&vec![1.0; MOST_MARGINS + 1], 0.5, 1.0), Err(Refusal::NoRoom));
 }
 
 /// A record of any bytes among those of a fallback that never lets go: the typed call is the C call, and says that all is right or names that record.
@@ -391,45 +390,19 @@ fn patterns_of_any_items() {
     assert!([0, 5, 7].iter().all(|number| seen[*number] > 1000), "{seen:?}");
 }
 
-/// That what is told of a broken pattern stands at the byte that is told; the kind of it.
-fn there(refusal: Refusal, bytes: &[u8]) -> usize {
-    let Refusal::PatternAt(at, fault) = refusal else { panic!("{refusal} of {bytes:?}") };
-    let (kind, is) = match (fault, &bytes[at..]) {
-        (PatternFault::Tag(tag), [is, ..]) => (0, tag == *is && tag > 1),
-        (PatternFault::Count(count), [1, is, ..]) => (1, count == *is && !(1..=9).contains(&count)),
-        (PatternFault::Depth, [1, ..]) => (2, bytes[..at].iter().filter(|byte| **byte == 1).count() >= 4),
-        (PatternFault::Length { needs, left }, [0, rest @ ..]) => (3, needs == 77 && left < 77 && left <= 1 + rest.len()),
-        (PatternFault::Length { needs: 4, left }, [1, ..]) => (3, left < 4),
-        (PatternFault::Length { needs, left }, [1, _, low, high, rest @ ..]) => {
-            (3, needs == 4 + usize::from(*low) + 256 * usize::from(*high) && left < needs && left <= 4 + rest.len())
-        }
-        _ => (0, false),
-    };
-    assert!(is, "{refusal} of {bytes:?}");
-    kind
-}
-
 /// Bytes of any length and content are a pattern exactly where the C call does not say 12, whatever it says of the route.
 #[test]
 fn patterns_of_any_bytes() {
-    let (mut rng, mut seen, mut faults) = (Bytes(9), [0u32; 2], [0u32; 4]);
+    let (mut rng, mut seen) = (Bytes(9), [0u32; 2]);
     for _ in 0..200_000 {
-        let mut bytes: Vec<u8> = (0..rng.next() % 12).map(|_| [0, 1, 1, 2, 4, 8, 0, 9, 10][(rng.next() % 9) as usize]).collect();
-        // inside of repeats, at times of one too many
-        for _ in 0..(rng.next() % 12).saturating_sub(6) {
-            bytes = [&[1, 9, bytes.len() as u8, 0], &bytes[..]].concat();
-        }
+        let bytes: Vec<u8> = (0..rng.next() % 12).map(|_| [0, 1, 1, 2, 4, 8, 0, 9, 10][(rng.next() % 9) as usize]).collect();
         let number = calls::pattern_expand(&bytes, &mut [0; 2500], &mut [0; 4]);
         let made = Pattern::from_bytes(&bytes);
-        assert_eq!(made.as_ref().err().map(|refusal| refusal.number()), (number == 12).then_some(Some(12)));
-        assert_eq!(made.as_ref().err().copied(), Route::expand(&bytes).err().filter(|_| number == 12));
-        if let Err(refusal) = made {
-            faults[there(refusal, &bytes)] += 1;
-        }
+        assert_eq!(made.clone().err(), (number == 12).then_some(Refusal::BrokenPattern));
         assert_eq!(made.is_ok_and(|own| own.into_bytes() == bytes), number != 12);
         seen[usize::from(number == 12)] += 1;
     }
-    assert!(seen.iter().chain(&faults).all(|count| *count > 1000), "{seen:?} {faults:?}");
+    assert!(seen.iter().all(|count| *count > 1000), "{seen:?}");
 }
 
 /// What a repeat does not take leaves the pattern as it was; 65,535 bytes are the most that it holds.
@@ -448,10 +421,10 @@ fn repeats_at_their_edges() {
     let before = pattern.clone();
     assert!(Pattern::new().repeat(9, &most).is_ok());
     for count in [0, 10, 0x31, 255] {
-        assert_eq!(pattern.repeat(count, &Pattern::new()), Err(Refusal::PatternAt(77, PatternFault::Count(count))));
+        assert_eq!(pattern.repeat(count, &Pattern::new()), Err(Refusal::BrokenPattern));
     }
     most.leg(&leg);
-    assert_eq!(pattern.repeat(1, &most), Err(Refusal::PatternAt(77, PatternFault::Holds(65_612))));
+    assert_eq!(pattern.repeat(1, &most), Err(Refusal::BrokenPattern));
     assert!(pattern == before && !pattern.is_empty() && Pattern::default().is_empty());
     let _ = format!("{pattern:?}");
 }

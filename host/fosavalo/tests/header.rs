@@ -239,18 +239,23 @@ struct Layout(String);
 
 impl Layout {
     fn number(&self, name: &str) -> usize {
-        let is = self.0.lines().find_map(|line| line.strip_prefix(name)?.strip_prefix(" = "));
+        // some have the language's spelling in place of the document's, and some of those a word more
+        let plain = name.to_lowercase().replace('-', "_");
+        let spellings = [name.to_string(), format!("{plain}_word"), plain];
+        let of = |name: &String| self.0.lines().find_map(|line| line.strip_prefix(name.as_str())?.strip_prefix(" = "));
+        let is = spellings.iter().find_map(of);
         // a note may follow
         is.and_then(|number| number.split("  -- ").next()?.parse().ok()).unwrap_or_else(|| panic!("{name} is no number of the layout"))
     }
 }
 
-/// The fields of a definition of `crates/image/specs/Parts.antt`, in its order: `.c5`, `.«t_end»` of a list, `p0 =` of a record.
+/// The fields of a definition of `crates/image/specs/Parts.antt`, in its order: `q.c5`, `q.t_end` of a list, `p0 =` of a record.
 fn fields(parts: &str, definition: &str) -> Vec<String> {
     let after = parts.split(&format!("\n{definition} =")).nth(1).unwrap_or_else(|| panic!("{definition} is not defined"));
     let own: Vec<&str> = after.split("\n\n").next().unwrap_or_default().split_whitespace().collect();
     let record = own.windows(2).filter(|two| two[1] == "=").map(|two| two[0]);
-    let list = own.iter().filter_map(|word| word.strip_prefix('.'));
+    let whole = definition.rsplit(' ').next().unwrap_or_default();
+    let list = own.iter().filter_map(|word| word.strip_prefix(whole)?.strip_prefix('.'));
     record.chain(list).map(|word| word.trim_matches(['«', '»', ')'].as_slice()).to_string()).collect()
 }
 
@@ -267,14 +272,14 @@ fn words_stand_where_the_definitions_have_them() {
             |field: &String| instead.iter().find(|(own, _)| own == field).map_or(format!("{before}{field}"), |(_, name)| name.to_string());
         fields(&parts, definition).iter().map(renamed).collect()
     };
-    let (gains, set) = (of("floatsOfGains g", &[], ""), of("floatsOfSet s", &[("k_r", "set_k_r")], ""));
-    let adrc = of("floatsOfAdrcGains g", &[], "");
-    let mut axis = of("floatsOfAxis a", &[("u_delivered_frac", "fraction")], "");
+    let (gains, set) = (of("floats_of_gains g", &[], ""), of("floats_of_set s", &[("k_r", "set_k_r")], ""));
+    let adrc = of("floats_of_adrc_gains g", &[], "");
+    let mut axis = of("floats_of_axis a", &[("u_delivered_frac", "fraction")], "");
     assert_eq!(axis.pop().as_deref(), Some("g"));
     axis.extend(adrc.clone());
-    let governor = of("floatsOfGovernor g", &[("s", "time")], "");
-    let (quintic, biquad) = (of("floatsOfQuintic q", &[], ""), of("floatsOfBiquad f", &[], "filter_"));
-    let leg = of("legAt b k", &[], "");
+    let governor = of("floats_of_governor g", &[("s", "time")], "");
+    let (quintic, biquad) = (of("floats_of_quintic q", &[], ""), of("floats_of_biquad f", &[], "filter_"));
+    let leg = of("leg_at b k", &[], "");
     let (leg_vectors, leg_time) = leg.split_at(6);
     fn names(all: &[String]) -> Vec<&str> {
         all.iter().map(String::as_str).collect()

@@ -121,9 +121,7 @@ fn refused_and_empty() {
     assert_eq!(series.check(Profile::Whole, 0.5, 1.0), Ok(Verdict::Right));
     series.extend(std::iter::repeat(record(1, 0.0, 0)).take(MOST_IN_SERIES));
     let before = series.clone();
-    for (input, answer, refusal) in
-        [(67, 40, fosavalo::Refusal::InputOf { bytes: 67, wanted: 68 }), (68, 41, fosavalo::Refusal::AnswerLength)]
-    {
+    for (input, answer, refusal) in [(67, 40, fosavalo::Refusal::InputLength), (68, 41, fosavalo::Refusal::AnswerLength)] {
         assert_eq!(series.append_bytes(&vec![0; input], &vec![0; answer]), Err(refusal));
         assert!(series == before && series.logs().len() == 1);
     }

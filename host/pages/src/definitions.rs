@@ -5,7 +5,7 @@ use std::collections::{BTreeMap, BTreeSet};
 use std::fmt::Write;
 
 const RULE: &str = "crates/latch/specs/Latch.antt:Flies";
-const DEMAND: &str = "crates/runs/proofs/DemandThree.antt:demand-three";
+const DEMAND: &str = "crates/runs/proofs/DemandThree.antt:demand_three";
 
 fn listed(logic: &Logic, items: &BTreeSet<usize>) -> String {
     let mut files: BTreeMap<&str, usize> = BTreeMap::new();
@@ -30,7 +30,7 @@ pub fn counted(names: &[String]) -> Result<String, String> {
     if names.is_empty() {
         let rule = listed(&logic, &logic.made_of(&found(RULE)?));
         let demand = listed(&logic, &logic.reached(&found(DEMAND)?));
-        return Ok(format!("the rule\n{rule}all that demand-three speaks of\n{demand}"));
+        return Ok(format!("the rule\n{rule}all that demand_three speaks of\n{demand}"));
     }
     let mut all = BTreeSet::new();
     for name in names {

@@ -35,7 +35,9 @@ impl Function {
 pub fn crates() -> Result<Vec<(String, String)>, String> {
     let listed = text("crates.txt")?;
     let lines = listed.lines().filter_map(|line| line.split_once(':'));
-    Ok(lines.map(|(name, rest)| (name.to_string(), rest.split_once("# ").map_or("", |(_, what)| what).to_string())).collect())
+    // behind the name of a static library it says so
+    let name = |line: &str| line.split_whitespace().next().unwrap_or_default().to_string();
+    Ok(lines.map(|(line, rest)| (name(line), rest.split_once("# ").map_or("", |(_, what)| what).to_string())).collect())
 }
 
 /// Every function of every crate.
@@ -112,36 +114,33 @@ fn in_file(krate: &str, file: &str, module: &str, text: &str, found: &mut Vec<Fu
     Ok(())
 }
 
-/// For each name that a file's contracts use, the file of its definition: a crate's own is named another way than another's.
+/// For each name that a file's contracts use, the file of its definition.
 fn scope(text: &str) -> HashMap<String, String> {
     let used = text.lines().filter_map(|line| line.strip_prefix("ghost use ")?.strip_suffix("};")?.split_once(".{"));
-    let named =
-        used.flat_map(|(file, names)| names.split(", ").map(move |name| (name.to_string(), file.replace("·specs.specs.", ".specs."))));
-    named.collect()
+    used.flat_map(|(file, names)| names.split(", ").map(move |name| (name.to_string(), file.to_string()))).collect()
 }
 
-/// A clause's words and brackets. The marks around a plain fact and around a name with `_` say nothing more.
+/// A clause's words and brackets, and the parts of what is named apart from it, as `self` and `.now`. The marks around a name say nothing more.
 pub fn tokens(said: &str) -> Vec<String> {
-    let spaced = said.replace(['⌜', '⌝', '«', '»'], "").replace('(', " ( ").replace(')', " ) ").replace(',', " , ");
-    spaced.split_whitespace().map(str::to_string).collect()
+    let spaced = said.replace(['«', '»'], "").replace('(', " ( ").replace(')', " ) ").replace(',', " , ");
+    let apart = |word: &str| -> Vec<String> {
+        let mut parts = word.split('.');
+        let first = parts.next().unwrap_or_default().to_string();
+        [first].into_iter().filter(|first| !first.is_empty()).chain(parts.map(|part| format!(".{part}"))).collect()
+    };
+    spaced.split_whitespace().flat_map(apart).collect()
 }
 
-/// A clause to be read: without the answer's `λ`, and with `b` and `b′` for what a lent `b` holds before and after.
+/// A clause to be read: with `b` and `b′` for what a lent `b` holds before and after.
 pub fn shown(clause: &[String]) -> String {
-    let mut words = clause[if clause.first().is_some_and(|word| word == "λ") { 2 } else { 0 }..].to_vec();
-    let mut at = 0;
-    while at < words.len() {
-        let next: Vec<&str> = words[at..].iter().take(5).map(String::as_str).collect();
-        let (length, held) = match next[..] {
-            ["now", "(", lent, ".entry", ")"] => (5, lent.to_string()),
-            ["now", "(", lent, ".exit", ")"] => (5, format!("{lent}′")),
-            ["now", lent, ..] if lent != "(" => (2, lent.to_string()),
-            _ => (1, next[0].to_string()),
-        };
-        let alone = length > 1 && at > 0 && words[at - 1] == "(" && words.get(at + length).is_some_and(|word| word == ")");
-        let (from, to) = if alone { (at - 1, at + length + 1) } else { (at, at + length) };
-        words.splice(from..to, [held]);
-        at = from + 1;
+    let mut words: Vec<String> = Vec::new();
+    for word in clause {
+        match (word.as_str(), words.last_mut()) {
+            (".new", Some(lent)) => lent.push('′'),
+            (".old" | ".now", Some(_)) => {}
+            (part, Some(whole)) if part.starts_with('.') => whole.push_str(part),
+            _ => words.push(word.clone()),
+        }
     }
     words.join(" ").replace("( ", "(").replace(" )", ")").replace(" ,", ",")
 }

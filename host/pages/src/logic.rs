@@ -20,7 +20,7 @@ pub struct Item {
     pub krate: String,
     /// from the checkout's top
     pub file: String,
-    /// as they are declared, `_⊕_`; a `data`'s cases too
+    /// as they are declared, `◌⊕◌`; a `data`'s cases too
     pub names: Vec<String>,
     pub kind: Kind,
     /// the `module _ (..) where` that it stands under, the outermost first
@@ -98,7 +98,9 @@ impl Logic {
                 }
                 logic.items.push(item);
             }
-            logic.unread.extend(text.lines().filter(|line| is_unread(line)).map(|line| format!("{file}: {}", line.trim())));
+            // what answers the goals of a function states nothing that a page could name
+            let states = !file.split_once("/proofs/").is_some_and(|(_, file)| file.contains('/'));
+            logic.unread.extend(text.lines().filter(|_| states).filter(|line| is_unread(line)).map(|line| format!("{file}: {}", line.trim())));
             logic.functions.insert(file.clone(), text.lines().filter_map(function).collect());
             logic.scopes.insert(file, scope);
         }
@@ -120,7 +122,9 @@ impl Logic {
 
     /// The items that proof files declare under this name.
     pub fn theorems(&self, name: &str) -> Vec<usize> {
-        let is_it = |item: &Item| item.file.contains("/proofs/") && item.names.iter().any(|own| own == name);
+        // in a file of proofs/ itself: a folder's answer the goals of a function
+        let is_one = |file: &str| file.split_once("/proofs/").is_some_and(|(_, file)| !file.contains('/'));
+        let is_it = |item: &Item| is_one(&item.file) && item.names.iter().any(|own| own == name);
         (0..self.items.len()).filter(|at| is_it(&self.items[*at])).collect()
     }
 
@@ -139,7 +143,9 @@ impl Logic {
         // through a module that a `use` line brings
         let (module, rest) = word.split_once('.')?;
         let rest = rest.split('.').map(str::to_string);
-        self.found(&scope.get(module)?.iter().cloned().chain(rest).collect::<Path>())
+        let within = scope.get(module).and_then(|path| self.found(&path.iter().cloned().chain(rest).collect::<Path>()));
+        // or a part of what the first word names
+        within.or_else(|| self.meant(file, module))
     }
 
     /// What stands at the end of a path.
@@ -219,7 +225,7 @@ fn below(folder: &str, found: &mut Vec<String>) {
 fn words(line: &str) -> Vec<String> {
     let line = line.trim_start();
     let line = if line.starts_with("--") || line.starts_with("//") { "" } else { line.split(" -- ").next().unwrap_or_default() };
-    let apart = |mark: char| mark.is_whitespace() || "(){}[];,<>&«»λ⌜⌝".contains(mark);
+    let apart = |mark: char| mark.is_whitespace() || "(){}[];,<>&«»λ".contains(mark);
     line.split(apart)
         .filter(|word| !word.starts_with('.'))
         .map(|word| word.trim_end_matches(['.', ':']))
@@ -248,7 +254,7 @@ fn signature(line: &str) -> Option<Vec<String>> {
 
 /// A name as it is declared, and as it is written between its arguments.
 fn spellings(name: String) -> Vec<String> {
-    let between = name.trim_matches('_').to_string();
+    let between = name.trim_matches('◌').to_string();
     let name = name.trim_matches(['«', '»']).to_string();
     if between.is_empty() || between == name {
         vec![name]
@@ -355,11 +361,10 @@ fn uses(line: &str, scope: &mut HashMap<String, Path>) {
     one("", line.trim(), scope);
 }
 
-/// `Rattle·latch.specs.Latch.x`, or within its crate `Rattle·latch·specs.specs.Latch.x`.
+/// `Rattle.latch.specs.Latch.x`.
 fn path_of(path: &str) -> Option<Path> {
-    let (root, rest) = path.strip_prefix("Rattle·")?.split_once('.')?;
-    let krate = root.split('·').next()?.to_string();
-    Some([krate].into_iter().chain(rest.split('.').map(|part| part.trim_matches(['«', '»']).to_string())).collect())
+    let (krate, rest) = path.strip_prefix("Rattle.")?.split_once('.')?;
+    Some([krate].into_iter().chain(rest.split('.')).map(|part| part.trim_matches(['«', '»']).to_string()).collect())
 }
 
 /// The name of the function that a line of `src/` begins.

@@ -11,16 +11,16 @@ const FACE: &str = "probe";
 const EXCEPTIONS: [(&str, &str, &str); 4] = [
     (
         "relay_geo::lent::SimplexShield::step_lent",
-        "step-lent-once",
+        "step_lent_once",
         "The state is lent, and such a function is proved by hand: the toolchain makes no `Reads.Post` of its contract. \
-         The theorem is `OneAnswer` of the promise written out, and `step-lent-says` that the function's own clause is that promise.",
+         The theorem is `OneAnswer` of the promise written out, and `step_lent_says` that the function's own clause is that promise.",
     ),
-    ("relay_traj::lent::RefGovernor::advance_lent", "advance-lent-once", "The same, with `advance-lent-says`."),
-    ("log::reader::moved", "moved-once", "The same, of a struct that holds a reference, with `moved-says`."),
+    ("relay_traj::lent::RefGovernor::advance_lent", "advance_lent_once", "The same, with `advance_lent_says`."),
+    ("flight_log::reader::moved", "moved_once", "The same, of a struct that holds a reference, with `moved_says`."),
     (
-        "log::reader::next",
-        "next-once",
-        "The same, with `next-says`. It answers a part of the lent log: what the part holds is fixed; where it lies is not said, and no code of the language can ask.",
+        "flight_log::reader::next",
+        "next_once",
+        "The same, with `next_says`. It answers a part of the lent log: what the part holds is fixed; where it lies is not said, and no code of the language can ask.",
     ),
 ];
 
@@ -36,15 +36,20 @@ const ASKING: [(&str, &str); 4] = [
 fn proved(krate: &str) -> (Vec<String>, String) {
     let file = text(format!("crates/{krate}/proofs/OneAnswer.antt")).unwrap_or_default();
     let stated = file.lines().filter_map(|line| line.strip_prefix("pub ")?.split_once(" : OneAnswer ")?.1.split_once(' '));
-    let same =
-        stated.filter_map(|(ended, post)| ended.strip_suffix(".ended").filter(|name| post.strip_suffix(".Reads.Post") == Some(name)));
+    // the contracts of this crate, by the name that the file gives them
+    let promised = if file.contains(&format!("\nuse Rattle.{krate}.specs.contracts as promised\n")) { "promised." } else { "" };
+    let same = stated.filter_map(|(ended, post)| {
+        let name = ended.strip_suffix(".ended")?;
+        let name = name.strip_prefix(promised).unwrap_or(name);
+        (post.strip_suffix(".Reads.Post") == Some(name)).then_some(name)
+    });
     (same.map(|name| format!("{krate}::{}", name.replace('.', "::"))).collect(), file)
 }
 
 /// The value that an equation gives to the answer.
 fn value(clause: &[String]) -> Option<&[String]> {
     match clause {
-        [lambda, bound, answer, equals, value @ ..] if lambda == "λ" && equals == "≡" && *bound == format!("{answer}.") => Some(value),
+        [answer, equals, value @ ..] if answer == "result" && equals == "≡" => Some(value),
         _ => None,
     }
 }
@@ -171,12 +176,12 @@ pub(crate) fn page() -> Result<String, String> {
     let all = all()?;
     let mut page = String::from(
         "# Promises\n\n\
-         What every public function promises: its `ensures`, proved for all arguments, and the comment above it. The answer is `r`, or stands alone on the left; `b′` is what\n\
+         What every public function promises: its `ensures`, proved for all arguments, and the comment above it. The answer is `result`; `b′` is what\n\
          a lent `b` holds afterwards; the other names are definitions of `crates/*/specs/`. `make map` writes this page from the sources. The gate (`host/pages/tests`) holds it\n\
          to them, and fails on a public function that has no promise or no theorem of the kind below.\n\n\
          **No second answer.** `OneAnswer` (`crates/laws/proofs/Determined.antt`) says of a function's own contract: of the same arguments, two outcomes (the answer, and\n\
          the later contents of every lent buffer) that both meet it are equal. Each crate's `proofs/OneAnswer.antt` proves it of each public function, by one law,\n\
-         `no-second`: a promise that names its one value has one. NaNs are counted alike, as everywhere.\n\n\
+         `no_second`: a promise that names its one value has one. NaNs are counted alike, as everywhere.\n\n\
          ## Exceptions\n\n\
          Of these the toolchain makes no contract that `OneAnswer` could be stated of as it stands. Each has a theorem of its own beside the others.\n\n\
          | function | theorem | reason |\n|---|---|---|\n",
@@ -216,7 +221,7 @@ mod tests {
 
     #[test]
     fn a_clause_is_shortened() {
-        let clause = tokens("λ r. ⌜ left r (now (b .exit)) ≡ f (now (b .entry)) «log_len» (g (now (i .entry))) ⌝");
-        assert_eq!(shown(&clause), "left r b′ ≡ f b log_len (g i)");
+        let clause = tokens("left result b.new ≡ f b.old «log_len» (g i.now)");
+        assert_eq!(shown(&clause), "left result b′ ≡ f b log_len (g i)");
     }
 }

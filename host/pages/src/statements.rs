@@ -24,11 +24,14 @@ const PAGES: [&str; 9] = [
     "include/fosavalo_desk.h",
 ];
 
+/// The page of all edits, which a program writes.
+const EDITS: &str = "crates/EDITS.md";
+
 /// The notes on the requests. They tell of names that are gone too.
 const NOTES: &str = "docs/history/requests";
 
-/// Words with a hyphen that are no theorem, by their beginning or their end.
-const OTHERS: [&str; 7] = ["relay-", "fosavalo-", "qemu-", "llvm-", "rust-version", "-linux", "-eabihf"];
+/// Where else a page's word with a `_` may stand that is no theorem: the sources of all that is not proved, and the crates' own.
+const SOURCES: [&str; 10] = ["crates", "docs/src", "host", "include", "web", "python", "tools", "examples", "targets", "Makefile"];
 
 /// A part of a page that is read at once: a row of a table by its cells, or else a paragraph. `above` are the cells of the table's head.
 struct Part {
@@ -84,18 +87,29 @@ fn quoted(text: &str) -> Vec<(&str, &str)> {
 }
 
 fn is_name(word: &str) -> bool {
-    !word.is_empty() && !word.contains([' ', '/', '.', '_', '=', '*', ':', '(', '<', '"'])
+    !word.is_empty() && !word.contains([' ', '/', '.', '=', '*', ':', '(', '<', '"'])
 }
 
-fn is_hyphened(word: &str) -> bool {
-    let plain = word.chars().all(|letter| letter.is_ascii_lowercase() || letter.is_ascii_digit() || "-+".contains(letter));
-    let starts = word.trim_start_matches('+').starts_with(|letter: char| letter.is_ascii_lowercase());
-    is_name(word)
-        && plain
-        && starts
-        && word.contains('-')
-        && !word.ends_with('-')
-        && !OTHERS.iter().any(|other| word.starts_with(other) || word.ends_with(other))
+/// A word that may be a theorem's name wherever it stands: of several words.
+fn is_joined(word: &str) -> bool {
+    let plain = word.chars().all(|letter| letter.is_ascii_lowercase() || letter.is_ascii_digit() || letter == '_');
+    is_name(word) && plain && word.starts_with(|letter: char| letter.is_ascii_lowercase()) && word.contains('_') && !word.ends_with('_')
+}
+
+/// The words with a `_` of all sources.
+fn in_sources() -> Result<BTreeSet<String>, String> {
+    fn of(path: &std::path::Path, found: &mut BTreeSet<String>) {
+        let name = path.file_name().unwrap_or_default().to_string_lossy();
+        if path.is_dir() && name != "target" && name != "out" {
+            std::fs::read_dir(path).into_iter().flatten().flatten().for_each(|entry| of(&entry.path(), found));
+        } else if let Some(text) = std::fs::read(path).ok().filter(|_| !name.ends_with(".md")).and_then(|bytes| String::from_utf8(bytes).ok()) {
+            let apart = |letter: char| !(letter.is_alphanumeric() || letter == '_');
+            found.extend(text.split(apart).filter(|word| word.contains('_')).map(str::to_string));
+        }
+    }
+    let (top, mut found) = (checkout::root()?, BTreeSet::new());
+    SOURCES.iter().for_each(|source| of(&top.join(source), &mut found));
+    Ok(found)
 }
 
 /// What the documents name.
@@ -109,6 +123,8 @@ pub struct Named {
 
 struct Reader<'a> {
     logic: &'a Logic,
+    /// words that stand somewhere else
+    others: &'a BTreeSet<String>,
     named: Named,
 }
 
@@ -180,8 +196,8 @@ impl Reader<'_> {
         }
     }
 
-    /// Text: names right before a file are of that file. Other names with a hyphen are theorems of some file, which has to be one, or to be named
-    /// elsewhere with its file. Where it is not `strict`, what is not there is passed over.
+    /// Text: names right before a file are of that file. Other names of several words are theorems of some file, which has to be one, or to be named
+    /// elsewhere with its file; or they stand in some source. Where it is not `strict`, what is not there is passed over.
     fn passage(&mut self, page: &str, passage: &str, prefix: &str, strict: bool) {
         let words = quoted(passage);
         let mut run: Vec<&str> = Vec::new();
@@ -209,7 +225,7 @@ impl Reader<'_> {
             }
         }
         loose.append(&mut run);
-        for name in loose.into_iter().filter(|name| is_hyphened(name)) {
+        for name in loose.into_iter().filter(|name| is_joined(name)) {
             let all = self.logic.theorems(name);
             let here =
                 |at: &usize| words.iter().any(|(_, word)| self.file(prefix, word).is_some_and(|file| file == self.logic.items[*at].file));
@@ -218,8 +234,10 @@ impl Reader<'_> {
                 ([one], _) | (_, [one]) => {
                     self.named.items.insert(*one);
                 }
-                ([], _) if strict => self.fault(page, format!("names {name}, and no proof file has it")),
-                (several, _) if strict && !several.iter().any(|at| self.named.items.contains(at)) => {
+                ([], _) if strict && !self.others.contains(name) => {
+                    self.fault(page, format!("names {name}, and neither a proof file nor any source has it"));
+                }
+                (several, _) if strict && several.len() > 1 && !several.iter().any(|at| self.named.items.contains(at)) => {
                     self.fault(page, format!("names {name}, which is in several files, and not whose"));
                 }
                 _ => {}
@@ -231,6 +249,7 @@ impl Reader<'_> {
         for (at, _) in page.match_indices("/must-fail/") {
             let krate = page[..at].rsplit(|letter: char| !(letter.is_ascii_lowercase() || letter == '_')).next().unwrap_or_default();
             let rest = &page[at + "/must-fail/".len()..];
+            let rest = rest.strip_prefix("more/").unwrap_or(rest);
             let label = rest
                 .split(|letter: char| !(letter.is_ascii_lowercase() || letter.is_ascii_digit() || letter == '_'))
                 .next()
@@ -255,11 +274,21 @@ pub fn named(logic: &Logic) -> Result<Named, String> {
     let page = |name: String| text(&name).map(|text| (name, text));
     let pages = PAGES.iter().map(|name| page(name.to_string())).collect::<Result<Vec<Page>, _>>()?;
     let notes = entries(NOTES)?.iter().map(|name| page(format!("{NOTES}/{name}"))).collect::<Result<Vec<Page>, _>>()?;
-    Ok(in_pages(logic, &text(THEOREMS)?, &pages, &notes, &edits()?))
+    // which lists them all
+    let listed = text(EDITS)?;
+    Ok(in_pages(logic, &in_sources()?, &text(THEOREMS)?, &pages, &notes, &listed, &edits()?))
 }
 
-fn in_pages(logic: &Logic, theorems: &str, pages: &[Page], notes: &[Page], edits: &BTreeSet<String>) -> Named {
-    let mut reader = Reader { logic, named: Named { items: BTreeSet::new(), edits: BTreeSet::new(), faults: Vec::new() } };
+fn in_pages(
+    logic: &Logic,
+    others: &BTreeSet<String>,
+    theorems: &str,
+    pages: &[Page],
+    notes: &[Page],
+    listed: &str,
+    edits: &BTreeSet<String>,
+) -> Named {
+    let mut reader = Reader { logic, others, named: Named { items: BTreeSet::new(), edits: BTreeSet::new(), faults: Vec::new() } };
     let rows = parts(theorems);
     let column = |part: &Part, is_it: fn(&str) -> bool| part.above.iter().position(|head| is_it(head));
     let theorem = |part: &Part| column(part, |head| head.to_lowercase().contains("theorem"));
@@ -285,11 +314,14 @@ fn in_pages(logic: &Logic, theorems: &str, pages: &[Page], notes: &[Page], edits
             reader.passage(&page.0, cell, "", strict);
         }
     }
-    for text in notes.iter().map(|(_, text)| text.as_str()).chain([theorems]) {
+    for text in notes.iter().map(|(_, text)| text.as_str()).chain([theorems, listed]) {
         reader.edits(text);
     }
     let mut named = reader.named;
     named.faults.extend(logic.unread.iter().map(|line| format!("what stands beneath a statement may be more than is read here: {line}")));
+    named
+        .faults
+        .extend(edits.difference(&named.edits).map(|edit| format!("crates/{edit} is named neither in {THEOREMS} nor in a request's note")));
     named.faults.extend(
         named.edits.difference(edits).map(|edit| format!("{THEOREMS} or a request's note names the edit {edit}, and there is none")),
     );
@@ -429,21 +461,21 @@ mod tests {
         abbrev pub first : ℕ\nfirst = 1\n\n\
         abbrev pub unused : ℕ\nunused = 2\n";
     const PROOFS: &str = "\
-        use Rattle·a·proofs.proofs.{Prelude.{Shows, _≡_}, Other.x as y}\n\n\
+        use Rattle.a.proofs.{Prelude.{Shows, ◌≡◌}, Other.x as y}\n\n\
         module _ (n : ℕ) where\n  pub expands : Shows n\n  unfolding first\n  expands =\n      record {\n        flag = refl;\n      }\n\n\
-        pub stays-so : (n : ℕ) → n ≡ n\nstays-so n = refl\n";
+        pub stays_so : (n : ℕ) → n ≡ n\nstays_so n = refl\n";
     const PAGE: &str = "\
-        # Theorems\n\n| Theorem | File under `a/proofs/` | In words |\n|---|---|---|\n| `expands` | `P.antt` | it shows; `stays-so` as well |\n\n\
+        # Theorems\n\n| Theorem | File under `a/proofs/` | In words |\n|---|---|---|\n| `expands` | `P.antt` | it shows; `stays_so` as well |\n\n\
         The edit `a/must-fail/wrong`.\n";
 
     fn logic(specs: &str, files: &[(&str, &str)]) -> Logic {
-        let prelude = "pub use Rattle·a·specs.specs.{S.Shows}\n";
+        let prelude = "pub use Rattle.a.specs.{S.Shows}\n";
         let all = [("specs/S", specs), ("proofs/Prelude", prelude)].into_iter().chain(files.iter().copied());
         Logic::of(all.map(|(file, text)| ("a".to_string(), format!("crates/a/{file}.antt"), text.to_string())).collect())
     }
 
     fn named(logic: &Logic, page: &str) -> Named {
-        in_pages(logic, page, &[], &[], &BTreeSet::from(["a/must-fail/wrong".to_string()]))
+        in_pages(logic, &BTreeSet::new(), page, &[], &[], "", &BTreeSet::from(["a/must-fail/wrong".to_string()]))
     }
 
     fn page(specs: &str, proofs: &str) -> String {
@@ -456,7 +488,7 @@ mod tests {
     #[test]
     fn a_statement_stands_there_with_what_it_is_made_of() {
         let page = page(SPECS, PROOFS);
-        assert!(page.contains("```\nmodule _ (n : ℕ) where\n  pub expands : Shows n\n\npub stays-so : (n : ℕ) → n ≡ n\n```\n"), "{page}");
+        assert!(page.contains("```\nmodule _ (n : ℕ) where\n  pub expands : Shows n\n\npub stays_so : (n : ℕ) → n ≡ n\n```\n"), "{page}");
         assert!(page.contains("-- what a number shows\npub record Shows (n : ℕ) : Type 0 where\n  pub flag : n ≡ 0\n"), "{page}");
         assert!(page.contains("abbrev pub first : ℕ\nfirst = 1\n") && !page.contains("unused") && !page.contains("refl"), "{page}");
     }
@@ -495,22 +527,22 @@ mod tests {
             ["docs/THEOREMS.md names the file Q.antt, and there is none under crates/a/proofs/"]
         );
         assert_eq!(
-            told(&[("proofs/P", PROOFS)], &PAGE.replace("`stays-so`", "`stays-put`")),
-            ["docs/THEOREMS.md names stays-put, and no proof file has it"]
+            told(&[("proofs/P", PROOFS)], &PAGE.replace("`stays_so`", "`stays_put`")),
+            ["docs/THEOREMS.md names stays_put, and neither a proof file nor any source has it"]
         );
         assert_eq!(
-            told(&[("proofs/P", PROOFS), ("proofs/Q", "pub stays-so : ℕ\n")], PAGE),
-            ["docs/THEOREMS.md names stays-so, which is in several files, and not whose"]
+            told(&[("proofs/P", PROOFS), ("proofs/Q", "pub stays_so : ℕ\n")], PAGE),
+            ["docs/THEOREMS.md names stays_so, which is in several files, and not whose"]
         );
         assert_eq!(
-            told(&[("proofs/P", PROOFS), ("proofs/Q", "pub stays-so : ℕ\n")], &PAGE.replace("`stays-so`", "`stays-so` (`P.antt`)")),
+            told(&[("proofs/P", PROOFS), ("proofs/Q", "pub stays_so : ℕ\n")], &PAGE.replace("`stays_so`", "`stays_so` (`P.antt`)")),
             [""; 0]
         );
     }
 
     #[test]
     fn a_name_may_be_written_out() {
-        let proofs = PROOFS.replace("→ n ≡ n", "→ Rattle·a·specs.specs.S.unused ≡ n");
+        let proofs = PROOFS.replace("→ n ≡ n", "→ Rattle.a.specs.S.unused ≡ n");
         assert!(page(SPECS, &proofs).contains("unused = 2"));
     }
 
@@ -521,11 +553,14 @@ mod tests {
     }
 
     #[test]
-    fn an_edit_that_is_named_is_there() {
+    fn an_edit_is_named() {
         let told = |page: &str| named(&logic(SPECS, &[("proofs/P", PROOFS)]), page).faults;
         assert_eq!(
             told(&PAGE.replace("/wrong", "/right")),
-            ["docs/THEOREMS.md or a request's note names the edit a/must-fail/right, and there is none"]
+            [
+                "crates/a/must-fail/wrong is named neither in docs/THEOREMS.md nor in a request's note",
+                "docs/THEOREMS.md or a request's note names the edit a/must-fail/right, and there is none"
+            ]
         );
     }
 }

@@ -23,7 +23,7 @@ fn the_public_face_has_no_fault() {
     assert!(faults.is_empty(), "{}", faults.join("\n"));
 }
 
-/// Every theorem stands in the file that the documents name, and every must-fail edit that they name is there.
+/// Every theorem stands in the file that the documents name, and every must-fail edit is named.
 #[test]
 fn the_documents_name_what_there_is() {
     let named = pages::logic::Logic::read().and_then(|logic| pages::statements::named(&logic)).unwrap_or_else(|text| panic!("{text}"));

@@ -411,7 +411,7 @@ impl Pilot {
 const NO_PROFILES: [u32; 10] = [2, 3, 255, 256, 1 << 16, 1 << 24, 1 << 31, 1 << 31 | 1, f32::to_bits(1.0), u32::MAX];
 
 /// Cut-offs and sample rates at and about what `Biquad::lowpass` decides by: most pass through, and those do not that follow one of their kind which does.
-pub const CUT_OFFS: [[f32; 2]; 20] = [
+pub(crate) const CUT_OFFS: [[f32; 2]; 20] = [
     [0.0, 1000.0],
     [-0.0, 1000.0],
     [-80.0, 1000.0],

@@ -11,8 +11,8 @@ use compare::log::RECORD;
 use compare::slow::{stepped, threshold};
 
 pub const SECTIONS: &[Made] = &[
-    Made { file: "36-check", name: "whether a log is right", words: &["Whether a log's flags are those that its own margins demand from a fresh shield, and its commands those that its flags demand. Yes, or the first wrong record, counted from 0."], place: REQUESTS, level: Level::Bits, every: 3, lines: checks },
-    Made { file: "37-check-bytes", name: "long logs, and every refusal of a check", words: &["Refusals 8, then 10."], place: REQUESTS, level: Level::Bytes, every: 1, lines: refused },
+    Made { file: "36-check", name: "whether a log is right", words: &["Whether a log's flags are those that its own margins demand from a fresh shield, and its commands those that its flags demand. Yes, or the first wrong record, counted from 0."], place: REQUESTS, level: Level::Bits, lines: checks },
+    Made { file: "37-check-bytes", name: "long logs, and every refusal of a check", words: &["Refusals 8, then 10."], place: REQUESTS, level: Level::Bytes, lines: refused },
 ];
 
 fn with(given: Given) -> String {
@@ -122,36 +122,17 @@ fn checks(s: &mut Section) {
     // logs of other boxes, right ones and spoilt ones
     let mut rng = Rng::new("kit checks", 0);
     for n in 0..40 {
-        let (records, all) = of_another_box(&mut rng, n, 1 + n as usize % 7);
-        check(s, &records, &all);
+        let rng = &mut rng;
+        let given = Given { profile: n % 2, enter: threshold(rng), exit: threshold(rng) };
+        let mut records = other(rng, given, 1 + n as usize % 7);
+        if n % 4 > 0 {
+            let place = rng.below(records.len());
+            spoil(rng, &mut records[place], given);
+        }
+        let elsewhere = Given { enter: threshold(rng), exit: threshold(rng), ..given };
+        check(s, &records, &[given, elsewhere, Given { profile: 1 - given.profile, ..given }]);
     }
 }
-
-/// So many records, of which up to three are spoilt; what they were written with, other thresholds, and the other profile.
-fn of_another_box(rng: &mut Rng, n: u32, length: usize) -> (Vec<Record>, [Given; 3]) {
-    let given = Given { profile: n % 2, enter: threshold(rng), exit: threshold(rng) };
-    let mut records = other(rng, given, length);
-    for _ in 0..n % 4 {
-        let place = rng.below(records.len());
-        spoil(rng, &mut records[place], given);
-    }
-    let elsewhere = Given { enter: threshold(rng), exit: threshold(rng), ..given };
-    (records, [given, elsewhere, Given { profile: 1 - given.profile, ..given }])
-}
-
-/// Of one record.
-const NO_TRAILERS: [[u32; 3]; 10] = [
-    [0, 108, 108],
-    [1 | 1 << 16, 108, 108],
-    [1 | 1 << 30, 108, 108],
-    [1 << 8, 108, 108],
-    [u32::MAX, 108, 108],
-    [1, 107, 108],
-    [1, 0, 108],
-    [1, 108, 107],
-    [1, 108, 109],
-    [1, 108, 0],
-];
 
 fn refused(s: &mut Section) {
     let planner = plain(&record(1.5, 0));
@@ -167,28 +148,14 @@ fn refused(s: &mut Section) {
         s.ask(format!("log {planner}*{count}+{} -", trailer(count)));
         s.ask(format!("check {} a5*4", with(BAND)));
     }
-    let mut rng = Rng::new("kit long checks", 0);
-    for n in 0..24 {
-        let (records, all) = of_another_box(&mut rng, n, 8 + n as usize % 16);
-        s.ask(format!("log {}+{} -", plain(&records.concat()), trailer(records.len())));
-        all.iter().for_each(|given| drop(s.ask(format!("check {} a5*4", with(*given)))));
-    }
     // every pair of a verdict's length, no log, and a profile that is none
-    let whole = format!("{planner}+{}", trailer(1));
-    for log in [whole.clone(), format!("{planner}+{}", trailer(2)), trailer(0), "00*12".to_string(), "-".to_string()] {
+    for log in [format!("{planner}+{}", trailer(1)), format!("{planner}+{}", trailer(2)), trailer(0), "00*12".to_string(), "-".to_string()]
+    {
         s.ask(format!("log {log} -"));
         for profile in [0, 1, 2, 3, 255, 256, 257, 1 << 16, 1 << 24 | 1, 1 << 31, u32::MAX] {
             for room in ["a5*4", "a5*3", "a5*5", "-"] {
                 s.ask(format!("check {} {room}", with(Given { profile, ..BAND })));
             }
-        }
-    }
-    // logs that are none, by each word of their trailer, and by their length
-    let other = |words: [u32; 3]| format!("{planner}+{}", super::logs::words(words));
-    for log in NO_TRAILERS.map(other).into_iter().chain([format!("33+{whole}"), format!("{planner}+00+{}", trailer(1))]) {
-        s.ask(format!("log {log} -"));
-        for profile in [0, 2] {
-            s.ask(format!("check {} a5*4", with(Given { profile, ..BAND })));
         }
     }
 }

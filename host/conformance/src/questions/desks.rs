@@ -9,13 +9,13 @@ use compare::generate::Rng;
 use compare::joint::bytes::{put, raw};
 
 pub const SECTIONS: &[Made] = &[
-    Made { file: "40-desk", name: "an operator's desk", words: &["three sticks through a command filter each, two of their values written over heading and heading rate of the lent input before the core ticks.", "Value and rate stay within their limits after anything."], place: REQUESTS, level: Level::Bits, every: 3, lines: desk },
-    Made { file: "41-desk-bytes", name: "a desk's bytes, and every refusal of its calls", words: &["a desk that is not 60 bytes; its set-up not 36 or the sticks not 12"], place: REFUSALS, level: Level::Bytes, every: 1, lines: refused },
+    Made { file: "40-desk", name: "an operator's desk", words: &["three sticks through a command filter each, two of their values written over heading and heading rate of the lent input before the core ticks.", "Value and rate stay within their limits after anything."], place: REQUESTS, level: Level::Bits, lines: desk },
+    Made { file: "41-desk-bytes", name: "a desk's bytes, and every refusal of its calls", words: &["a desk that is not 60 bytes; its set-up not 36 or the sticks not 12"], place: REFUSALS, level: Level::Bytes, lines: refused },
 ];
 
 pub const ON_ROUTES: &[Made] = &[
-    Made { file: "45-desk-routes", name: "an operator's desk on a route", words: &["the desk tick with a route tick in place of the tick", "three sticks through a command filter each, two of their values written over heading and heading rate of the lent input before the core ticks."], place: BEYOND, level: Level::Bits, every: 3, lines: on_routes },
-    Made { file: "46-desk-routes-bytes", name: "every refusal of a desk tick on a route, and every pair", words: &["15, 16, then what the route tick tells."], place: BEYOND, level: Level::Bytes, every: 2, lines: routes_refused },
+    Made { file: "45-desk-routes", name: "an operator's desk on a route", words: &["the desk tick with a route tick in place of the tick", "three sticks through a command filter each, two of their values written over heading and heading rate of the lent input before the core ticks."], place: BEYOND, level: Level::Bits, lines: on_routes },
+    Made { file: "46-desk-routes-bytes", name: "every refusal of a desk tick on a route, and every pair", words: &["15, 16, then what the route tick tells."], place: BEYOND, level: Level::Bytes, lines: routes_refused },
 ];
 
 /// Bandwidth, limit of the value, limit of its rate.
@@ -37,7 +37,7 @@ fn route_tick(s: &mut Section, at: [f32; 3], input: &Tick, route: &str) {
     s.ask(format!("deskroute {} {} {route}", sticks(at), word_of(&input.bytes())));
 }
 
-pub fn look(s: &mut Section) {
+fn look(s: &mut Section) {
     s.at(Level::Bytes, |s| drop(s.ask("deskimage")));
 }
 

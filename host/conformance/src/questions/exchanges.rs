@@ -1,15 +1,15 @@
 //! Another segment in flight.
 
-use super::drawn;
 use super::flights::flown;
 use super::{Leg, Made, Section, SetUp, Tick, REQUESTS};
 use crate::conform::Level;
+use compare::answers::{filled, LEG_PARTS};
 use compare::generate::{Kind, Rng};
 use compare::joint::bytes::put;
 
 pub const SECTIONS: &[Made] = &[
-    Made { file: "20-exchange", name: "another segment in flight", words: &["a new call exchanges the segment in flight, from a leg's 19 words, and sets the clock to 0. Shield, ADRC and filters go on, so demand 3 runs on across it; the time never falls between exchanges."], place: REQUESTS, level: Level::Bits, every: 7, lines: in_flight },
-    Made { file: "21-kept-nans", name: "a NaN that is only kept", words: &["any that is written into an image or an answer is 7fc00000, also in a word that is only kept."], place: super::ARITHMETIC, level: Level::Bytes, every: 1, lines: kept },
+    Made { file: "20-exchange", name: "another segment in flight", words: &["a new call exchanges the segment in flight, from a leg's 19 words, and sets the clock to 0. Shield, ADRC and filters go on, so demand 3 runs on across it; the time never falls between exchanges."], place: REQUESTS, level: Level::Bits, lines: in_flight },
+    Made { file: "21-kept-nans", name: "a NaN that is only kept", words: &["any that is written into an image or an answer is 7fc00000, also in a word that is only kept."], place: super::ARITHMETIC, level: Level::Bytes, lines: kept },
 ];
 
 fn in_flight(s: &mut Section) {
@@ -19,7 +19,7 @@ fn in_flight(s: &mut Section) {
         s.set_up(&SetUp::new(profile).with(9, &[1.0, 0.8, 0.75, 0.2, 0.45]));
         for n in 0..40 {
             (0..1 + n % 4).for_each(|_| drop(s.tick(&flown(&mut rng))));
-            s.exchange(&drawn::leg(KINDS[n % 4], &mut rng));
+            s.exchange(&Leg(filled(KINDS[n % 4], &LEG_PARTS, &mut rng)));
             s.tick(&flown(&mut rng));
             if n % 4 == 1 {
                 s.look();
@@ -34,25 +34,22 @@ fn in_flight(s: &mut Section) {
     }
 }
 
-/// Words of an image that a tick and an exchange keep, four at a time far from one another, with a NaN that is not the canonical one; each call in both profiles.
+/// Words of an image that a tick and an exchange keep, with a NaN that is not the canonical one; each call in both profiles.
 fn kept(s: &mut Section) {
-    let all: Vec<usize> = (1..13).chain(17..20).chain(41..95).collect();
-    let apart = all.len().div_ceil(4);
     for profile in [0, 1] {
         s.set_up(&SetUp::new(profile));
         s.tick(&Tick::still());
         let image = s.image().to_vec();
-        for first in 0..apart {
-            for (bits, ticks) in [(0x7f80_0001u32, true), (0xffff_ffff, false)] {
+        for at in (1..13).chain(17..20).chain(41..95) {
+            for bits in [0x7f80_0001u32, 0xffff_ffff] {
                 let mut damaged = image.clone();
-                all[first..].iter().step_by(apart).for_each(|at| put(&mut damaged, *at, bits));
-                s.give(&damaged);
-                if ticks {
-                    s.tick(&Tick::still());
-                } else {
-                    s.exchange(&Leg::rest(2.0));
+                put(&mut damaged, at, bits);
+                let looks: [fn(&mut Section); 2] = [|s| drop(s.tick(&Tick::still())), |s| drop(s.exchange(&Leg::rest(2.0)))];
+                for call in &looks[usize::from(bits == 0xffff_ffff)..][..1] {
+                    s.give(&damaged);
+                    call(s);
+                    drop(s.ask("image"));
                 }
-                drop(s.ask("image"));
             }
         }
     }

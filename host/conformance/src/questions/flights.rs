@@ -1,22 +1,23 @@
 //! Numbers that no simulator makes, and those of flights.
 
-use super::drawn::{self, EVERY_BIT, KINDS};
 use super::shield::CLASSES;
 use super::{Leg, Made, Section, SetUp, Tick, ARITHMETIC, JOINT, PARTS, REQUEST, REQUESTS};
 use crate::conform::Level;
-use compare::generate::Rng;
+use compare::answers::{filled, set_up_parts, INPUT};
+use compare::generate::{Kind, Rng};
+use compare::joint::bytes::SETUP_PROFILE;
 use compare::steps::sincos;
 
 pub const SECTIONS: &[Made] = &[
-    Made { file: "11-dt", name: "a dt of 0, negative, NaN, infinite", words: &["A dt that is not finite and above 0 adds nothing.", "dt is put into 1e-4..0.1, and is 1e-3 if not finite."], place: PARTS, level: Level::Rule, every: 7, lines: steps },
-    Made { file: "12-clock", name: "a clock that has stopped growing, and one at infinity", words: &["The time never falls between resets and is never NaN; it may reach +infinity", "Sample the segment at its time, or at the first axis's t_end if the time is +infinity"], place: PARTS, level: Level::Rule, every: 7, lines: clock },
-    Made { file: "13-gate", name: "the governor's gate", words: &["the gate lies between g_min put into 0..1 (0 if it is not finite) and 1."], place: PARTS, level: Level::Rule, every: 17, lines: gate },
-    Made { file: "14-classes", name: "subnormal numbers and every other class, in every word", words: EVERY_BIT, place: REQUEST, level: Level::Bits, every: 19, lines: classes },
-    Made { file: "15-free-fall", name: "a thrust that is next to nothing", words: &["The fallback is `desired_rate` plus `flatness_omega_ff`, and `desired_rate` alone where the latter refuses."], place: JOINT, level: Level::Bits, every: 7, lines: free_fall },
-    Made { file: "16-flights", name: "flights with all rotors", words: &["In the joint tick the margin's rate error is the filtered rate less RᵀR_d times the feedforward, so that a turn which was asked for is no error. Where the feedforward refuses, it is the filtered rate as before."], place: REQUESTS, level: Level::Rule, every: 7, lines: |s| flights(s, 0) },
-    Made { file: "17-lost-rotor-flights", name: "flights with a rotor lost", words: &["With 1 in it the reduced error steers toward the thrust axis, with no feedforward. Psi is 1 less the dot product of R's third column with it. The margin counts the first two filtered rates"], place: REQUESTS, level: Level::Rule, every: 7, lines: |s| flights(s, 1) },
-    Made { file: "18-any-bits", name: "any bits", words: &["One NaN is as good as another; any that is written into an image or an answer is 7fc00000, also in a word that is only kept."], place: ARITHMETIC, level: Level::Bits, every: 3, lines: any_bits },
-    Made { file: "19-segments", name: "segments that are mended", words: &["a duration that is not finite and above 1e-3 becomes 1e-3; a bad end position becomes the start's, any other bad number 0."], place: PARTS, level: Level::Bits, every: 7, lines: segments },
+    Made { file: "11-dt", name: "a dt of 0, negative, NaN, infinite", words: &["A dt that is not finite and above 0 adds nothing.", "dt is put into 1e-4..0.1, and is 1e-3 if not finite."], place: PARTS, level: Level::Rule, lines: steps },
+    Made { file: "12-clock", name: "a clock that has stopped growing, and one at infinity", words: &["The time never falls between resets and is never NaN; it may reach +infinity", "Sample the segment at its time, or at the first axis's t_end if the time is +infinity"], place: PARTS, level: Level::Rule, lines: clock },
+    Made { file: "13-gate", name: "the governor's gate", words: &["the gate lies between g_min put into 0..1 (0 if it is not finite) and 1."], place: PARTS, level: Level::Rule, lines: gate },
+    Made { file: "14-classes", name: "subnormal numbers and every other class, in every word", words: &["Every bit pattern of a float and every length of a buffer has a defined answer."], place: REQUEST, level: Level::Bits, lines: classes },
+    Made { file: "15-free-fall", name: "a thrust that is next to nothing", words: &["The fallback is `desired_rate` plus `flatness_omega_ff`, and `desired_rate` alone where the latter refuses."], place: JOINT, level: Level::Bits, lines: free_fall },
+    Made { file: "16-flights", name: "flights with all rotors", words: &["In the joint tick the margin's rate error is the filtered rate less RᵀR_d times the feedforward, so that a turn which was asked for is no error. Where the feedforward refuses, it is the filtered rate as before."], place: REQUESTS, level: Level::Rule, lines: |s| flights(s, 0) },
+    Made { file: "17-lost-rotor-flights", name: "flights with a rotor lost", words: &["With 1 in it the reduced error steers toward the thrust axis, with no feedforward. Psi is 1 less the dot product of R's third column with it. The margin counts the first two filtered rates"], place: REQUESTS, level: Level::Rule, lines: |s| flights(s, 1) },
+    Made { file: "18-any-bits", name: "any bits", words: &["One NaN is as good as another; any that is written into an image or an answer is 7fc00000, also in a word that is only kept."], place: ARITHMETIC, level: Level::Bits, lines: any_bits },
+    Made { file: "19-segments", name: "segments that are mended", words: &["a duration that is not finite and above 1e-3 becomes 1e-3; a bad end position becomes the start's, any other bad number 0."], place: PARTS, level: Level::Bits, lines: segments },
 ];
 
 /// A segment that moves, so that its time is seen in the margin.
@@ -61,9 +62,6 @@ fn clock(s: &mut Section) {
         s.look();
         s.exchange(&moving());
         after(s, &[0.001, 2.0, f32::MAX, f32::MAX, 0.001]);
-        // there the segment's end counts, which is another attitude than its beginning
-        s.set_up(&set_up.clone().leg(&Leg::lean(2.0)));
-        after(s, &[0.001, f32::MAX, f32::MAX, 0.001, 0.001]);
         // a clock that the gate holds
         s.set_up(&set_up.clone().with(14, &[0.3, 1.5, 0.0]));
         (0..4).for_each(|k| drop(s.tick(&turning(k).with(7, &[9.0, 0.0, 0.0, f32::MAX]))));
@@ -168,27 +166,20 @@ pub fn flown(rng: &mut Rng) -> Tick {
         .with(14, &delivered)
 }
 
-/// Set-ups and ticks of each kind that is drawn; a cut-off is at first one that is taken.
+/// Set-ups and ticks of each kind that the host draws; a cut-off is one that is taken.
 fn any_bits(s: &mut Section) {
+    const KINDS: [Kind; 4] = [Kind::Flight, Kind::Damaged, Kind::Special, Kind::Bits];
     for number in 0..32 {
         let mut rng = Rng::new("kit any bits", number);
-        let mut set_up = drawn::set_up(KINDS[number as usize % 4], number as u32 / 4 % 2, &mut rng);
+        let mut set_up = SetUp::new(number as u32 / 4 % 2);
+        set_up.words = filled::<SETUP_PROFILE>(KINDS[number as usize % 4], &set_up_parts(), &mut rng);
         set_up.words[48..].copy_from_slice(&[rng.range(20.0, 120.0), rng.range(300.0, 1000.0)]);
         s.set_up(&set_up);
         s.look();
         for k in 0..10 {
-            s.tick(&drawn::tick(KINDS[(k + number as usize / 8) % 4], &mut rng));
+            s.tick(&Tick(filled(KINDS[(k + number as usize / 8) % 4], &INPUT, &mut rng)));
         }
         s.look();
-    }
-    // and set-ups whose cut-off is any
-    for number in 0..60 {
-        let mut rng = Rng::new("kit any set-ups", number);
-        s.set_up(&drawn::set_up(KINDS[number as usize % 4], number as u32 / 4 % 2, &mut rng));
-        s.tick(&drawn::tick(KINDS[number as usize / 8 % 4], &mut rng));
-        if number % 6 == 0 {
-            s.look();
-        }
     }
 }
 

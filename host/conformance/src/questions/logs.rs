@@ -12,7 +12,6 @@ pub const SECTIONS: &[Made] = &[
         words: &["Reading back gives exactly what was appended, then nothing."],
         place: REQUESTS,
         level: Level::Bits,
-        every: 2,
         lines: read_back,
     },
     Made {
@@ -21,7 +20,6 @@ pub const SECTIONS: &[Made] = &[
         words: &["An append puts a record where the trailer stood and a new trailer after it."],
         place: REQUESTS,
         level: Level::Bytes,
-        every: 1,
         lines: bytes,
     },
     Made {
@@ -30,7 +28,6 @@ pub const SECTIONS: &[Made] = &[
         words: &["no room; of flags, a buffer of another length than the list's, or more than 65,535 margins"],
         place: REFUSALS,
         level: Level::Bytes,
-        every: 1,
         lines: ends,
     },
     Made {
@@ -43,7 +40,6 @@ pub const SECTIONS: &[Made] = &[
         ],
         place: REFUSALS,
         level: Level::Bytes,
-        every: 1,
         lines: refused,
     },
 ];
@@ -53,7 +49,7 @@ pub fn trailer(count: usize) -> String {
     words([count as u32, (RECORD * count) as u32, RECORD as u32])
 }
 
-pub fn words(words: [u32; 3]) -> String {
+fn words(words: [u32; 3]) -> String {
     plain(&words.map(u32::to_le_bytes).concat())
 }
 

@@ -3,7 +3,6 @@
 
 mod checks;
 mod desks;
-mod drawn;
 mod exchanges;
 mod flights;
 mod logs;
@@ -26,7 +25,6 @@ pub struct Section<'a> {
     pub words: &'static [&'static str],
     pub place: &'static str,
     pub lines: Vec<(Level, String, Answer)>,
-    pub every: usize,
     program: Program<'a>,
     level: Level,
 }
@@ -35,10 +33,10 @@ pub struct Section<'a> {
 pub fn sections(right: &Calls) -> Vec<Section<'_>> {
     let all =
         [shield::SECTIONS, flights::SECTIONS, exchanges::SECTIONS, routes::SECTIONS, refused::SECTIONS, logs::SECTIONS, checks::SECTIONS];
-    let all = all.into_iter().chain([patterns::SECTIONS, desks::SECTIONS, samples::SECTIONS, desks::ON_ROUTES, drawn::SECTIONS]).flatten();
+    let all = all.into_iter().chain([patterns::SECTIONS, desks::SECTIONS, samples::SECTIONS, desks::ON_ROUTES]).flatten();
     all.map(|made| {
-        let (Made { file, name, words, place, level, every, lines }, program) = (*made, Program::new(right));
-        let mut section = Section { file, name, words, place, lines: Vec::new(), every, program, level };
+        let (Made { file, name, words, place, level, lines }, program) = (*made, Program::new(right));
+        let mut section = Section { file, name, words, place, lines: Vec::new(), program, level };
         lines(&mut section);
         section.put_back();
         section
@@ -46,7 +44,7 @@ pub fn sections(right: &Calls) -> Vec<Section<'_>> {
     .collect()
 }
 
-/// How a section is made: from this level on; every so-manieth line of a call is an answer that is stored too (`answers`).
+/// How a section is made: from this level on.
 #[derive(Clone, Copy)]
 pub struct Made {
     pub file: &'static str,
@@ -54,7 +52,6 @@ pub struct Made {
     pub words: &'static [&'static str],
     pub place: &'static str,
     pub level: Level,
-    pub every: usize,
     pub lines: fn(&mut Section),
 }
 
@@ -232,12 +229,6 @@ impl Leg {
     pub fn fall(t: f32, a: f32) -> Self {
         let down = |p: f32, v: f32| [0.0, 0.0, p, 0.0, 0.0, v, 0.0, 0.0, a];
         Leg::between(down(0.0, 0.0), down(0.5 * a * t * t, a * t), t)
-    }
-
-    /// From rest into a lean: five metres a second squared to the side at its end, at an even rate.
-    pub fn lean(t: f32) -> Self {
-        let (a, side) = (5.0, |p: f32, v: f32, a: f32| [p, 0.0, 0.0, v, 0.0, 0.0, a, 0.0, 0.0]);
-        Leg::between([0.0; 9], side(a * t * t / 6.0, a * t / 2.0, a), t)
     }
 
     pub fn bytes(&self) -> [u8; LEG] {

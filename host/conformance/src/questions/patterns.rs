@@ -3,8 +3,7 @@
 use super::{plain, Leg, Made, Section, REFUSALS, REQUESTS};
 use crate::conform::{word_of, Level};
 use compare::generate::Rng;
-use compare::joint::bytes::{LEG, TRAILER};
-use compare::pattern::{any, count, damaged, leg, written, Fault, Item};
+use compare::pattern::{any, damaged, leg, written, Item};
 
 pub const SECTIONS: &[Made] = &[
     Made {
@@ -13,7 +12,6 @@ pub const SECTIONS: &[Made] = &[
         words: &["Legs and repeats of 1 to 9, up to four deep, expand into a route whose legs meet, in flown order. Refusals 12, 5, 9, 7."],
         place: REQUESTS,
         level: Level::Bits,
-        every: 2,
         lines: patterns,
     },
     Made {
@@ -22,7 +20,6 @@ pub const SECTIONS: &[Made] = &[
         words: &["a bad tag, count, depth or length"],
         place: REFUSALS,
         level: Level::Bytes,
-        every: 1,
         lines: refused,
     },
 ];
@@ -136,7 +133,7 @@ fn refused(s: &mut Section) {
         repeat(2, &[&repeat(2, &one)[..], &leg(2)].concat()),
     ];
     for form in &forms {
-        s.ask(format!("expand {} a5*400 a5*4", word_of(form)));
+        s.ask(format!("expand {} a5*2440 a5*4", word_of(form)));
     }
     for off in [-1i32, 1, 4, -4, 76, 256] {
         let mut bytes = repeat(3, &one);
@@ -154,24 +151,25 @@ fn refused(s: &mut Section) {
         let pattern = plain(&written(&still(legs)).0);
         let needed = 76 * legs + 8;
         for room in [0, 8, needed - 8, needed - 1, needed, needed + 1, needed + 100] {
-            // of the long one the right length alone
-            for length in ["a5*4", "a5*3", "a5*5", "-"].into_iter().take(if legs == 32 { 1 } else { 4 }) {
+            for length in ["a5*4", "a5*3", "a5*5", "-"] {
                 s.ask(format!("expand {pattern} {} {length}", word_of(&vec![0xa5; room])));
             }
         }
     }
     // every pair of a wrong form, a wrong count, no room, legs apart, a wrong length
     let apart = [item(HERE, HERE, 1.0), item([0.0; 9], HERE, 1.0)];
-    let many = written(&nested(1, 3, still(11))).0;
-    let both = [written(&apart).0, many.clone()].concat();
+    let many = |mut items: Vec<Item>| {
+        items.extend(still(33));
+        items
+    };
     let patterns = [
         written(&apart).0,
-        both.clone(),
-        many.clone(),
+        written(&many(apart.to_vec())).0,
+        written(&still(33)).0,
         Vec::new(),
         [&written(&apart).0[..], &[9]].concat(),
-        [&many[..], &[9]].concat(),
-        [&both[..], &[9]].concat(),
+        [&written(&still(33)).0[..], &[9]].concat(),
+        [&written(&many(apart.to_vec())).0[..], &[9]].concat(),
         vec![9],
         written(&still(2)).0,
     ];
@@ -180,22 +178,6 @@ fn refused(s: &mut Section) {
             for length in ["a5*4", "a5*5", "-"] {
                 s.ask(format!("expand {} {room} {length}", word_of(&pattern)));
             }
-        }
-    }
-    // one leg more than the most, with room for it
-    for room in ["a5*2515", "a5*2516"] {
-        s.ask(format!("expand {} {room} a5*4", word_of(&many)));
-    }
-    // any trees with any room: more legs than the most are refused unseen
-    let mut rng = Rng::new("kit patterns in any room", 0);
-    for n in 0..80 {
-        let items = any(&mut rng);
-        let whole = written(&items);
-        let needed = count(Fault::None, &items).min(33) as usize * LEG + TRAILER;
-        let room = [needed - 1, needed - TRAILER, rng.below(needed), needed + 1 + rng.below(20)][n % 4];
-        let bytes = if n % 3 == 0 { damaged(&mut rng, whole) } else { whole.0 };
-        if bytes.len() < 700 {
-            s.ask(format!("expand {} a5*{room} a5*4", word_of(&bytes)));
         }
     }
 }

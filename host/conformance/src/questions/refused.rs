@@ -7,16 +7,14 @@ use compare::joint::refusal::stored;
 
 const LOWEST: &[&str] = &["The call returns the number; the lowest that holds wins. Unless it is 0, no byte changes."];
 
-pub const ROW_4: &[&str] = &["word 0 is not 99. Enter is not finite or not above 0. Exit is not above enter. Engaged is neither 0 nor 1. The time is NaN or below 0. A t_end is not finite or below 1e-3. The profile is neither 0 nor 1. A stored peak has not the bits of the one worked out from the segment."];
-
 pub const SECTIONS: &[Made] = &[
-    Made { file: "25-cut-offs", name: "set-ups refused for their profile or their cut-off", words: &["It refuses a profile that is neither 0 nor 1 and, since request Twelve, a cut-off that would pass through."], place: super::JOINT, level: Level::Bits, every: 7, lines: cut_offs },
-    Made { file: "26-set-up-refused", name: "every refusal of a set-up, and every pair", words: LOWEST, place: REFUSALS, level: Level::Bytes, every: 1, lines: set_ups },
-    Made { file: "27-tick-refused", name: "every refusal of a tick, and every pair", words: LOWEST, place: REFUSALS, level: Level::Bytes, every: 1, lines: ticks },
-    Made { file: "28-route-refused", name: "every refusal of a route tick, and every pair", words: &["Refusals after 4: 6, 5, 6, 7."], place: REQUESTS, level: Level::Bytes, every: 1, lines: routes },
-    Made { file: "29-exchange-refused", name: "every refusal of an exchange, and every pair", words: &["Refusals of the exchange: 1, 2, 4."], place: REQUESTS, level: Level::Bytes, every: 2, lines: exchanges },
-    Made { file: "30-broken-images", name: "images that no call leaves", words: ROW_4, place: REFUSALS, level: Level::Bytes, every: 5, lines: broken },
-    Made { file: "31-unfiltered-images", name: "images of before request Twelve", words: &["images that were set up so go on, their runs and logs as before."], place: REQUESTS, level: Level::Bytes, every: 2, lines: unfiltered },
+    Made { file: "25-cut-offs", name: "set-ups refused for their profile or their cut-off", words: &["It refuses a profile that is neither 0 nor 1 and, since request Twelve, a cut-off that would pass through."], place: super::JOINT, level: Level::Bits, lines: cut_offs },
+    Made { file: "26-set-up-refused", name: "every refusal of a set-up, and every pair", words: LOWEST, place: REFUSALS, level: Level::Bytes, lines: set_ups },
+    Made { file: "27-tick-refused", name: "every refusal of a tick, and every pair", words: LOWEST, place: REFUSALS, level: Level::Bytes, lines: ticks },
+    Made { file: "28-route-refused", name: "every refusal of a route tick, and every pair", words: &["Refusals after 4: 6, 5, 6, 7."], place: REQUESTS, level: Level::Bytes, lines: routes },
+    Made { file: "29-exchange-refused", name: "every refusal of an exchange, and every pair", words: &["Refusals of the exchange: 1, 2, 4."], place: REQUESTS, level: Level::Bytes, lines: exchanges },
+    Made { file: "30-broken-images", name: "images that no call leaves", words: &["word 0 is not 99. Enter is not finite or not above 0. Exit is not above enter. Engaged is neither 0 nor 1. The time is NaN or below 0. A t_end is not finite or below 1e-3. The profile is neither 0 nor 1. A stored peak has not the bits of the one worked out from the segment."], place: REFUSALS, level: Level::Bytes, lines: broken },
+    Made { file: "31-unfiltered-images", name: "images of before request Twelve", words: &["images that were set up so go on, their runs and logs as before."], place: REQUESTS, level: Level::Bytes, lines: unfiltered },
 ];
 
 fn cut_offs(s: &mut Section) {

@@ -6,9 +6,9 @@ use crate::conform::Level;
 use compare::generate::Rng;
 
 pub const SECTIONS: &[Made] = &[
-    Made { file: "22-routes", name: "routes of 1, 8, 9 and 32 legs", words: &["Routes of up to 8 keep their bytes and fly the same; the earlier release refuses longer ones with 5; 5 is for more than 32."], place: REQUESTS, level: Level::Rule, every: 7, lines: counts },
-    Made { file: "23-leg-ends", name: "leg ends at the time itself", words: &["the first leg whose end, a running f32 sum of mended durations, is above the governor's time; past all ends the last one at its duration."], place: REQUESTS, level: Level::Rule, every: 7, lines: ends },
-    Made { file: "24-joins", name: "legs that meet, and that do not", words: &["Each leg starts where the one before it ended, as numbers."], place: REQUESTS, level: Level::Rule, every: 7, lines: joins },
+    Made { file: "22-routes", name: "routes of 1, 8, 9 and 32 legs", words: &["Routes of up to 8 keep their bytes and fly the same; the earlier release refuses longer ones with 5; 5 is for more than 32."], place: REQUESTS, level: Level::Rule, lines: counts },
+    Made { file: "23-leg-ends", name: "leg ends at the time itself", words: &["the first leg whose end, a running f32 sum of mended durations, is above the governor's time; past all ends the last one at its duration."], place: REQUESTS, level: Level::Rule, lines: ends },
+    Made { file: "24-joins", name: "legs that meet, and that do not", words: &["Each leg starts where the one before it ended, as numbers."], place: REQUESTS, level: Level::Rule, lines: joins },
 ];
 
 /// Two states that legs go between, each with an acceleration of its own.
@@ -78,12 +78,7 @@ fn ends(s: &mut Section) {
         s.route(&Tick::still().with(10, &[f32::MAX]), &route);
         s.route(&Tick::still(), &route_of(&[there(1.0)], 1));
     }
-    // durations that are mended: at rest, and then into a lean
-    for odd in [f32::NAN, f32::INFINITY, f32::NEG_INFINITY, -2.0] {
-        let mended = route_of(&[Leg::rest(odd), Leg::lean(1.0)], 1);
-        [0.5, 0.75, 1.5].into_iter().for_each(|time| at(s, time, &mended));
-    }
-    // and metres in a millisecond, where a margin hangs on its last places
+    // durations that are mended: metres in a millisecond, where a margin hangs on its last places
     s.at(Level::Bits, |s| {
         for odd in [f32::NAN, f32::INFINITY, f32::NEG_INFINITY, 0.0, -2.0, 1e-3, 0.0010000002, 1e-45, 5e-4] {
             let mended = route_of(&[there(odd), back(odd), there(1.0)], 1);

@@ -7,9 +7,9 @@ use crate::conform::{word_of, Level};
 use compare::generate::Rng;
 
 pub const SECTIONS: &[Made] = &[
-    Made { file: "42-samples", name: "where the aircraft should be, on every leg", words: &["of a route at a time, the leg flown, counted from 0, and position, velocity, acceleration and jerk there: 13 words. They are relay-traj's `eval` of that leg at its own time.", "the first leg whose end, a running f32 sum of mended durations, is above the governor's time; past all ends the last one at its duration."], place: BEYOND, level: Level::Bits, every: 7, lines: legs },
-    Made { file: "43-sample-times", name: "where it should be, at any bits of a time and of a leg", words: &["Every bit of the time is taken as a route tick takes it."], place: BEYOND, level: Level::Bits, every: 5, lines: any_bits },
-    Made { file: "44-sample-refused", name: "every refusal of a sample, and every pair", words: &["3 for the sample's length, then the route's 6, 5, 6, 7."], place: BEYOND, level: Level::Bytes, every: 3, lines: refused },
+    Made { file: "42-samples", name: "where the aircraft should be, on every leg", words: &["of a route at a time, the leg flown, counted from 0, and position, velocity, acceleration and jerk there: 13 words. They are relay-traj's `eval` of that leg at its own time.", "the first leg whose end, a running f32 sum of mended durations, is above the governor's time; past all ends the last one at its duration."], place: BEYOND, level: Level::Bits, lines: legs },
+    Made { file: "43-sample-times", name: "where it should be, at any bits of a time and of a leg", words: &["Every bit of the time is taken as a route tick takes it."], place: BEYOND, level: Level::Bits, lines: any_bits },
+    Made { file: "44-sample-refused", name: "every refusal of a sample, and every pair", words: &["3 for the sample's length, then the route's 6, 5, 6, 7."], place: BEYOND, level: Level::Bytes, lines: refused },
 ];
 
 fn sample(s: &mut Section, route: &str, time: f32) {

@@ -60,6 +60,7 @@ and before the first tick
 and
   tick N         N ticks; `tick N FIELD NUMBERS ..` leads these fields of the input evenly to these numbers
   row NUMBERS    one tick, all {row} numbers of the input
+  sticks NUMBERS a desk's: heading, turn and the zoom's rate, 3 numbers; an input, which holds until it is given again
   exchange NUMBERS, exchange here NUMBERS
                  from here on another segment is flown: {leg} numbers as a leg has; or pf vf af t, from where the way is
   centre         presses the desk's button
@@ -133,7 +134,6 @@ fn from_file(path: &Path, folder: &Path) -> Result<u8, String> {
     let [ours, earlier] = &pair.flights;
     let title = output::title(&name, &ours.ticks, Some((ours.enter, ours.exit)));
     let Some(simulated) = scenario.aircraft else {
-        let title = format!("{title}, open loop");
         let told =
             "\nOpen loop: gyro and attitude are as the file has them, and no torque moves them. `aircraft simulated` flies an aircraft.\n";
         show(&(table(&title, std::slice::from_ref(&pair)) + told))?;

@@ -1,6 +1,7 @@
 //! The stored answers beside wrong versions of their calls: each version has to be seen by a stored row, for the list is all that a target or another language's
 //! binding is held to. Those that no row can show are named, with the reason.
 
+use compare::answers::{self, Row, Section};
 use compare::audit::{self, judge, Given};
 use compare::desk;
 use compare::joint::bytes::{float, word};
@@ -11,7 +12,6 @@ use compare::joint::{sample, Call};
 use compare::log;
 use compare::pattern;
 use compare::slow;
-use conformance::answers::{self, Row, Section};
 use std::fmt::Debug;
 
 /// A buffer as it is stored, and how many bytes of it are lent.
@@ -75,7 +75,7 @@ fn all_seen<V>(versions: impl IntoIterator<Item = (String, V)>, unseen: &[&str],
     let counts: Vec<(String, usize)> = versions.into_iter().map(|(name, version)| (name, seen(&version))).collect();
     counts.iter().for_each(|(name, rows)| println!("{name}: {rows} rows"));
     let missed: Vec<&String> = counts.iter().filter(|(_, rows)| *rows == 0).map(|(name, _)| name).collect();
-    assert_eq!(missed, unseen, "versions that no stored row shows: a smaller `every` of their rule stores more of its lines");
+    assert_eq!(missed, unseen, "versions that no stored row shows");
 }
 
 /// Faults by their names.

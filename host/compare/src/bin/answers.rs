@@ -1,6 +1,6 @@
 //! Makes the list of the oracle's answers that the program `replay` runs again, and puts it where it stands: `answers`.
 
-use conformance::answers;
+use compare::answers;
 use std::process::ExitCode;
 
 fn main() -> ExitCode {

@@ -1,11 +1,9 @@
 //! The stored list that the program `replay` runs again, and that the program sees what is wrong with a list.
 
+use compare::answers::{self, Section};
 use compare::joint::bytes::{IMAGE, PROFILE};
 use compare::joint::model::Right;
 use compare::joint::route::Legs;
-use conformance::answers::{self, Section};
-use conformance::program::Calls;
-use conformance::questions;
 use std::fs::{self, File};
 use std::process::Command;
 
@@ -21,31 +19,6 @@ fn the_stored_list_is_the_oracle_s() {
         stored.len(),
         made.len()
     );
-}
-
-/// So that what a rule of the kit tries is run by those too who run the list alone.
-#[test]
-fn every_rule_of_the_kit_has_a_row() {
-    let (right, rows) = (Calls::right(), answers::rows());
-    let kit = questions::sections(&right);
-    let without: Vec<&str> = kit.iter().map(|rule| rule.file).filter(|file| !rows.iter().any(|told| told.file == *file)).collect();
-    assert!(without.is_empty(), "rules with no stored row: {without:?}");
-    let lines: usize = kit.iter().map(|rule| rule.lines.len()).sum();
-    println!("{} of the kit's {lines} lines are stored", rows.len());
-    assert!(rows.len() < lines / 3);
-}
-
-/// docs/ORACLE.md's counts.
-#[test]
-fn the_page_has_the_list_s_counts() {
-    let page = checkout::root().expect("a checkout").join("docs/ORACLE.md");
-    let (page, sections) = (fs::read_to_string(page).expect("the page"), answers::sections());
-    let all: usize = sections.iter().map(|section| section.rows.len()).sum();
-    assert!(page.contains(&format!("is a list of {},{:03} answers", all / 1000, all % 1000)), "docs/ORACLE.md has another count than {all}");
-    for section in sections.iter().filter(|section| section.number >= 500) {
-        let row = format!("| {} | {} | {} |", section.number, section.name, section.rows.len());
-        assert!(page.lines().any(|line| line.starts_with(&row)), "docs/ORACLE.md has not: {row}");
-    }
 }
 
 fn named<'a>(sections: &'a [Section], name: &str) -> &'a Section {

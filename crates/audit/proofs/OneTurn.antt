@@ -1,6 +1,6 @@
 -- One turn of the pass over a log: the latch that is carried along says what looking back does. Assumes nothing.
-use Rattle.laws.proofs.Prelude.{ℕ, zero, suc, ◌+◌, ◌-◌, ◌*◌, ◌/◌, ◌<◌, ◌≤◌, ◌≡◌, refl, ◌∙◌, Bool, true, false, not, ◌&&◌, cond, List, [], ◌∷◌, le_of_suc-le-suc, add-one, arith, lt-ltb, not-true}
-use Rattle.laws.proofs.Prelude.{not-false, ltb, Float, nan, lt, length, get_or, take, drop, length-drop, length-take-le}
+use Rattle.laws.proofs.Prelude.{ℕ, zero, suc, ◌+◌, ◌-◌, ◌*◌, ◌/◌, ◌<◌, ◌≤◌, ◌≡◌, refl, ◌∙◌, Bool, true, false, not, ◌&&◌, cond, List, [], ◌∷◌, le_of_suc-le-suc, add-one, arith, lt-ltb}
+use Rattle.laws.proofs.Prelude.{ltb, Float, nan, lt, length, get_or, take, drop, length-drop, length-take-le}
 use Rattle.latch.{specs.Latch.{releases, engages, latch}, proofs.LatchFlies.released_is_calm}
 use Rattle.joint_tick.specs.declared.profile.Profile.{Profile}
 use Rattle.slow_shield.specs.Back.{look_back}

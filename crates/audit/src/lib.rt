@@ -12,10 +12,10 @@ ghost use Rattle.audit.specs.Right.{passes, passes_third, planners, finite_on, f
 ghost use Rattle.audit.specs.Verdict.{verdict_of, verdict_word};
 ghost use Rattle.audit.specs.Entry.{check_call};
 
+use flight_log::{RECORD_BYTES, TRAILER_BYTES, is_log};
 use image::{AGILE, INPUT_WORDS};
 use joint_tick::{Profile, is_profile, profile_of};
 use latch::latch;
-use flight_log::{RECORD_BYTES, TRAILER_BYTES, is_log};
 use outcome::Outcome;
 use relay_geo::mend;
 use relay_math::is_finite;

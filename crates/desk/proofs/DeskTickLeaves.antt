@@ -1,4 +1,5 @@
--- What a desk tick leaves by what its calls gave, on either course. Of the core it takes the promises and two laws: it is done unless `core_refusal` refuses, and then changes nothing. Assumes nothing.
+-- What a desk tick leaves by what its calls gave, on either course. Of the core it takes the promises and two laws: it is done unless `core_refusal` refuses,
+-- and then changes nothing. Assumes nothing.
 use Rattle.laws.proofs.Prelude.{◌≡◌, refl, sym, ap, ◌∙◌, Bool, true, false, List, [], ◌∷◌, ℕ, suc, ◌*◌, Float, length, length-sets}
 use Rattle.words.{specs.Words.{word, bits, bytes_of, Put}, proofs.{Written.{then, put_over}, Standing.{Bytes, word_stands}}}
 use Rattle.image.specs.Layout.{YAW, input_bytes}

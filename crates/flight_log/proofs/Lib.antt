@@ -1,4 +1,5 @@
 pub mod LogForm
+pub mod Apart
 pub mod Made
 pub mod Reading
 pub mod Refused

@@ -1,5 +1,5 @@
 -- What bytes that are a log have, and what an append that is not refused has. Assumes nothing.
-use Rattle.laws.proofs.Prelude.{◌≡◌, refl, sym, ◌∙◌, Bool, true, false, not, ◌&&◌, List, ◌++◌, ℕ, ◌+◌, ◌-◌, ◌*◌, ◌/◌, ◌≤◌, ◌<◌, arith, ltb-true, ltb-false, eqb-true, eqb-false, not-false, eqb, leb}
+use Rattle.laws.proofs.Prelude.{◌≡◌, refl, sym, ◌∙◌, Bool, true, ◌&&◌, List, ◌++◌, ℕ, ◌+◌, ◌-◌, ◌*◌, ◌/◌, ◌≤◌, ◌<◌, arith, ltb-true, ltb-false, eqb-true, eqb-false, not-false, eqb, leb}
 use Rattle.laws.proofs.Prelude.{ltb, length, take, drop, length-append, length-drop, sets, length-take-le, both}
 use borrow.Author.Tests.{leb-true}
 use Rattle.words.{specs.Words.Put, proofs.Written.sets_append}

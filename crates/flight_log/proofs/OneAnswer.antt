@@ -40,7 +40,7 @@ module _ (T : Ended) {X : Type 0} (seen : (κs : Lfts T.signature.lifetimes) →
       → promise κs a y (at_exit T κs a w)
       → (seen κs x ≡ seen κs y) × (v ≡ w)
 
--- ---- The functions over a reader are walked by hand: what each promises, and that its own clause is that.
+-- ---- Of the functions over a reader: what each promises, and that its own clause is that.
 
 abbrev Next : Promise next.ended
 Next κs a r e = r.now ≡ record_at a.0.log.now a.0.place

@@ -1,5 +1,4 @@
-// The reader: the lent log, and a place in it; 0 is the start. Each function takes it apart and calls one on the slice and the number (record.rt), since
-// only those are covered by the toolchain's own proofs.
+// The reader: the lent log, and a place in it; 0 is the start. Each function takes it apart and calls one on the slice and the number (record.rt).
 ghost use Rattle.std.specs.Prelude.{◌≡◌};
 ghost use Rattle.flight_log.specs.Records.{record_at, place_after};
 

@@ -2,8 +2,8 @@
 use Rattle.laws.proofs.Prelude.{refl, ap, List, ℕ}
 use Rattle.outcome.specs.Outcomes.{Left, Lent}
 use Rattle.pattern.specs.Entry.{Buffers}
-use Rattle.fosavalo.specs.contracts as promised
 use Rattle.laws.proofs.Determined.{OneAnswer, no_second, both}
+use Rattle.fosavalo.specs.contracts as promised
 use Rattle.fosavalo.proofs.fosavalo_version
 use Rattle.fosavalo.proofs.fosavalo_sinf
 use Rattle.fosavalo.proofs.fosavalo_cosf

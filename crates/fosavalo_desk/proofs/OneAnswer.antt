@@ -1,9 +1,9 @@
 -- Of each public function here: no second answer fits its promise. Assumes nothing.
 use Rattle.laws.proofs.Prelude.{refl, ap, List, ℕ}
 use Rattle.outcome.specs.Outcomes.{Left}
-use Rattle.fosavalo_desk.specs.contracts as promised
 use Rattle.laws.proofs.Determined.{OneAnswer, no_second, both}
 use Rattle.desk.specs.Entry.{LentToDesk}
+use Rattle.fosavalo_desk.specs.contracts as promised
 use Rattle.fosavalo_desk.proofs.fosavalo_desk_version
 use Rattle.fosavalo_desk.proofs.fosavalo_desk_setup
 use Rattle.fosavalo_desk.proofs.fosavalo_desk_centre

@@ -9,7 +9,7 @@ use Rattle.relay_geo.specs.Controller.{rate_toward, desired_rate}
 use Rattle.relay_adrc.specs.{declared.{axis.AdrcAxis.AdrcAxis, rate.AdrcRate.AdrcRate}, Axis.axis_tick}
 use Rattle.joint_tick.specs.declared.{profile.Profile.{Profile, TheVariants.{Whole, LostRotor}}, state.{State.State, TickInput.TickInput}, stages.Reference.Reference}
 use Rattle.joint_tick.specs.Tick.{planner_of, cleaned, desired_r, feedforward, with_feedforward, rate_error, rate_sq, margin_of, guide_whole, rate_toward_axis, tilt_rate_sq, margin_to_axis, guide_lost_rotor, guide}
-use Rattle.joint_tick.{specs.Tick.{guidance, follow, ticked}, proofs.Shielding.{filtered, wanted_at, tick-command, tick-torque}}
+use Rattle.joint_tick.{specs.Tick.{guidance, follow, ticked}, proofs.Shielding.{filtered, wanted_at, tick_command, tick_torque}}
 use Rattle.image.specs.{Inputs.input_at, Fits.{F32, FitsVec}}
 use Rattle.image.proofs.Fitting.{fitting}
 use Rattle.relay_geo.specs.declared.vectors.Direction.TheVariants as direction
@@ -76,7 +76,7 @@ module _ (source : Float → Reference) (s : State) where
   pub command_fits : (b : List ℕ) → FitsVec (ticked source s (input_at b)).answer.command.0
   command_fits b =
       let i = input_at b in
-      rw (tick-command source s i)
+      rw (tick_command source s i)
       (either (ticked source s i).answer.fallback (guidance source s i).fallback.0 _ (fallback_fits i) (planner_fits s.fixed.profile i.agile (agile_fits b)))
     where
       either : (e : Bool) (v : Vec3) (w : BodyRate) → FitsVec v → FitsVec w.0 → FitsVec (cond {A = BodyRate} e record { 0 = sanitise3 v } w).0
@@ -95,4 +95,4 @@ follow_fits Whole r m d dt = search axis_torque_fits
 follow_fits LostRotor r m d dt = search (axis_torque_fits, fitting)
 
 pub torque_fits : (source : Float → Reference) (s : State) (i : TickInput) → FitsVec (ticked source s i).answer.torque.0
-torque_fits source s i = rw (tick-torque source s i) (follow_fits s.fixed.profile _ _ _ _)
+torque_fits source s i = rw (tick_torque source s i) (follow_fits s.fixed.profile _ _ _ _)

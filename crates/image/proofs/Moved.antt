@@ -1,5 +1,5 @@
 -- An image over which only what a tick moved is written. Assumes nothing.
-use Rattle.laws.proofs.Prelude.{◌≡◌, sym, ap, subst, ◌∙◌, List, [], ◌∷◌, ℕ, ◌+◌, ◌≤◌, lit≤, length}
+use Rattle.laws.proofs.Prelude.{◌≡◌, sym, ap, subst, ◌∙◌, List, [], ◌∷◌, ℕ, ◌+◌, lit≤, length}
 use Rattle.words.{specs.Words.{bits, flag, words_of, bytes_of, Put, Holds, canons}, proofs.Standing.put_holds}
 use Rattle.joint_tick.specs.declared.state.{Moving.Moving, State.State}
 use Rattle.image.specs.{Layout.{axis_words, biquad_words, ENGAGED, GOVERNOR, RATE, LPF, image_words, image_bytes}, Image.{fixed_at, moving_at, state_at, words_of_state, image_of}}

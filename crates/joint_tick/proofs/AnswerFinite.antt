@@ -7,7 +7,7 @@ use Rattle.relay_geo.proofs.{Sanitised.sanitise3_finite, MarginRange.{Ranges, ma
 use Rattle.relay_traj.{specs.Governor.Running, proofs.GovernorClock.never_nan}
 use Rattle.joint_tick.specs.declared.{profile.Profile.{Profile, TheVariants.{Whole, LostRotor}}, state.{State.State, TickInput.TickInput, Answer.Answer}, stages.Reference.Reference}
 use Rattle.joint_tick.specs.Tick.{cleaned, desired_r, feedforward, rate_error, rate_sq, psi_of, psi_to_axis, tilt_rate_sq, guide_whole, guide_lost_rotor, guide, guidance, follow, ticked}
-use Rattle.joint_tick.proofs.{Once.{one_margin, one_margin_to_axis}, Shielding.{filtered, wanted_at, planner_finite, tick_margin, tick-command, tick-torque}}
+use Rattle.joint_tick.proofs.{Once.{one_margin, one_margin_to_axis}, Shielding.{filtered, wanted_at, planner_finite, tick_margin, tick_command, tick_torque}}
 use Rattle.joint_tick.proofs.TickClock.{tick_time, time_never_back}
 
 -- ---- the margin is finite or minus infinity, with R_d and without
@@ -46,14 +46,14 @@ pub record Numbers (a : Answer) : Type 0 where
 
 module _ (source : Float → Reference) (s : State) (i : TickInput) where
   pub command_finite : Finite3 (ticked source s i).answer.command.0
-  command_finite = rw tick-command (either (ticked source s i).answer.fallback (guidance source s i).fallback.0 _ (planner_finite s.fixed.profile i.agile))
+  command_finite = rw tick_command (either (ticked source s i).answer.fallback (guidance source s i).fallback.0 _ (planner_finite s.fixed.profile i.agile))
     where
       either : (b : Bool) (v : Vec3) (w : BodyRate) → Finite3 w.0 → Finite3 (cond {A = BodyRate} b record { 0 = sanitise3 v } w).0
       either true v w f = sanitise3_finite v
       either false v w f = f
 
   pub torque_finite : Finite3 (ticked source s i).answer.torque.0
-  torque_finite = rw tick-torque (rate_finite _ _ _ _ _)
+  torque_finite = rw tick_torque (rate_finite _ _ _ _ _)
 
   pub margin_ranges : Ranges (ticked source s i).answer.margin
   unfolding guidance

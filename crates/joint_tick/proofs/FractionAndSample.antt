@@ -2,7 +2,7 @@
 use Rattle.laws.proofs.Prelude.{◌≡◌, refl, true, false, Float, nan, inf, fin, eq, of_bits, no}
 use Rattle.relay_math.specs.F32.{◌⊗◌, 0·0, is_finite, finite_or}
 use Rattle.relay_adrc.specs.{declared.{gains.AdrcGains.AdrcGains, axis.AdrcAxis.AdrcAxis}, Axis.{mend_dt, lag, delivered_fraction, axis_set_delivered_fraction}}
-use Rattle.relay_adrc.proofs.Ticks.{fraction-scales-the-command-before}
+use Rattle.relay_adrc.proofs.Ticks.{fraction_scales_the_command_before}
 use Rattle.relay_traj.specs.{declared.segment.Segment3.Segment3, Segment.duration}
 use Rattle.joint_tick.specs.declared.{profile.Profile.TheVariants.Whole, state.{State.State, TickInput.TickInput}, stages.Reference.Reference}
 use Rattle.joint_tick.specs.Tick.{prepare, sample_time, follow, pick, guide_pick_follow, ticked, state_after}
@@ -25,9 +25,9 @@ pub fraction_scales_the_last_torque : (source next : Float → Reference) (s : S
 unfolding ticked prepare guide_pick_follow pick follow
 fraction_scales_the_last_torque source next s i k =
     record {
-      roll = fraction-scales-the-command-before (axis_set_delivered_fraction s.moving.rate.roll i.fraction.0) _ _ _ _ _ _ _;
-      pitch = fraction-scales-the-command-before (axis_set_delivered_fraction s.moving.rate.pitch i.fraction.1) _ _ _ _ _ _ _;
-      yaw = λ e. rw e (fraction-scales-the-command-before (axis_set_delivered_fraction s.moving.rate.yaw i.fraction.2) _ _ _ _ _ _ _);
+      roll = fraction_scales_the_command_before (axis_set_delivered_fraction s.moving.rate.roll i.fraction.0) _ _ _ _ _ _ _;
+      pitch = fraction_scales_the_command_before (axis_set_delivered_fraction s.moving.rate.pitch i.fraction.1) _ _ _ _ _ _ _;
+      yaw = λ e. rw e (fraction_scales_the_command_before (axis_set_delivered_fraction s.moving.rate.yaw i.fraction.2) _ _ _ _ _ _ _);
     }
 
 -- ---- "at its duration (the first axis's t_end) if the time is +infinity", else at the time

@@ -5,7 +5,7 @@ use Rattle.relay_adrc.specs.{declared.rate.AdrcRate.AdrcRate, Rate.{rate_tick, r
 use Rattle.relay_geo.specs.{declared.{vectors.{Mat3.Mat3, Direction.Direction}, controller.GeoGains.GeoGains}, Vectors.sanitise3, Attitude.{quat_to_rotmat, thrust_axis_ned}}
 use Rattle.joint_tick.specs.declared.{profile.Profile.{Profile, TheVariants.{Whole, LostRotor}}, state.{State.State, TickInput.TickInput}, stages.{Reference.Reference, Guided.Guided}}
 use Rattle.joint_tick.specs.Tick.{cleaned, planner_of, fractions, prepare, rate_toward_axis, guide_lost_rotor, guide, follow, pick, guide_pick_follow, ticked, state_after}
-use Rattle.joint_tick.proofs.Shielding.{wanted_at, by_profile, tick-command}
+use Rattle.joint_tick.proofs.Shielding.{wanted_at, by_profile, tick_command}
 use Rattle.relay_geo.specs.declared.vectors.Direction.TheVariants as direction
 
 -- ---- the old rules are as they were: each part that goes by the profile is the routine that stood there (`guide Whole` is `guide_whole` as it is written)
@@ -49,7 +49,7 @@ module _ (source : Float → Reference) (s : State) (i : TickInput) (lost : s.fi
       let fallback = ap (λ (g : Guided). (sanitise3 g.fallback.0).2) (by_profile source s i lost) ∙ third_of_two s.fixed.gains (quat_to_rotmat i.quat)
       (thrust_axis_ned (cleaned (wanted_at source s i)).acc) in
       let planner = ap (λ (p : Profile). (planner_of p i.agile).0.2) lost in
-      ap (λ (w : BodyRate). w.0.2) (tick-command source s i) ∙ either (ticked source s i).answer.fallback _ _ fallback planner
+      ap (λ (w : BodyRate). w.0.2) (tick_command source s i) ∙ either (ticked source s i).answer.fallback _ _ fallback planner
     where
       either : (b : Bool) (v w : BodyRate) → v.0.2 ≡ 0·0 → w.0.2 ≡ 0·0 → (cond b v w).0.2 ≡ 0·0
       either true v w p q = p

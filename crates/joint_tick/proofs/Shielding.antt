@@ -67,10 +67,10 @@ module _ (source : Float → Reference) (s : State) (i : TickInput) where
   tick_fallback e = let g = guidance source s i in fallback_passed_on (shield_of s) g.margin g.planner g.fallback e
 
   -- "What is passed on is that command with non-finite numbers made zero, else the fallback treated alike, and the flag names which."
-  pub tick-command :
+  pub tick_command :
       (ticked source s i).answer.command ≡
       cond (ticked source s i).answer.fallback record { 0 = sanitise3 (guidance source s i).fallback.0 } (planner_of s.fixed.profile i.agile)
-  tick-command = go (ticked source s i).answer.fallback refl
+  tick_command = go (ticked source s i).answer.fallback refl
     where
       go : (b : Bool) → (ticked source s i).answer.fallback ≡ b
           → (ticked source s i).answer.command ≡ cond b record { 0 = sanitise3 (guidance source s i).fallback.0 } (planner_of s.fixed.profile i.agile)
@@ -78,8 +78,8 @@ module _ (source : Float → Reference) (s : State) (i : TickInput) where
       go false e = tick_planner e ∙ planner_is
 
   -- "ADRC ticks on the filtered gyro, the pick and dt."
-  pub tick-torque :
+  pub tick_torque :
       (ticked source s i).answer.torque ≡
       (follow s.fixed.profile (fractions s.fixed.profile s.moving.rate i.fraction) filtered (ticked source s i).answer.command i.dt).torque
   unfolding ticked prepare guide_pick_follow pick
-  tick-torque = refl
+  tick_torque = refl

@@ -2,7 +2,7 @@
 use mathlib.Core.Path.{◌≡◌, sym, ◌∙◌}
 use seplogic.Ra.Ura.{Ura}
 use base.Logic.{SProp}
-use prog.{Memory.Memory, Routine.Routine, Wp.Heap}
+use prog.{Memory.Memory, Routine.Routine}
 use types.Logic.{Logic}
 use contract.{Lifetimes.Lfts, Monad.{Fun, fact}}
 use denote.Triple.{Entry.{Args, Res}, Clauses.{Ended, Lasts, AtExit, at_exit, Clauses}}
@@ -20,8 +20,7 @@ module _ (T : Ended) where
       → promise κs a y (at_exit T κs a w)
       → (x ≡ y) × (v ≡ w)
 
-  -- A function that is walked by hand has no `Reads.Post`: what it promises is written beside it. This says that its own clause is that promise and nothing
-  -- else, in any model of the logic.
+  -- Where a promise is written out beside its function, this says that the function's own clause is that promise and nothing else, in any model of the logic.
   abbrev pub Says : ((M : Type 1) (𝓤 : Ura M) → (𝓛 : Logic 𝓤) → (Memory → SProp 𝓤) → (Routine → Fun 𝓤) → Clauses 𝓤 T) → Promise → Type 2
   Says clauses promise =
       (M : Type 1) (𝓤 : Ura M) (𝓛 : Logic 𝓤) (mem : Memory → SProp 𝓤) (run : Routine → Fun 𝓤)

@@ -1,5 +1,5 @@
 -- What a tick that is not refused has, and what a tick from any source of references leaves by what its stages gave. Assumes nothing.
-use Rattle.laws.proofs.Prelude.{◌≡◌, refl, sym, ap, ◌∙◌, Bool, true, false, not, List, ℕ, Float, length, not-false, eq-eqb}
+use Rattle.laws.proofs.Prelude.{◌≡◌, refl, sym, ap, ◌∙◌, Bool, true, List, ℕ, Float, length, not-false, eq-eqb}
 use Rattle.relay_adrc.specs.{declared.rate.AdrcRate.AdrcRate, Biquad.{biquad_filter, gyro_filter}}
 use Rattle.relay_traj.specs.Governor.{advance}
 use Rattle.joint_tick.specs.{declared.{state.{Fixed.Fixed, TickInput.TickInput}, stages.{Prepared.Prepared, Reference.Reference, Ticked.Ticked}}, Tick.{prepare, guide_pick_follow, ticked, state_after}}

@@ -69,7 +69,8 @@ module _ (setup : List ℕ) (p : is_profile (word setup setup_profile) ≡ true)
 
   -- ---- set-up's thresholds are what the check mends
 
-  thresholds : (enter_of setup ≡ (mend_thresholds (float setup setup_enter) (float setup setup_exit)).enter) × (exit_of setup ≡ (mend_thresholds (float setup setup_enter) (float setup setup_exit)).exit)
+  thresholds : (enter_of setup ≡ (mend_thresholds (float setup setup_enter) (float setup setup_exit)).enter)
+      × (exit_of setup ≡ (mend_thresholds (float setup setup_enter) (float setup setup_exit)).exit)
   unfolding start set_up setup_at new_shield fixed_at
   thresholds =
       let e = decode_encode (set_up (setup_at setup)) (set_up_fits setup) in

@@ -1,7 +1,7 @@
 -- The test face: a call that promises what its routine promises, word for word, has that routine's theorem (host/pages/tests). Here are the others: no second answer fits. Assumes nothing.
 use Rattle.laws.proofs.Prelude.{refl}
-use Rattle.probe.specs.contracts as promised
 use Rattle.laws.proofs.Determined.{OneAnswer, no_second, both}
+use Rattle.probe.specs.contracts as promised
 use Rattle.probe.proofs.geo
 use Rattle.probe.proofs.numbers
 

@@ -22,16 +22,16 @@ module _ (a : AdrcAxis) (omegaMeas omegaD dt : Float) where
   tick_finite = record { z1 = or_zero_finite _; z2 = or_zero_finite _; u_prev = or_zero_finite _; u_act = or_zero_finite _; u = or_zero_finite _ }
 
   -- "The delivered fraction set after one tick is used in the next": there it scales the command of the first, and what drives the observer is the lag of that product.
-  pub fraction-scales-the-command-before :
+  pub fraction_scales_the_command_before :
       (frac omegaMeas' omegaD' dt' : Float) →
       (axis_tick (axis_set_delivered_fraction (axis_tick a omegaMeas omegaD dt).axis frac) omegaMeas' omegaD' dt').axis.u_act ≡
       finite_or (lag (axis_tick a omegaMeas omegaD dt).axis.u_act ((axis_tick a omegaMeas omegaD dt).u ⊗ delivered_fraction frac) a.g.tau (mend_dt dt')) 0·0
   unfolding axis_tick
-  fraction-scales-the-command-before frac omegaMeas' omegaD' dt' = refl
+  fraction_scales_the_command_before frac omegaMeas' omegaD' dt' = refl
 
   -- what the observer takes for its input is that delivered command
-  pub observer-sees-the-delivered :
+  pub observer_sees_the_delivered :
       (axis_tick a omegaMeas omegaD dt).axis.z1 ≡
       finite_or (a.z1 ⊕ mend_dt dt ⊗ (a.z2 ⊕ mend_b0 a.g.b0 ⊗ (axis_tick a omegaMeas omegaD dt).axis.u_act ⊕ 2·0 ⊗ positive_or a.g.omega_o 10·0 ⊗ (finite_or omegaMeas 0·0 ⊖ a.z1))) 0·0
   unfolding axis_tick
-  observer-sees-the-delivered = refl
+  observer_sees_the_delivered = refl

@@ -115,7 +115,7 @@ vee_once κs a x y v w p q = (no_second p q, refl)
 pub sanitise3_once : OneAnswer promised.vectors.sanitise3.ended vectors.sanitise3.Reads.Post
 sanitise3_once κs a x y v w p q = (no_second p q, refl)
 
--- `step_lent` is walked by hand: what it promises, and that its own clause is that.
+-- Of `step_lent`: what it promises, and that its own clause is that.
 abbrev Stepped : Promise lent.ended
 Stepped κs a r e =
     let next = step a.0.now a.1.0 a.1.1.0 a.1.1.1.0 in

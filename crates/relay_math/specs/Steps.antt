@@ -1,6 +1,6 @@
 -- Our own steps for sine and cosine, in whole numbers; docs/ANGLES.md tells them in words. Definitions only.
 -- R, the rest, and the results are in units of 2 ^ -48; z, its square, and the coefficients k are fractions in units of 2 ^ -32.
-use Rattle.std.specs.Prelude.{ℕ, ◌+◌, ◌-◌, ◌*◌, ◌/◌, ◌%◌, ◌^◌, Bool, true, false, cond, ◌&&◌, pos, negsuc, nat_eq, nat_le, nat_lt, to_bits, Float}
+use Rattle.std.specs.Prelude.{ℕ, ◌+◌, ◌-◌, ◌*◌, ◌/◌, ◌%◌, ◌^◌, Bool, false, cond, ◌&&◌, pos, negsuc, nat_eq, nat_le, nat_lt, to_bits, Float}
 use Rattle.std.specs.Float.{fin, binary32}
 use Rattle.std.specs.Float.Ieee.{unlike, round, neg, le}
 use Rattle.relay_math.specs.declared.angles.SineCosine.{SineCosine}

@@ -68,7 +68,7 @@ segment3_eval_once κs a x y v w p q = (no_second p q, refl)
 pub segment3_peak_abs_jerk_once : OneAnswer promised.segment.Segment3.peak_abs_jerk.ended segment.Segment3.peak_abs_jerk.Reads.Post
 segment3_peak_abs_jerk_once κs a x y v w p q = (no_second p q, refl)
 
--- `advance_lent` is walked by hand: what it promises, and that its own clause is that.
+-- Of `advance_lent`: what it promises, and that its own clause is that.
 abbrev Moved : Promise lent.ended
 Moved κs a r e =
     let next = advance a.0.now a.1.0 a.1.1.0 in

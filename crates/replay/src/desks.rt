@@ -3,6 +3,7 @@
 use super::Verdict;
 use super::lent::{NO_NUMBER, both, left, next, numbered};
 use desk::DeskOutcome;
+use std::io::{self, Read};
 
 fn called(
     n: u32,
@@ -67,19 +68,19 @@ fn lent(
 }
 
 // Stored: the six buffers; then the number, and the four that a call may change.
-pub(crate) fn call(n: u32) -> Verdict {
+pub(crate) fn call(reader: &mut impl Read, n: u32) -> io::Result<Verdict> {
     let mut desk = [0u8; 2520];
     let mut sticks = [0u8; 2520];
     let mut image = [0u8; 2520];
     let mut input = [0u8; 2520];
     let mut route = [0u8; 2520];
     let mut answer = [0u8; 2520];
-    let desk_is = next(&mut desk);
-    let sticks_is = next(&mut sticks);
-    let image_is = next(&mut image);
-    let input_is = next(&mut input);
-    let route_is = next(&mut route);
-    let answer_is = next(&mut answer);
+    let desk_is = next(reader, &mut desk)?;
+    let sticks_is = next(reader, &mut sticks)?;
+    let image_is = next(reader, &mut image)?;
+    let input_is = next(reader, &mut input)?;
+    let route_is = next(reader, &mut route)?;
+    let answer_is = next(reader, &mut answer)?;
     let number = lent(
         n,
         &mut desk,
@@ -95,13 +96,13 @@ pub(crate) fn call(n: u32) -> Verdict {
         &mut answer,
         answer_is.lent,
     );
-    let said = numbered(number);
-    let desk_left = left(&desk, desk_is.words);
-    let image_left = left(&image, image_is.words);
-    let input_left = left(&input, input_is.words);
-    let answer_left = left(&answer, answer_is.words);
-    both(
+    let said = numbered(reader, number)?;
+    let desk_left = left(reader, &desk, desk_is.words)?;
+    let image_left = left(reader, &image, image_is.words)?;
+    let input_left = left(reader, &input, input_is.words)?;
+    let answer_left = left(reader, &answer, answer_is.words)?;
+    Ok(both(
         both(said, desk_left),
         both(both(image_left, input_left), answer_left),
-    )
+    ))
 }

@@ -3,6 +3,7 @@
 // length, so that a call can be lent too little or too much of it; what was not lent has to stay too.
 use super::{Verdict, filled, filled_to, judged};
 use outcome::Outcome;
+use std::io::{self, Read};
 use words::{float_at, word_at};
 
 // No number of the documents: the list lends more than there is.
@@ -16,15 +17,15 @@ pub(crate) struct Size {
 }
 
 // The next buffer of the list.
-pub(crate) fn next(buffer: &mut [u8]) -> Size {
+pub(crate) fn next(reader: &mut impl Read, buffer: &mut [u8]) -> io::Result<Size> {
     let mut two = [0u8; 8];
-    filled(&mut two);
+    filled(reader, &mut two)?;
     let words = word_at(&two, 0) as usize;
-    filled_to(buffer, words);
-    Size {
+    filled_to(reader, buffer, words)?;
+    Ok(Size {
         words: words,
         lent: word_at(&two, 1) as usize,
-    }
+    })
 }
 
 // The thresholds as words.
@@ -128,21 +129,21 @@ fn lent(
 }
 
 // Whether the number that is stored next is this.
-pub(crate) fn numbered(number: u32) -> Verdict {
+pub(crate) fn numbered(reader: &mut impl Read, number: u32) -> io::Result<Verdict> {
     let mut stored = [0u8; 4];
-    if !filled(&mut stored) {
-        return Verdict::Cut;
+    if !filled(reader, &mut stored)? {
+        return Ok(Verdict::Cut);
     }
-    judged(number == word_at(&stored, 0))
+    Ok(judged(number == word_at(&stored, 0)))
 }
 
 // Whether what is stored next is what a call left in a buffer.
-pub(crate) fn left(buffer: &[u8], words: usize) -> Verdict {
+pub(crate) fn left(reader: &mut impl Read, buffer: &[u8], words: usize) -> io::Result<Verdict> {
     let mut after = [0u8; 2520];
-    if !filled_to(&mut after, words) {
-        return Verdict::Cut;
+    if !filled_to(reader, &mut after, words)? {
+        return Ok(Verdict::Cut);
     }
-    judged(check::same(buffer, &after))
+    Ok(judged(buffer == &after[..]))
 }
 
 // Of two things stored: a list that is cut is so whatever differs.
@@ -161,17 +162,17 @@ pub(crate) fn both(x: Verdict, y: Verdict) -> Verdict {
 
 // Stored: the four buffers and `at`; then the number, and the two buffers that a call may change. A route is at most 33 legs and three words long, and nothing is
 // longer.
-pub(crate) fn call(n: u32) -> Verdict {
+pub(crate) fn call(reader: &mut impl Read, n: u32) -> io::Result<Verdict> {
     let mut a = [0u8; 2520];
     let mut b = [0u8; 2520];
     let mut c = [0u8; 2520];
     let mut d = [0u8; 2520];
     let mut at = [0u8; 4];
-    let a_is = next(&mut a);
-    let b_is = next(&mut b);
-    let c_is = next(&mut c);
-    let d_is = next(&mut d);
-    filled(&mut at);
+    let a_is = next(reader, &mut a)?;
+    let b_is = next(reader, &mut b)?;
+    let c_is = next(reader, &mut c)?;
+    let d_is = next(reader, &mut d)?;
+    filled(reader, &mut at)?;
     let number = lent(
         n,
         &mut a,
@@ -184,8 +185,8 @@ pub(crate) fn call(n: u32) -> Verdict {
         d_is.lent,
         word_at(&at, 0) as usize,
     );
-    let said = numbered(number);
-    let a_left = left(&a, a_is.words);
-    let c_left = left(&c, c_is.words);
-    both(said, both(a_left, c_left))
+    let said = numbered(reader, number)?;
+    let a_left = left(reader, &a, a_is.words)?;
+    let c_left = left(reader, &c, c_is.words)?;
+    Ok(both(said, both(a_left, c_left)))
 }

@@ -10,8 +10,8 @@ mod numbers; // numbers.rt: 003 and 004
 mod parts; // parts.rt: a row, and the structs that the image has no place for
 mod traj; // traj.rt: 001
 
-use libc::{STDIN_FILENO, STDOUT_FILENO};
 use parts::Row;
+use std::io::{self, Read};
 use std::num::wrapping_add_u64;
 use words::word_at;
 
@@ -33,22 +33,29 @@ fn judged(same: bool) -> Verdict {
     }
 }
 
-fn say(text: &[u8]) {
-    io::write_all(STDOUT_FILENO, text);
+fn say(rt: &impl Print, text: &[u8]) -> io::Result<()> {
+    rt.write_all(text)
 }
 
-// Whether the list had enough bytes left for this buffer.
-fn filled(bytes: &mut [u8]) -> bool {
-    let most = bytes.len();
-    io::read_full(STDIN_FILENO, bytes) == most
+// Whether the list had enough bytes left for this buffer. What it had is in the buffer either way, so `read_exact` does not serve.
+fn filled(reader: &mut impl Read, bytes: &mut [u8]) -> io::Result<bool> {
+    let mut done = 0;
+    while done < bytes.len() {
+        let n = reader.read(&mut bytes[done..])?;
+        if n == 0 {
+            return Ok(false);
+        }
+        done += n;
+    }
+    Ok(true)
 }
 
 // The same for the first n words of it.
-fn filled_to(bytes: &mut [u8], n: usize) -> bool {
+fn filled_to(reader: &mut impl Read, bytes: &mut [u8], n: usize) -> io::Result<bool> {
     if n > bytes.len() / 4 {
-        return false;
+        return Ok(false);
     }
-    filled(&mut bytes[..4 * n])
+    filled(reader, &mut bytes[..4 * n])
 }
 
 // ---- an answer of a routine
@@ -66,22 +73,22 @@ fn answer(n: u32, i: &Row, o: &mut Row) {
 }
 
 fn same(a: &Row, b: &Row) -> bool {
-    check::same(a, b)
+    a == b
 }
 
 // All 36 words are compared, so that an answer of more words than are stored is seen.
-fn routine(n: u32, given: usize, answered: usize) -> Verdict {
+fn routine(reader: &mut impl Read, n: u32, given: usize, answered: usize) -> io::Result<Verdict> {
     let mut i = [0u8; 144];
     let mut o = [0u8; 144];
     let mut stored = [0u8; 144];
-    if !filled_to(&mut i, given) {
-        return Verdict::Cut;
+    if !filled_to(reader, &mut i, given)? {
+        return Ok(Verdict::Cut);
     }
-    if !filled_to(&mut stored, answered) {
-        return Verdict::Cut;
+    if !filled_to(reader, &mut stored, answered)? {
+        return Ok(Verdict::Cut);
     }
     answer(n, &i, &mut o);
-    judged(same(&o, &stored))
+    Ok(judged(same(&o, &stored)))
 }
 
 // ---- sections
@@ -95,13 +102,13 @@ struct Head {
     rows: u32,
 }
 
-fn one(h: Head) -> Verdict {
+fn one(reader: &mut impl Read, h: Head) -> io::Result<Verdict> {
     if h.number < 500 {
-        routine(h.number, h.given, h.answered)
+        routine(reader, h.number, h.given, h.answered)
     } else if h.number < 512 {
-        lent::call(h.number)
+        lent::call(reader, h.number)
     } else {
-        desks::call(h.number)
+        desks::call(reader, h.number)
     }
 }
 
@@ -127,33 +134,31 @@ fn with(t: Tally, compared: u64, differ: u64, whole: bool) -> Tally {
     }
 }
 
-fn print_row(row: u64) {
-    say(b"row ");
-    io::print_decimal(STDOUT_FILENO, row);
-    say(b" differs\n");
+fn print_row(rt: &impl Print, row: u64) -> io::Result<()> {
+    println!(rt; "row {row} differs")
 }
 
 // One more answer. A row that differs is named.
-fn counted(t: Tally, v: Verdict) -> Tally {
+fn counted(rt: &impl Print, t: Tally, v: Verdict) -> io::Result<Tally> {
     match v {
-        Verdict::Same => with(t, 1, 0, true),
+        Verdict::Same => Ok(with(t, 1, 0, true)),
         Verdict::Differs => {
-            print_row(t.compared);
-            with(t, 1, 1, true)
+            print_row(rt, t.compared)?;
+            Ok(with(t, 1, 1, true))
         }
-        Verdict::Cut => with(t, 0, 0, false),
+        Verdict::Cut => Ok(with(t, 0, 0, false)),
     }
 }
 
-fn section(h: Head) -> Tally {
+fn section(rt: &impl Print, reader: &mut impl Read, h: Head) -> io::Result<Tally> {
     let mut t = NOTHING;
     for row in 0..h.rows {
         if !t.whole {
-            return t;
+            return Ok(t);
         }
-        t = counted(t, one(h));
+        t = counted(rt, t, one(reader, h)?)?;
     }
-    t
+    Ok(t)
 }
 
 fn head_at(four: &[u8; 16]) -> Head {
@@ -165,65 +170,64 @@ fn head_at(four: &[u8; 16]) -> Head {
     }
 }
 
-fn print_counts(name: &[u8], t: Tally) {
-    say(name);
-    io::print_decimal(STDOUT_FILENO, t.compared);
-    say(b" compared, ");
-    io::print_decimal(STDOUT_FILENO, t.differ);
-    say(b" differ\n");
+fn print_counts(rt: &impl Print, name: &[u8], t: Tally) -> io::Result<()> {
+    say(rt, name)?;
+    println!(rt; "{} compared, {} differ", t.compared, t.differ)
 }
 
 // The head of a section is four words and a name.
-fn next_section() -> Tally {
+fn next_section(rt: &impl Print, reader: &mut impl Read) -> io::Result<Tally> {
     let mut four = [0u8; 16];
     let mut name = [0u8; 48];
-    filled(&mut four);
-    if !filled(&mut name) {
-        return with(NOTHING, 0, 0, false);
+    filled(reader, &mut four)?;
+    if !filled(reader, &mut name)? {
+        return Ok(with(NOTHING, 0, 0, false));
     }
-    let t = section(head_at(&four));
-    print_counts(&name, t);
-    t
+    let t = section(rt, reader, head_at(&four))?;
+    print_counts(rt, &name, t)?;
+    Ok(t)
 }
 
-fn all(sections: u32) -> Tally {
+fn all(rt: &impl Print, reader: &mut impl Read, sections: u32) -> io::Result<Tally> {
     let mut t = NOTHING;
     for s in 0..sections {
         if !t.whole {
-            return t;
+            return Ok(t);
         }
-        let next = next_section();
+        let next = next_section(rt, reader)?;
         t = with(t, next.compared, next.differ, next.whole);
     }
-    t
+    Ok(t)
 }
 
 // Whether the list is of another form or length than its head says.
-fn amiss(t: Tally, answers: u32) -> bool {
+fn amiss(reader: &mut impl Read, t: Tally, answers: u32) -> io::Result<bool> {
     if !t.whole {
-        return true;
+        return Ok(true);
     }
     if t.compared != answers as u64 {
-        return true;
+        return Ok(true);
     }
     let mut more = [0u8; 1];
-    filled(&mut more)
+    filled(reader, &mut more)
 }
 
-fn list(sections: u32, answers: u32) {
-    let t = all(sections);
-    print_counts(b"all                                             ", t);
-    if amiss(t, answers) {
-        say(b"the list is cut, too long, or not of this form\n");
+fn list(rt: &impl Print, reader: &mut impl Read, sections: u32, answers: u32) -> io::Result<()> {
+    let t = all(rt, reader, sections)?;
+    print_counts(rt, b"all                                             ", t)?;
+    if amiss(reader, t, answers)? {
+        println!(rt; "the list is cut, too long, or not of this form")?;
     }
+    Ok(())
 }
 
-fn main() {
+fn main(rt: HostRuntime) -> io::Result<()> {
+    let mut reader = rt.stdin();
     let mut head = [0u8; 12];
-    filled(&mut head);
+    filled(&mut reader, &mut head)?;
     if word_at(&head, 0) == MAGIC {
-        list(word_at(&head, 1), word_at(&head, 2));
+        list(&rt, &mut reader, word_at(&head, 1), word_at(&head, 2))
     } else {
-        say(b"not a list of answers\n");
+        println!(rt; "not a list of answers")
     }
 }

@@ -1,5 +1,5 @@
 -- What a route tick is refused for, and what a route of the right form has. Assumes nothing.
-use Rattle.laws.proofs.Prelude.{◌≡◌, refl, sym, ap, ◌∙◌, Bool, true, false, not, cond, List, ℕ, ◌+◌, ◌*◌, ◌≤◌, ◌<◌, arith, ltb-false, eqb-false, eq-eqb, not-true, not-false, length}
+use Rattle.laws.proofs.Prelude.{◌≡◌, refl, sym, ap, ◌∙◌, Bool, true, false, cond, List, ℕ, ◌+◌, ◌*◌, ◌≤◌, ◌<◌, arith, ltb-false, eqb-false, eq-eqb, length}
 use Rattle.outcome.{specs.{declared.Outcome.{Outcome, TheVariants.{Done, BrokenImage}}, Outcomes.{is_done, left, lent}}, proofs.Tables.{done_none, in_turn, same, refused_keeps}}
 use Rattle.image.specs.Layout.{image_bytes, leg_bytes, input_bytes, answer_bytes}
 use Rattle.lent_tick.specs.{Unbroken.unbroken, Tick.{tick_table, tick_refusal, tick_from}}

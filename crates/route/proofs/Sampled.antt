@@ -1,5 +1,5 @@
 -- What a sample of a route tells: the words, and what guides a tick at that time. Assumes nothing.
-use Rattle.laws.proofs.Prelude.{◌≡◌, refl, ap, not, List, ℕ, ◌≤◌, ◌<◌, lt_of_lt_of_le, le_trans, lit≤, length, Float}
+use Rattle.laws.proofs.Prelude.{◌≡◌, refl, ap, List, ℕ, ◌≤◌, ◌<◌, lt_of_lt_of_le, le_trans, lit≤, length, Float}
 use Rattle.words.{specs.Words.{word, vec, Holds}, proofs.WordsBack.{word_back, vec_back}}
 use Rattle.relay_traj.specs.{declared.segment.Segment3.Segment3, Governor.Running, Quintic.{sample_at, eval}, Segment.eval3}
 use Rattle.joint_tick.specs.SetUp.{segment_of}

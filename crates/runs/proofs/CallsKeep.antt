@@ -88,7 +88,8 @@ pub lost : (image : List ℕ) → word image PROFILE ≡ 1 → (fixed_at image).
 unfolding fixed_at profile_at
 lost image e = rw e
 
-third_keeps : (source : Float → Reference) (image input : List ℕ) → Unbroken image → word image PROFILE ≡ 1 → SameWords third_axis image (image_of (state_after source (state_at image) (input_at input)))
+third_keeps : (source : Float → Reference) (image input : List ℕ) → Unbroken image → word image PROFILE ≡ 1
+    → SameWords third_axis image (image_of (state_after source (state_at image) (input_at input)))
 third_keeps source image input a p =
     let ws = words_of_state (state_at image) in
     kept_at third_axis image (state_after source (state_at image) (input_at input)) a

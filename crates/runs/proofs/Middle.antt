@@ -40,7 +40,8 @@ module _ (setup : List ℕ) where
 
     -- A margin that is non-finite or below enter is answered with the fallback's.
     pub below_enter_falls_back_at_once : (is_finite m ≡ false) ⊎ (lt m (enter_of setup) ≡ true) → flag_of image t ≡ 1
-    below_enter_falls_back_at_once e = now ∙ ap flag (engaged_by (enter_of setup) (exit_of setup) (shield_at image).engaged m (thresholds_in_order setup) (either (is_finite m) (lt m (enter_of setup)) e))
+    below_enter_falls_back_at_once e = now ∙ ap flag (engaged_by (enter_of setup) (exit_of setup)
+        (shield_at image).engaged m (thresholds_in_order setup) (either (is_finite m) (lt m (enter_of setup)) e))
       where
         either : (f b : Bool) → (f ≡ false) ⊎ (b ≡ true) → (not f || b) ≡ true
         either false b e = refl

@@ -95,7 +95,8 @@ module _ (p : Program) (k : KeepsDemandThree p) where
 
   pub not_echoing : (n : ℕ) → ¬ (EchoesAfter p n)
   not_echoing n r =
-      let from : (p.set_up blank_image level_set_up).later ≡ start level_set_up = ap (λ (l : Filled). l.later) (k.set_up blank_image level_set_up ∙ set_up_starts blank_image level_set_up refl level_sets_up) in
+      let from : (p.set_up blank_image level_set_up).later ≡ start level_set_up =
+      ap (λ (l : Filled). l.later) (k.set_up blank_image level_set_up ∙ set_up_starts blank_image level_set_up refl level_sets_up) in
       let again = subst (λ (b : List ℕ). answered p (ran p b (replicate (suc n) level_input)) lost_input ≡ answered p b level_input) from
       (r.again level_set_up level_input lost_input level_sets_up refl refl) in
       then_no_zero (replicate (suc n) (Ticks (plain level_input)))

@@ -203,10 +203,11 @@ impl Logic {
     }
 }
 
-/// Whether a line brings in names that it does not list: `open`, a glob; or stands in another way than at its section's level: `mutual`.
+/// Whether a line brings in names that it does not list: `open` of a whole module, a glob; or stands in another way than at its section's level: `mutual`.
+/// `open VALUE use {..}` lists the fields that it brings in.
 fn is_unread(line: &str) -> bool {
     let (rest, _) = bare(line);
-    rest.starts_with("open ") || rest.trim_end() == "mutual" || rest.starts_with("use ") && rest.contains(".*")
+    rest.starts_with("open ") && !rest.contains(" use {") || rest.trim_end() == "mutual" || rest.starts_with("use ") && rest.contains(".*")
 }
 
 /// The files of a folder and of those below it, in order.

@@ -1,5 +1,5 @@
 -- `audit::check_into`: refused as it stands, or the verdict by the mended thresholds. Assumes nothing.
-use Rattle.laws.proofs.Prelude.{eq-eqb, ne_eqb, not-true, not-false, sym, ◌∙◌, held}
+use Rattle.laws.proofs.Prelude.{eq-eqb, ne_eqb, sym, ◌∙◌, held}
 use Rattle.words.proofs.Written.{whole}
 use Rattle.audit.specs.Entry.{check_call}
 use Rattle.audit.proofs.VerdictCall.{mended, finished}
@@ -15,7 +15,7 @@ returns-then-not-is_log c = let l = c.before in simp (← l.is_log.ensures, c.if
 
 pub returns-then-not-is_profile : goal.returns-then-not-is_profile
 unfolding check_call
-returns-then-not-is_profile c = let p = c.before in let l = p.before.before in simp ( ← p.is_profile.ensures, c.if-not-is_profile.true, ← l.is_log.ensures, p.if-not-is_log.false, eq-eqb _ _ l.if-into-ne4.false, )
+returns-then-not-is_profile c = let p = c.before in let l = p.before.before in simp (← p.is_profile.ensures, c.if-not-is_profile.true, ← l.is_log.ensures, p.if-not-is_log.false, eq-eqb _ _ l.if-into-ne4.false)
 
 pub judged-v-requires : goal.judged-v-requires
 unfolding check_call

@@ -1,4 +1,3 @@
-
 use Rattle.words.specs.Words.{float}
 use Rattle.audit.specs.Right.{finite_on}
 use Rattle.audit.proofs.finite_on.Goals as goal

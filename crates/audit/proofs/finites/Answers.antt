@@ -1,5 +1,4 @@
 -- `audit::finites`: axis by axis. Assumes nothing.
-use Rattle.laws.proofs.Prelude.{not-true, not-false}
 use Rattle.audit.specs.Right.{finites}
 use Rattle.audit.proofs.finites.Goals as goal
 

@@ -1,10 +1,8 @@
-use Rattle.laws.proofs.Prelude.{◌≡◌, refl, sym, ap, ◌∙◌, ◌-◌, ◌≤◌, sub-zero, arith, length}
+use Rattle.laws.proofs.Prelude.{◌≡◌, ◌-◌, ◌≤◌, length}
 use Rattle.slow_shield.specs.Back.{look_back}
 use Rattle.flight_log.specs.Records.{records}
-use Rattle.flight_log.proofs.LogForm.{is_a_log}
 use Rattle.audit.specs.Right.{margins_in}
 use Rattle.audit.specs.Verdict.{verdict_from, verdict_of}
-use Rattle.audit.proofs.OneTurn.{turn, all_turns, carried, goes_on, stops}
 use Rattle.audit.proofs.judged.Given as goal
 
 abbrev pub invariant-loop-i : goal.invariant-loop-i

@@ -1,4 +1,3 @@
-
 use Rattle.audit.specs.Right.{passes}
 use Rattle.audit.proofs.passes.Goals as goal
 

@@ -1,4 +1,3 @@
-
 use Rattle.audit.specs.Right.{passes_third}
 use Rattle.audit.proofs.passes_third.Goals as goal
 

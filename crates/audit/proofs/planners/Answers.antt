@@ -1,5 +1,4 @@
 -- `audit::planners`: axis by axis. Assumes nothing.
-use Rattle.laws.proofs.Prelude.{not-true, not-false}
 use Rattle.audit.specs.Right.{planners}
 use Rattle.audit.proofs.planners.Goals as goal
 

@@ -1,4 +1,3 @@
-
 use Rattle.latch.specs.Latch.{latch}
 use Rattle.latch.proofs.latch.Goals as goal
 

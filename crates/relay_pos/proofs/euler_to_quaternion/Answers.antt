@@ -1,4 +1,3 @@
-
 use Rattle.relay_math.specs.Steps.{sinf, cosf}
 use Rattle.relay_pos.specs.Euler.{euler_to_quaternion}
 use Rattle.relay_pos.proofs.euler_to_quaternion.Goals as goal

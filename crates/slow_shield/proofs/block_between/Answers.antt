@@ -1,5 +1,5 @@
 -- `slow_shield::block_between`: so long as nothing is gathered, all words so far lie between. Assumes nothing.
-use Rattle.laws.proofs.Prelude.{◌≡◌, inl, inr, List, ℕ, ◌+◌, ◌-◌, ◌≤◌, eq-or-lt_of_le, arith, eqb-true}
+use Rattle.laws.proofs.Prelude.{◌≡◌, inl, inr, List, ℕ, ◌+◌, ◌≤◌, eq-or-lt_of_le, arith}
 use lib.Bits.{bit_or}
 use Rattle.words.specs.Words.{word}
 use Rattle.words.proofs.Plain.{none_of}

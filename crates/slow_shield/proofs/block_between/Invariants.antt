@@ -1,7 +1,4 @@
-use Rattle.laws.proofs.Prelude.{◌≡◌, inl, inr, List, ℕ, ◌+◌, ◌-◌, ◌≤◌, eq-or-lt_of_le, arith, eqb-true}
-use lib.Bits.{bit_or}
-use Rattle.words.specs.Words.{word}
-use Rattle.words.proofs.Plain.{none_of}
+use Rattle.laws.proofs.Prelude.{◌≡◌, ◌-◌, ◌≤◌}
 use Rattle.slow_shield.specs.Inner.{Between}
 use Rattle.slow_shield.proofs.block_between.Given as goal
 

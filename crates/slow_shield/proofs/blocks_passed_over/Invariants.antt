@@ -1,4 +1,4 @@
-use Rattle.laws.proofs.Prelude.{not-false, inl, inr, List, ℕ, ◌+◌, ◌-◌, ◌≤◌, arith, le_or_lt}
+use Rattle.laws.proofs.Prelude.{◌≤◌}
 use Rattle.slow_shield.specs.Inner.{Between}
 use Rattle.slow_shield.proofs.blocks_passed_over.Given as goal
 

@@ -1,7 +1,5 @@
 -- `slow_shield::look_back`: what the first i margins say is what all say. Assumes nothing.
-use Rattle.laws.proofs.Prelude.{not-true, not-false, ◌≡◌, sym, ap, ◌∙◌, not, ◌≤◌, arith}
-use Rattle.slow_shield.specs.Back.{look_back}
-use Rattle.slow_shield.specs.Entry.{margins_in}
+use Rattle.laws.proofs.Prelude.{sym, ap, ◌∙◌, not, arith}
 use Rattle.slow_shield.proofs.Loops.{goes_on, decides, at_start}
 use Rattle.slow_shield.proofs.look_back.Goals as goal
 

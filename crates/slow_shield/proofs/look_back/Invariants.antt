@@ -1,7 +1,6 @@
-use Rattle.laws.proofs.Prelude.{not-true, not-false, ◌≡◌, sym, ap, ◌∙◌, not, ◌≤◌, arith}
+use Rattle.laws.proofs.Prelude.{◌≡◌, ◌≤◌}
 use Rattle.slow_shield.specs.Back.{look_back}
 use Rattle.slow_shield.specs.Entry.{margins_in}
-use Rattle.slow_shield.proofs.Loops.{goes_on, decides, at_start}
 use Rattle.slow_shield.proofs.look_back.Given as goal
 
 abbrev pub invariant-loop-i : goal.invariant-loop-i

@@ -1,11 +1,6 @@
-use Rattle.laws.proofs.Prelude.{ℕ, zero, suc, ◌*◌, ◌-◌, ◌<◌, ◌≤◌, ◌≡◌, refl, ◌∙◌, inl, inr, true, List, eq-or-lt_of_le, le_of_suc-le-suc, arith, T, Float, binary32, fits, length, held}
-use Rattle.relay_math.specs.F32.{is_finite}
-use Rattle.words.specs.Words.{word, float_of, float, bits}
+use Rattle.laws.proofs.Prelude.{◌≤◌, ◌≡◌}
 use Rattle.slow_shield.specs.Back.{look_back}
 use Rattle.slow_shield.specs.Entry.{margins_in}
-use Rattle.slow_shield.specs.Inner.{Between}
-use Rattle.slow_shield.proofs.Loops.{goes_on}
-use Rattle.slow_shield.proofs.Words.{in_band_word}
 use Rattle.slow_shield.proofs.passed_over.Given as goal
 
 abbrev pub invariant-loop-i : goal.invariant-loop-i

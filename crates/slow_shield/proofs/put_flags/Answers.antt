@@ -1,8 +1,6 @@
 -- `slow_shield::put_flags`: after i turns the first i flags are written. Assumes nothing.
-use Rattle.laws.proofs.Prelude.{◌≡◌, refl, ◌∙◌, map, ◌-◌, ◌≤◌, arith, length, length-set, sets}
-use Rattle.words.specs.Words.{flag}
+use Rattle.laws.proofs.Prelude.{refl, ◌∙◌, arith, length-set}
 use Rattle.slow_shield.specs.Back.{flags_to}
-use Rattle.slow_shield.specs.Entry.{margins_in}
 use Rattle.slow_shield.proofs.Loops.{one_more, all_flags}
 use Rattle.slow_shield.proofs.put_flags.Goals as goal
 

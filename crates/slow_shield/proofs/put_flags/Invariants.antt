@@ -1,8 +1,7 @@
-use Rattle.laws.proofs.Prelude.{◌≡◌, refl, ◌∙◌, map, ◌-◌, ◌≤◌, arith, length, length-set, sets}
+use Rattle.laws.proofs.Prelude.{◌≡◌, map, ◌-◌, ◌≤◌, length, sets}
 use Rattle.words.specs.Words.{flag}
 use Rattle.slow_shield.specs.Back.{flags_to}
 use Rattle.slow_shield.specs.Entry.{margins_in}
-use Rattle.slow_shield.proofs.Loops.{one_more, all_flags}
 use Rattle.slow_shield.proofs.put_flags.Given as goal
 
 abbrev pub invariant-loop-i : goal.invariant-loop-i

@@ -1,5 +1,5 @@
 -- `calls::entry::exchange`: refused as it stands, or read, exchanged and written. Assumes nothing.
-use Rattle.laws.proofs.Prelude.{true, ◌≡◌, Bool, false, not, List, ℕ, length, eq-eqb, ne_eqb, not-true, not-false}
+use Rattle.laws.proofs.Prelude.{true, ◌≡◌, Bool, List, ℕ, length, eq-eqb, ne_eqb}
 use Rattle.joint_tick.specs.declared.state.State.{State}
 use Rattle.joint_tick.specs.declared.state.Leg.{Leg}
 use Rattle.joint_tick.specs.SetUp.{exchange}
@@ -21,7 +21,7 @@ exchanged image segment {b} p q e n k g x w = rw (p, q, ← e, n, w, x, g, k)
 
 pub returns-then-image-ne-IMAGE_BYTES : goal.returns-then-image-ne-IMAGE_BYTES
 unfolding exchange_call exchange_refusal
-returns-then-image-ne-IMAGE_BYTES c = simp ( ne_eqb _ _ c.if-image-ne-IMAGE_BYTES.true)
+returns-then-image-ne-IMAGE_BYTES c = simp (ne_eqb _ _ c.if-image-ne-IMAGE_BYTES.true)
 
 pub returns-then-segment-ne-LEG_BYTES : goal.returns-then-segment-ne-LEG_BYTES
 unfolding exchange_call exchange_refusal
@@ -29,7 +29,7 @@ returns-then-segment-ne-LEG_BYTES c = simp (ne_eqb _ _ c.if-segment-ne-LEG_BYTES
 
 pub returns-then-not-unread_unbroken : goal.returns-then-not-unread_unbroken
 unfolding exchange_call exchange_refusal
-returns-then-not-unread_unbroken c = let i = c.before in let a = i.before.before in simp ( ← i.unread_unbroken.ensures, c.if-not-unread_unbroken.true, eq-eqb _ _ a.if-segment-ne-LEG_BYTES.false, eq-eqb _ _ a.if-image-ne-IMAGE_BYTES.false, )
+returns-then-not-unread_unbroken c = let i = c.before in let a = i.before.before in simp (← i.unread_unbroken.ensures, c.if-not-unread_unbroken.true, eq-eqb _ _ a.if-segment-ne-LEG_BYTES.false, eq-eqb _ _ a.if-image-ne-IMAGE_BYTES.false)
 
 pub returns : goal.returns
 returns c =

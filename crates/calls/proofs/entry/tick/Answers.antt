@@ -1,8 +1,8 @@
 -- `calls::entry::tick`: refused as it stands, or flown and written. Assumes nothing.
-use Rattle.laws.proofs.Prelude.{eq-eqb, ne_eqb, not-true, refl, arith}
+use Rattle.laws.proofs.Prelude.{eq-eqb, ne_eqb, refl}
 use Rattle.words.proofs.Plain.{scanned}
 use Rattle.lent_tick.specs.Tick.{tick_refusal, tick_from}
-use Rattle.lent_tick.proofs.TickLeaves.{is_unbroken, unbroken_taken, read_of, flown, keeps}
+use Rattle.lent_tick.proofs.TickLeaves.{is_unbroken, unbroken_taken, flown, keeps}
 use Rattle.calls.specs.Entry.{tick_call}
 use Rattle.calls.proofs.entry.tick.Goals as goal
 

@@ -1,4 +1,3 @@
-
 use Rattle.laws.proofs.Prelude.{refl}
 use Rattle.words.proofs.Written.{then}
 use Rattle.desk.specs.Entry.{with_heading}

@@ -1,7 +1,7 @@
 -- `desk::entry::route_tick`: refused as it stands, or the desk stepped, the input changed and the core's route tick of it. Assumes nothing.
-use Rattle.laws.proofs.Prelude.{eq-eqb, ne_eqb, ap, ◌∙◌, arith, length}
+use Rattle.laws.proofs.Prelude.{eq-eqb, ne_eqb, arith}
 use Rattle.desk.specs.Entry.{tick_refusal_at, desk_tick_call}
-use Rattle.desk.proofs.DeskTickLeaves.{flown_length, no_input, leaves}
+use Rattle.desk.proofs.DeskTickLeaves.{no_input, leaves}
 use Rattle.desk.proofs.entry.route_tick.Goals as goal
 
 pub returns-then-desk-ne-DESK_BYTES : goal.returns-then-desk-ne-DESK_BYTES

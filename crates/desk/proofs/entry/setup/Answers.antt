@@ -13,4 +13,4 @@ returns-then-input-ne-DESK_SETUP_BYTES c = simp (ne_eqb _ _ c.if-input-ne-DESK_S
 
 pub returns : goal.returns
 unfolding desk_set_up_call
-returns c = let p = c.before.before in let u = p.before in let e = u.before.before in simp ( p.put_desk.ensures, u.set_up.ensures, eq-eqb _ _ e.if-input-ne-DESK_SETUP_BYTES.false, eq-eqb _ _ e.if-desk-ne-DESK_BYTES.false, )
+returns c = let p = c.before.before in let u = p.before in let e = u.before.before in simp (p.put_desk.ensures, u.set_up.ensures, eq-eqb _ _ e.if-input-ne-DESK_SETUP_BYTES.false, eq-eqb _ _ e.if-desk-ne-DESK_BYTES.false)

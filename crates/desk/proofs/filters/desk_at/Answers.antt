@@ -1,4 +1,3 @@
-
 use Rattle.desk.specs.Filters.{desk_at}
 use Rattle.desk.proofs.filters.desk_at.Goals as goal
 

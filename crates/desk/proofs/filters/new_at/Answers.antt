@@ -1,4 +1,3 @@
-
 use Rattle.desk.specs.Filters.{new_at}
 use Rattle.desk.proofs.filters.new_at.Goals as goal
 

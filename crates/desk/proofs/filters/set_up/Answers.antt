@@ -1,4 +1,3 @@
-
 use Rattle.desk.specs.Filters.{desk_set_up}
 use Rattle.desk.proofs.filters.set_up.Goals as goal
 

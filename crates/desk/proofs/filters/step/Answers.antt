@@ -1,4 +1,3 @@
-
 use Rattle.desk.specs.Filters.{desk_step}
 use Rattle.desk.proofs.filters.step.Goals as goal
 

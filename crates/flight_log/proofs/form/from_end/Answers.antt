@@ -1,4 +1,3 @@
-
 use Rattle.flight_log.specs.Form.{from_end}
 use Rattle.flight_log.proofs.form.from_end.Goals as goal
 

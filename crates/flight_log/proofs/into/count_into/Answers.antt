@@ -1,5 +1,4 @@
-
-use Rattle.laws.proofs.Prelude.{eq-eqb, ne_eqb, not-true, not-false, sym, ◌∙◌, arith}
+use Rattle.laws.proofs.Prelude.{eq-eqb, ne_eqb, sym, ◌∙◌, arith}
 use Rattle.words.proofs.Written.{whole}
 use Rattle.flight_log.specs.Entry.{count_call}
 use Rattle.flight_log.proofs.LogForm.{is_a_log}
@@ -23,4 +22,4 @@ overflow_cast-record_count c = let i = c.before.before.before in record { fits =
 
 pub returns : goal.returns
 unfolding count_call
-returns c = let n = c.before.before.before in let i = n.before.before.before in simp ( whole c.put_word.ensures i.if-count-ne4.false, n.record_count.ensures, ← i.is_log.ensures, n.if-not-is_log.false, eq-eqb _ _ i.if-count-ne4.false, )
+returns c = let n = c.before.before.before in let i = n.before.before.before in simp (whole c.put_word.ensures i.if-count-ne4.false, n.record_count.ensures, ← i.is_log.ensures, n.if-not-is_log.false, eq-eqb _ _ i.if-count-ne4.false)

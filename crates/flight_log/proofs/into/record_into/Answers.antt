@@ -1,5 +1,5 @@
 -- `flight_log::into::record_into`: the tests in their order, then the record. Assumes nothing.
-use Rattle.laws.proofs.Prelude.{eq-eqb, ne_eqb, not-true, not-false, ◌≡◌, sym, ◌∙◌, ap, arith, length}
+use Rattle.laws.proofs.Prelude.{eq-eqb, ne_eqb, ◌≡◌, sym, ◌∙◌, ap, arith, length}
 use Rattle.words.proofs.Written.{over_all}
 use Rattle.flight_log.specs.Entry.{record_call}
 use Rattle.flight_log.proofs.LogForm.{record_length, handed}
@@ -15,7 +15,7 @@ returns-then-not-is_log c = let i = c.before in simp (← i.is_log.ensures, c.if
 
 pub returns-then-not-has_record : goal.returns-then-not-has_record
 unfolding record_call
-returns-then-not-has_record c = let r = c.before in let i = r.before.before in simp ( ← r.has_record.ensures, ← i.is_log.ensures, c.if-not-has_record.true, r.if-not-is_log.false, eq-eqb _ _ i.if-into-ne-RECORD_BYTES.false, )
+returns-then-not-has_record c = let r = c.before in let i = r.before.before in simp (← r.has_record.ensures, ← i.is_log.ensures, c.if-not-has_record.true, r.if-not-is_log.false, eq-eqb _ _ i.if-into-ne-RECORD_BYTES.false)
 
 pub put_bytes-requires : goal.put_bytes-requires
 unfolding record_call

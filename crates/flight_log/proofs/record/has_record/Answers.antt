@@ -1,4 +1,3 @@
-
 use Rattle.laws.proofs.Prelude.{sym, ◌∙◌}
 use Rattle.flight_log.specs.Records.{has_record}
 use Rattle.flight_log.proofs.LogForm.{is_a_log}

@@ -1,4 +1,3 @@
-
 use Rattle.laws.proofs.Prelude.{sym, ◌∙◌, arith}
 use Rattle.flight_log.specs.Records.{place_after}
 use Rattle.flight_log.proofs.LogForm.{there}

@@ -1,5 +1,4 @@
-
-use Rattle.laws.proofs.Prelude.{refl, sym, ◌∙◌, arith}
+use Rattle.laws.proofs.Prelude.{sym, ◌∙◌, arith}
 use native.Mathlib.Nat.{add-sub_cancel_left}
 use Rattle.flight_log.specs.Records.{record_at}
 use Rattle.flight_log.proofs.LogForm.{there}

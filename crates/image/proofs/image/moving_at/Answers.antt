@@ -1,4 +1,3 @@
-
 use Rattle.image.specs.Image.{moving_at}
 use Rattle.image.proofs.image.moving_at.Goals as goal
 

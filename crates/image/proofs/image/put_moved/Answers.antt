@@ -1,4 +1,3 @@
-
 use Rattle.image.proofs.Moved.{moved}
 use Rattle.image.proofs.image.put_moved.Goals as goal
 

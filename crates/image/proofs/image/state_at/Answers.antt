@@ -1,5 +1,3 @@
-
-use Rattle.laws.proofs.Prelude.{arith}
 use Rattle.image.specs.Parts.{rate_at, lpf_at}
 use Rattle.image.specs.Image.{moving_at}
 use Rattle.image.proofs.image.state_at.Goals as goal

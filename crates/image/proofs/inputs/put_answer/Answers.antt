@@ -1,4 +1,3 @@
-
 use Rattle.laws.proofs.Prelude.{refl}
 use Rattle.words.proofs.Written.{then, whole}
 use Rattle.image.specs.Inputs.{answer_of}

@@ -1,4 +1,3 @@
-
 use Rattle.image.specs.Parts.{adrc_gains_at}
 use Rattle.image.proofs.parts.adrc_gains_at.Goals as goal
 

@@ -1,4 +1,3 @@
-
 use Rattle.image.specs.Parts.{gains_at}
 use Rattle.image.proofs.parts.gains_at.Goals as goal
 

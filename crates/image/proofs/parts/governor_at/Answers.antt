@@ -1,4 +1,3 @@
-
 use Rattle.image.specs.Parts.{governor_at}
 use Rattle.image.proofs.parts.governor_at.Goals as goal
 

@@ -1,4 +1,3 @@
-
 use Rattle.image.specs.Parts.{lpf_at}
 use Rattle.image.proofs.parts.lpf_at.Goals as goal
 

@@ -1,4 +1,3 @@
-
 use Rattle.image.specs.Parts.{profile_at}
 use Rattle.image.proofs.parts.profile_at.Goals as goal
 

@@ -1,4 +1,3 @@
-
 use Rattle.image.specs.Parts.{quat_at}
 use Rattle.image.proofs.parts.quat_at.Goals as goal
 

@@ -1,4 +1,3 @@
-
 use Rattle.image.specs.Parts.{rate_at}
 use Rattle.image.proofs.parts.rate_at.Goals as goal
 

@@ -1,4 +1,3 @@
-
 use Rattle.image.specs.Parts.{segment_at}
 use Rattle.image.proofs.parts.segment_at.Goals as goal
 

@@ -1,4 +1,3 @@
-
 use Rattle.image.specs.Parts.{set_at}
 use Rattle.image.proofs.parts.set_at.Goals as goal
 

@@ -1,4 +1,3 @@
-
 use Rattle.laws.proofs.Prelude.{eq-eqb, ne_eqb}
 use Rattle.joint_tick.specs.Profile.{is_profile}
 use Rattle.joint_tick.proofs.profile.is_profile.Goals as goal

@@ -1,4 +1,3 @@
-
 use Rattle.joint_tick.specs.SetUp.{exchange}
 use Rattle.joint_tick.proofs.setup.exchange.Goals as goal
 

@@ -1,4 +1,3 @@
-
 use Rattle.joint_tick.specs.SetUp.{segment_of}
 use Rattle.joint_tick.proofs.setup.segment_of.Goals as goal
 

@@ -1,4 +1,3 @@
-
 use Rattle.joint_tick.specs.SetUp.{set_up}
 use Rattle.joint_tick.proofs.setup.set_up.Goals as goal
 

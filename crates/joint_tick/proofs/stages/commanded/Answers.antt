@@ -1,4 +1,3 @@
-
 use Rattle.laws.proofs.Prelude.{refl}
 use Rattle.relay_geo.specs.Vectors.{dot, prod3, matmul3}
 use Rattle.joint_tick.specs.Tick.{commanded}

@@ -1,4 +1,3 @@
-
 use Rattle.joint_tick.specs.Inner.{follow_on}
 use Rattle.joint_tick.proofs.stages.follow.Goals as goal
 

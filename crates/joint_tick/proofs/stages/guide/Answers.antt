@@ -1,4 +1,3 @@
-
 use Rattle.joint_tick.specs.Tick.{guide}
 use Rattle.joint_tick.proofs.stages.guide.Goals as goal
 

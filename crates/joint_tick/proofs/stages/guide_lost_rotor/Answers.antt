@@ -1,4 +1,3 @@
-
 use Rattle.joint_tick.proofs.Once.{guided_lost_once}
 use Rattle.joint_tick.proofs.stages.guide_lost_rotor.Goals as goal
 

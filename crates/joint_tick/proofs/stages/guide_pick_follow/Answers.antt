@@ -1,4 +1,3 @@
-
 use Rattle.joint_tick.specs.Tick.{guide_pick_follow}
 use Rattle.joint_tick.proofs.Once.{pick_in_halves}
 use Rattle.joint_tick.proofs.stages.guide_pick_follow.Goals as goal

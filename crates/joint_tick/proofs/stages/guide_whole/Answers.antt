@@ -1,4 +1,3 @@
-
 use Rattle.joint_tick.proofs.Once.{guided_once}
 use Rattle.joint_tick.proofs.stages.guide_whole.Goals as goal
 

@@ -1,4 +1,3 @@
-
 use Rattle.joint_tick.specs.Inner.{observe}
 use Rattle.joint_tick.proofs.stages.observe.Goals as goal
 

@@ -1,4 +1,3 @@
-
 use Rattle.joint_tick.specs.Inner.{pick_on}
 use Rattle.joint_tick.proofs.Once.{acts_on_the_choice}
 use Rattle.joint_tick.proofs.stages.pick.Goals as goal

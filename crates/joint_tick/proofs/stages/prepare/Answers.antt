@@ -1,4 +1,3 @@
-
 use Rattle.joint_tick.specs.Tick.{prepare}
 use Rattle.joint_tick.proofs.stages.prepare.Goals as goal
 

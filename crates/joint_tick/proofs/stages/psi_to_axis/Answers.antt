@@ -1,4 +1,3 @@
-
 use Rattle.laws.proofs.Prelude.{div, of_bits}
 use Rattle.joint_tick.proofs.stages.psi_to_axis.Goals as goal
 

@@ -1,4 +1,3 @@
-
 use Rattle.joint_tick.specs.Tick.{rate_sq}
 use Rattle.joint_tick.proofs.stages.rate_sq.Goals as goal
 

@@ -1,4 +1,3 @@
-
 use Rattle.joint_tick.specs.Tick.{reference_at}
 use Rattle.joint_tick.proofs.stages.reference_at.Goals as goal
 

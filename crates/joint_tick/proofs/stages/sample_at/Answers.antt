@@ -1,4 +1,3 @@
-
 use Rattle.relay_traj.specs.Segment.{eval3}
 use Rattle.joint_tick.proofs.stages.sample_at.Goals as goal
 

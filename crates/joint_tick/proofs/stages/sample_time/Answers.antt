@@ -1,4 +1,3 @@
-
 use Rattle.laws.proofs.Prelude.{nan_bits}
 use Rattle.joint_tick.proofs.stages.sample_time.Goals as goal
 

@@ -1,4 +1,3 @@
-
 use Rattle.lent_tick.specs.Unbroken.{all_last}
 use Rattle.lent_tick.proofs.row_four.all_last.Goals as goal
 

@@ -1,4 +1,3 @@
-
 use Rattle.relay_traj.specs.Segment.{peak_abs_jerk3}
 use Rattle.image.specs.Image.{fixed_at}
 use Rattle.lent_tick.specs.Unbroken.{peaks_stand}

@@ -19,11 +19,11 @@ returns-then-not-peaks_stand c = let k = c.before in simp (← k.peaks_stand.ens
 
 pub returns-then-engaged-eq0 : goal.returns-then-engaged-eq0
 unfolding unbroken fixed_at
-returns-then-engaged-eq0 c = let k = c.before.before.before in let p = k.before.before in let w = p.before in let pre = w.requires.fact_2 in simp ( c.numbers_stand.ensures, ← pre.0, ← pre.1, ← pre.2, ← w.word_at.ensures, ← w.word_at-engaged.ensures, ← w.word_at-count.ensures, ← p.is_profile.ensures, ← k.peaks_stand.ensures, k.if-not-is_profile.false, c.if-not-peaks_stand.false, eq-eqb _ _ c.if-engaged-eq0.true, eq-eqb _ _ w.if-count.false, and-true, )
+returns-then-engaged-eq0 c = let k = c.before.before.before in let p = k.before.before in let w = p.before in let pre = w.requires.fact_2 in simp (c.numbers_stand.ensures, ← pre.0, ← pre.1, ← pre.2, ← w.word_at.ensures, ← w.word_at-engaged.ensures, ← w.word_at-count.ensures, ← p.is_profile.ensures, ← k.peaks_stand.ensures, k.if-not-is_profile.false, c.if-not-peaks_stand.false, eq-eqb _ _ c.if-engaged-eq0.true, eq-eqb _ _ w.if-count.false, and-true)
 
 pub returns-then-engaged-eq1 : goal.returns-then-engaged-eq1
 unfolding unbroken fixed_at
-returns-then-engaged-eq1 c = let k = c.before.before.before.before in let p = k.before.before in let w = p.before in let pre = w.requires.fact_2 in simp ( c.numbers_stand-then-engaged-eq1.ensures, ← pre.0, ← pre.1, ← pre.2, ← w.word_at.ensures, ← w.word_at-engaged.ensures, ← w.word_at-count.ensures, ← p.is_profile.ensures, ← k.peaks_stand.ensures, k.if-not-is_profile.false, c.if-not-peaks_stand.false, eq-eqb _ _ c.if-engaged-eq1.true, ne_eqb _ _ c.if-engaged-eq0.false, eq-eqb _ _ w.if-count.false, and-true, )
+returns-then-engaged-eq1 c = let k = c.before.before.before.before in let p = k.before.before in let w = p.before in let pre = w.requires.fact_2 in simp (c.numbers_stand-then-engaged-eq1.ensures, ← pre.0, ← pre.1, ← pre.2, ← w.word_at.ensures, ← w.word_at-engaged.ensures, ← w.word_at-count.ensures, ← p.is_profile.ensures, ← k.peaks_stand.ensures, k.if-not-is_profile.false, c.if-not-peaks_stand.false, eq-eqb _ _ c.if-engaged-eq1.true, ne_eqb _ _ c.if-engaged-eq0.false, eq-eqb _ _ w.if-count.false, and-true)
 
 pub returns : goal.returns
 unfolding unbroken fixed_at

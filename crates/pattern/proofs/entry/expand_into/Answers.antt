@@ -1,7 +1,6 @@
 -- `pattern::entry::expand_into`: refused as it stands, or the route of the legs that the walk found. Assumes nothing.
-use Rattle.laws.proofs.Prelude.{ne_eqb, refl, sym, ◌∙◌}
+use Rattle.laws.proofs.Prelude.{ne_eqb, refl}
 use Rattle.pattern.specs.Entry.{expand_call, expand_refusal}
-use Rattle.pattern.proofs.ItemByItem.{told}
 use Rattle.pattern.proofs.ExpandCall.{tree, tree_is, none_found, many_found, places_found, routed, walk_says_broken, bad_pattern, no_legs, many_legs}
 use Rattle.pattern.proofs.entry.expand_into.Goals as goal
 

@@ -1,7 +1,6 @@
 -- `pattern::legs::all_meet`: the joins from leg i on decide, as all of them do. Assumes nothing.
-use Rattle.laws.proofs.Prelude.{not-true, not-false, ◌≡◌, refl, sym, ◌∙◌, ◌-◌, ◌≤◌, arith, drop}
-use Rattle.pattern.specs.Entry.{flown_meet}
-use Rattle.pattern.proofs.Found.{legs_at, leg_long, joins, meet_on, meet_stops, meet_ends}
+use Rattle.laws.proofs.Prelude.{sym, ◌∙◌, ◌-◌, arith}
+use Rattle.pattern.proofs.Found.{leg_long, joins, meet_on, meet_stops, meet_ends}
 use Rattle.pattern.proofs.legs.all_meet.Goals as goal
 
 pub legs_meet-requires : goal.legs_meet-requires

@@ -1,6 +1,6 @@
-use Rattle.laws.proofs.Prelude.{not-true, not-false, ◌≡◌, refl, sym, ◌∙◌, ◌-◌, ◌≤◌, arith, drop}
+use Rattle.laws.proofs.Prelude.{◌≡◌, ◌-◌, ◌≤◌, drop}
 use Rattle.pattern.specs.Entry.{flown_meet}
-use Rattle.pattern.proofs.Found.{legs_at, leg_long, joins, meet_on, meet_stops, meet_ends}
+use Rattle.pattern.proofs.Found.{legs_at}
 use Rattle.pattern.proofs.legs.all_meet.Given as goal
 
 abbrev pub invariant-loop-i : goal.invariant-loop-i

@@ -1,7 +1,7 @@
 -- `pattern::legs::put_legs`: after i turns the first i legs are written. Assumes nothing.
-use Rattle.laws.proofs.Prelude.{◌≡◌, refl, ◌∙◌, ◌-◌, ◌≤◌, arith, length, take, sets}
+use Rattle.laws.proofs.Prelude.{refl, arith}
 use Rattle.pattern.specs.Entry.{joined}
-use Rattle.pattern.proofs.Found.{legs_at, leg_long, put_one_more, all_put}
+use Rattle.pattern.proofs.Found.{leg_long, put_one_more}
 use Rattle.pattern.proofs.legs.put_legs.Goals as goal
 
 pub loop-i-init : goal.loop-i-init

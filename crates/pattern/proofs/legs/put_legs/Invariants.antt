@@ -1,6 +1,6 @@
-use Rattle.laws.proofs.Prelude.{◌≡◌, refl, ◌∙◌, ◌-◌, ◌≤◌, arith, length, take, sets}
+use Rattle.laws.proofs.Prelude.{◌≡◌, ◌-◌, ◌≤◌, length, take, sets}
 use Rattle.pattern.specs.Entry.{joined}
-use Rattle.pattern.proofs.Found.{legs_at, leg_long, put_one_more, all_put}
+use Rattle.pattern.proofs.Found.{legs_at}
 use Rattle.pattern.proofs.legs.put_legs.Given as goal
 
 abbrev pub invariant-loop-i : goal.invariant-loop-i

@@ -1,5 +1,5 @@
 -- `pattern::legs::put_route`: the two tests in their order, then the legs, the trailer and the length. Assumes nothing.
-use Rattle.laws.proofs.Prelude.{not-true, not-false, sym, ◌∙◌}
+use Rattle.laws.proofs.Prelude.{sym, ◌∙◌}
 use Rattle.pattern.proofs.Found.{legs_at, how_many, legs_length_all}
 use Rattle.pattern.proofs.ExpandCall.{no_room, apart, all_done}
 use Rattle.pattern.proofs.legs.put_route.Goals as goal

@@ -2,7 +2,7 @@
 use Rattle.laws.proofs.Prelude.{◌≡◌, List, ℕ, ◌≤◌, ◌<◌, arith, length, slice}
 use Rattle.route.specs.Form.{most_legs}
 use Rattle.pattern.specs.Read.{Read, read}
-use Rattle.pattern.proofs.ItemByItem.{Item, Turn, Going, going_few, going_start, came_up, item_next, leg_fits, repeat_fits, neither_done, leg_done, too_deep, body_broken, repeat_done, step_broken, step_on, step_end}
+use Rattle.pattern.proofs.ItemByItem.{Item, Turn, Going, going_few, going_start, came_up, item_next, repeat_fits, neither_done, leg_done, too_deep, body_broken, repeat_done, step_broken, step_on, step_end}
 use Rattle.pattern.proofs.walk.+expand_expand_item.Goals as goal
 
 -- what `expand_item` asks is what its walk is given

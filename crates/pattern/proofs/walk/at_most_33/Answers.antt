@@ -1,4 +1,3 @@
-
 use Rattle.laws.proofs.Prelude.{lt-ltb, le-ltb}
 use Rattle.pattern.specs.Walk.{capped}
 use Rattle.pattern.proofs.walk.at_most_33.Goals as goal

@@ -1,4 +1,3 @@
-
 use Rattle.laws.proofs.Prelude.{refl, sym, arith}
 use Rattle.pattern.proofs.Rounds.{capped_below, capped_full}
 use Rattle.pattern.proofs.walk.put_place.Goals as goal

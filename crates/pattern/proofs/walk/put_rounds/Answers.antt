@@ -1,6 +1,5 @@
 -- `pattern::walk::put_rounds`: up to place i the buffer holds the rounds. Assumes nothing.
-use Rattle.laws.proofs.Prelude.{◌≡◌, refl, ◌∙◌, ℕ, ◌-◌, ◌*◌, ◌≤◌, ◌<◌, mul-le-mul, arith, length, take, length-set, sets, slice}
-use Rattle.pattern.specs.Tree.{times as rounds}
+use Rattle.laws.proofs.Prelude.{◌≡◌, refl, ◌∙◌, ℕ, ◌-◌, ◌*◌, ◌≤◌, ◌<◌, mul-le-mul, arith, length-set}
 use Rattle.pattern.specs.Walk.{capped}
 use Rattle.pattern.proofs.Rounds.{capped_below, to_end, rounds_start, rounds_on, rounds_end}
 use Rattle.pattern.proofs.walk.put_rounds.Goals as goal

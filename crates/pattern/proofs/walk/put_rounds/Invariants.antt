@@ -1,7 +1,5 @@
-use Rattle.laws.proofs.Prelude.{◌≡◌, refl, ◌∙◌, ℕ, ◌-◌, ◌*◌, ◌≤◌, ◌<◌, mul-le-mul, arith, length, take, length-set, sets, slice}
+use Rattle.laws.proofs.Prelude.{◌≡◌, ◌-◌, ◌≤◌, length, take, sets, slice}
 use Rattle.pattern.specs.Tree.{times as rounds}
-use Rattle.pattern.specs.Walk.{capped}
-use Rattle.pattern.proofs.Rounds.{capped_below, to_end, rounds_start, rounds_on, rounds_end}
 use Rattle.pattern.proofs.walk.put_rounds.Given as goal
 
 abbrev pub invariant-loop-i : goal.invariant-loop-i

@@ -1,4 +1,3 @@
-
 use Rattle.relay_adrc.specs.Filter.{clamp_sym}
 use Rattle.relay_adrc.proofs.filter.clamp_sym.Goals as goal
 use Rattle.relay_adrc.proofs.filter.clamp_sym.Goals.{then-is_nan-via-then-is_nan, then-is_nan-via-else-is_nan+then-m}

@@ -1,4 +1,3 @@
-
 use Rattle.relay_math.proofs.Order.{differs_as_nan}
 use Rattle.relay_adrc.proofs.filter.is_nan.Goals as goal
 

@@ -1,4 +1,3 @@
-
 use Rattle.relay_geo.specs.Inner.{feedforward_on}
 use Rattle.relay_geo.proofs.attitude.feedforward_on.Goals as goal
 

@@ -1,4 +1,3 @@
-
 use Rattle.relay_geo.proofs.Accepts.{shared_attitude, shared_feedforward}
 use Rattle.relay_geo.proofs.attitude.flatness_omega_ff.Goals as goal
 

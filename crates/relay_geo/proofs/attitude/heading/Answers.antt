@@ -1,4 +1,3 @@
-
 use Rattle.relay_math.specs.Steps.{sinf, cosf}
 use Rattle.relay_geo.specs.Attitude.{heading}
 use Rattle.relay_geo.proofs.attitude.heading.Goals as goal

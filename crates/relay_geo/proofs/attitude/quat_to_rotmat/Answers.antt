@@ -1,4 +1,3 @@
-
 use Rattle.laws.proofs.Prelude.{refl}
 use Rattle.relay_geo.specs.Attitude.{quat_to_rotmat}
 use Rattle.relay_geo.proofs.attitude.quat_to_rotmat.Goals as goal

@@ -1,4 +1,3 @@
-
 use Rattle.relay_geo.specs.Attitude.{thrust_axis_ned}
 use Rattle.relay_geo.proofs.attitude.thrust_axis_ned.Goals as goal
 

@@ -1,4 +1,3 @@
-
 use Rattle.relay_geo.specs.Inner.{thrust_of}
 use Rattle.relay_geo.proofs.attitude.thrust_of.Goals as goal
 

@@ -1,4 +1,3 @@
-
 use Rattle.relay_geo.specs.Controller.{gyroscopic}
 use Rattle.relay_geo.proofs.controller.gyroscopic.Goals as goal
 

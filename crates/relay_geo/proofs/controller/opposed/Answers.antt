@@ -1,4 +1,3 @@
-
 use Rattle.laws.proofs.Prelude.{refl}
 use Rattle.relay_geo.specs.Controller.{opposed}
 use Rattle.relay_geo.proofs.controller.opposed.Goals as goal

@@ -1,4 +1,3 @@
-
 use Rattle.laws.proofs.Prelude.{refl, of_bits, nan_bits}
 use Rattle.relay_geo.proofs.set.minus_infinity.Goals as goal
 

@@ -1,4 +1,3 @@
-
 use Rattle.relay_geo.specs.Shield.{mend_thresholds}
 use Rattle.relay_geo.proofs.shield.mend.Goals as goal
 

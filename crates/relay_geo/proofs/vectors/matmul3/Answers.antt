@@ -1,4 +1,3 @@
-
 use Rattle.relay_geo.specs.Vectors.{matmul3}
 use Rattle.relay_geo.proofs.vectors.matmul3.Goals as goal
 

@@ -1,4 +1,3 @@
-
 use Rattle.relay_geo.specs.Vectors.{normalize}
 use Rattle.relay_geo.proofs.vectors.normalize.Goals as goal
 

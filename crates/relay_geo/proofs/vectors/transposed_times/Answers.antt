@@ -1,4 +1,3 @@
-
 use Rattle.laws.proofs.Prelude.{refl}
 use Rattle.relay_geo.specs.Vectors.{dot, transposed_times}
 use Rattle.relay_geo.proofs.vectors.transposed_times.Goals as goal

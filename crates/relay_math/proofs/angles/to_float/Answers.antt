@@ -1,6 +1,5 @@
 -- `angles::to_float`: both halves are floats exactly, and so are the scales. Assumes nothing.
-use Rattle.laws.proofs.Prelude.{◌≡◌, refl, Bool, true, false, not, ◌+◌, ◌*◌, ◌<◌, arith, T, lit<, negsuc, fin, binary32, nan_bits, of_bits}
-use lib.Dec.{le→leb}
+use Rattle.laws.proofs.Prelude.{◌≡◌, refl, Bool, true, false, not, ◌+◌, ◌*◌, ◌<◌, T, lit<, negsuc, fin, binary32, nan_bits, of_bits}
 use lib.Ieee.{in_float}
 use mir.Val.{bool_byte}
 use Rattle.relay_math.proofs.Round.{to_float_lem}

@@ -1,6 +1,6 @@
 -- `sqrt::root_bits`: m shifted so that its exponent is even has 47 or 48 digits, and its root 24. Assumes nothing.
 use Rattle.laws.proofs.Prelude.{◌≡◌, ℕ, ◌+◌, ◌-◌, ◌*◌, ◌/◌, ◌%◌, ◌^◌, ◌≤◌, arith, rules}
-use Rattle.relay_math.proofs.Root.{Scaled, M, E, under, half, under_size, as_product, closest_read}
+use Rattle.relay_math.proofs.Root.{Scaled, M, E, half, under_size, as_product, closest_read}
 use Rattle.relay_math.proofs.sqrt.root_bits.Goals as goal
 
 sized : (d : ℕ) → 2 ^ 23 ≤ d → let n = M d * (d / 2 ^ 23 % 2 * 2 ^ 23 + 2 ^ 23) in (2 ^ 46 ≤ n) × (n ≤ 2 ^ 48 - 2 ^ 24)

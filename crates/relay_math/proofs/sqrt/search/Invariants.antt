@@ -1,5 +1,4 @@
-use Rattle.laws.proofs.Prelude.{◌+◌, ◌-◌, ◌*◌, ◌^◌, ◌≤◌, ◌<◌, arith}
-use Rattle.relay_math.proofs.Squares.{square_le, some, capped, next}
+use Rattle.laws.proofs.Prelude.{◌+◌, ◌-◌, ◌*◌, ◌^◌, ◌≤◌, ◌<◌}
 use Rattle.relay_math.proofs.sqrt.search.Given as goal
 
 abbrev pub invariant-loop-r : goal.invariant-loop-r

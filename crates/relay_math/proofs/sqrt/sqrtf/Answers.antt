@@ -2,7 +2,6 @@
 use Rattle.laws.proofs.Prelude.{◌≡◌, refl, ◌*◌, ◌%◌, ◌^◌, arith, le-ltb, T, Float, binary32, fits, of_bits, div, held}
 use lib.Ieee.Bits.{nan_bits_above}
 use Rattle.relay_math.specs.Sqrt.{IsRoot, sqrtf}
-use Rattle.relay_math.proofs.Signs.{not_nan}
 use Rattle.relay_math.proofs.Root.{is_root, by_tests_lem, above}
 use Rattle.relay_math.proofs.sqrt.sqrtf.Goals as goal
 use Rattle.relay_math.proofs.sqrt.sqrtf.Goals.{Start}

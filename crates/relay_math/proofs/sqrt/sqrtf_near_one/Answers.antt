@@ -3,7 +3,7 @@ use Rattle.laws.proofs.Prelude.{le-ltb, ◌≡◌, true, suc, ◌+◌, ◌*◌, 
 use lib.Ieee.Bits.{nan_bits_above, to_bits-lt}
 use Rattle.relay_math.specs.Steps.{Zero}
 use Rattle.relay_math.specs.Sqrt.{sqrtf}
-use Rattle.relay_math.proofs.Signs.{not_nan, of_positive}
+use Rattle.relay_math.proofs.Signs.{of_positive}
 use Rattle.relay_math.proofs.Grains.{reads}
 use Rattle.relay_math.proofs.Root.{above, near_one}
 use Rattle.relay_math.proofs.sqrt.sqrtf_near_one.Goals as goal

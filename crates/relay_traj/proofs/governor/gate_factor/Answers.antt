@@ -1,4 +1,3 @@
-
 use Rattle.relay_traj.specs.Governor.{gate_factor}
 use Rattle.relay_traj.proofs.governor.gate_factor.Goals as goal
 

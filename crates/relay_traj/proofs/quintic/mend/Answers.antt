@@ -1,4 +1,3 @@
-
 use Rattle.relay_traj.specs.Quintic.{mend_ends}
 use Rattle.relay_traj.proofs.quintic.mend.Goals as goal
 

@@ -1,4 +1,3 @@
-
 use Rattle.relay_traj.specs.Quintic.{time_on}
 use Rattle.relay_traj.proofs.quintic.time_on.Goals as goal
 

@@ -1,8 +1,8 @@
 -- `route::entry::route_tick`: refused as it stands, or flown and written. Assumes nothing.
-use Rattle.laws.proofs.Prelude.{eq-eqb, ne_eqb, not-true, not, ap, arith}
+use Rattle.laws.proofs.Prelude.{eq-eqb, ne_eqb}
 use Rattle.words.proofs.Plain.{scanned}
 use Rattle.lent_tick.specs.Tick.{tick_from}
-use Rattle.lent_tick.proofs.TickLeaves.{is_unbroken, unbroken_taken, read_of, flown, keeps}
+use Rattle.lent_tick.proofs.TickLeaves.{is_unbroken, unbroken_taken, flown, keeps}
 use Rattle.route.specs.Entry.{on_route, route_refusal, route_call}
 use Rattle.route.proofs.FormRefusals.{formed, form_decides, formless, broken}
 use Rattle.route.proofs.entry.route_tick.Goals as goal

@@ -1,6 +1,6 @@
 -- `route::form::all_alike`: the joins from leg i on decide, as all of them do. Assumes nothing.
-use Rattle.laws.proofs.Prelude.{◌≡◌, refl, sym, ◌∙◌, ◌-◌, ◌≤◌, arith, no}
-use Rattle.route.specs.Form.{meet_from, all_meet}
+use Rattle.laws.proofs.Prelude.{sym, ◌∙◌, arith}
+use Rattle.route.specs.Form.{all_meet}
 use Rattle.route.proofs.LegWalks.{meet_on, meet_ends}
 use Rattle.route.proofs.form.all_alike.Goals as goal
 

@@ -1,6 +1,6 @@
 -- `route::form::all_meet`: the joins from leg i on decide, as all of them do. Assumes nothing.
-use Rattle.laws.proofs.Prelude.{not-true, not-false, ◌≡◌, refl, sym, ◌∙◌, ◌-◌, ◌≤◌, arith}
-use Rattle.route.specs.Form.{meet_from, all_meet}
+use Rattle.laws.proofs.Prelude.{sym, ◌∙◌, arith}
+use Rattle.route.specs.Form.{all_meet}
 use Rattle.route.proofs.LegWalks.{meet_on, meet_stops, meet_ends}
 use Rattle.route.proofs.form.all_meet.Goals as goal
 

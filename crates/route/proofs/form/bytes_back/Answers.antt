@@ -1,4 +1,3 @@
-
 use Rattle.route.specs.Form.{back_of}
 use Rattle.route.proofs.form.bytes_back.Goals as goal
 

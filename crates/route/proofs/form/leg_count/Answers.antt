@@ -1,4 +1,3 @@
-
 use Rattle.route.specs.Form.{leg_count}
 use Rattle.route.proofs.form.leg_count.Goals as goal
 

@@ -1,4 +1,3 @@
-
 use Rattle.image.specs.Parts.{leg_at}
 use Rattle.route.specs.Form.{legs_meet}
 use Rattle.route.proofs.LegWalks.{all_three}

@@ -1,4 +1,3 @@
-
 use Rattle.laws.proofs.Prelude.{sym, ◌∙◌}
 use Rattle.image.specs.Parts.{leg_at}
 use Rattle.route.specs.Form.{legs_meet}

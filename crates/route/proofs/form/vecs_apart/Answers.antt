@@ -1,4 +1,3 @@
-
 use Rattle.laws.proofs.Prelude.{refl}
 use Rattle.words.specs.Words.{vec}
 use Rattle.route.specs.Form.{vecs_meet}

@@ -1,4 +1,3 @@
-
 use Rattle.laws.proofs.Prelude.{le-ltb, ◌≡◌, true, ℕ, ◌+◌, ◌/◌, ◌%◌, arith, eq}
 use lib.Bits.{bit_or, bit_xor}
 use Rattle.words.specs.Words.{float_of}

@@ -1,4 +1,3 @@
-
 use Rattle.relay_traj.specs.Quintic.{mend_ends}
 use Rattle.route.proofs.legs.axis_at.Goals as goal
 

@@ -1,4 +1,3 @@
-
 use Rattle.image.specs.Parts.{leg_at}
 use Rattle.route.specs.Legs.{duration_of}
 use Rattle.route.proofs.legs.duration_of.Goals as goal

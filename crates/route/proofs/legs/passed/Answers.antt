@@ -1,6 +1,6 @@
 -- `route::legs::passed`: what is found from leg i on, after the ends up to it, is what is found at all. Assumes nothing.
-use Rattle.laws.proofs.Prelude.{◌≡◌, refl, sym, ◌∙◌, ◌-◌, ◌≤◌, sub-zero, arith}
-use Rattle.route.specs.Legs.{flown_from, leg_flown}
+use Rattle.laws.proofs.Prelude.{refl, sym, ◌∙◌, sub-zero, arith}
+use Rattle.route.specs.Legs.{leg_flown}
 use Rattle.route.proofs.LegWalks.{flown_on, flown_here, flown_last}
 use Rattle.route.proofs.legs.passed.Goals as goal
 

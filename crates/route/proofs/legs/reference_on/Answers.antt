@@ -1,5 +1,4 @@
-
-use Rattle.laws.proofs.Prelude.{ap, ◌∙◌, arith}
+use Rattle.laws.proofs.Prelude.{ap, ◌∙◌}
 use Rattle.route.specs.Legs.{sample_on, reference_of, reference_on}
 use Rattle.route.proofs.LegWalks.{of_the_found}
 use Rattle.route.proofs.legs.reference_on.Goals as goal

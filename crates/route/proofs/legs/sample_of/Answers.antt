@@ -1,4 +1,3 @@
-
 use Rattle.route.specs.Legs.{sample_of}
 use Rattle.route.proofs.legs.sample_of.Goals as goal
 

@@ -1,4 +1,3 @@
-
 use Rattle.laws.proofs.Prelude.{refl}
 use Rattle.words.proofs.Written.{then, whole}
 use Rattle.route.specs.Entry.{sample_bytes}

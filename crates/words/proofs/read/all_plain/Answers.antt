@@ -1,12 +1,10 @@
 -- `words::read::all_plain`: the top bit is off so long as every word that it looked at is plain. Assumes nothing.
-use Rattle.laws.proofs.Prelude.{◌≡◌, refl, sym, ◌∙◌, Bool, ◌&&◌, inl, inr, ℕ, ◌+◌, ◌-◌, ◌%◌, ◌≤◌, add-one, arith, le-leb, lt-leb, lt-ltb, le-ltb, ltb, le_or_lt}
-use native.Mathlib.Nat.{le_antisymm}
+use Rattle.laws.proofs.Prelude.{◌≡◌, sym, ◌∙◌, ◌&&◌, inl, inr, ℕ, ◌+◌, ◌%◌, add-one, arith, le-leb, lt-leb, lt-ltb, le-ltb, le_or_lt}
 use lib.Bits.{bit_or, or_lt, or_add_and, and_le_l, and_le_r}
-use Rattle.words.specs.Inner.{is_plain, all_plain}
+use Rattle.words.specs.Inner.{is_plain}
 use Rattle.words.proofs.Plain.{plain_is}
 use Rattle.words.proofs.read.all_plain.Invariants.{Low}
 use Rattle.words.proofs.read.all_plain.Goals as goal
-
 
 low_or : (a b : ℕ) → Low (bit_or a b) ≡ (Low a && Low b)
 low_or a b =

@@ -1,4 +1,3 @@
-
 use Rattle.words.specs.Words.{vec}
 use Rattle.words.proofs.read.read_vec.Goals as goal
 

@@ -1,4 +1,3 @@
-
 use Rattle.words.specs.Words.{word}
 use Rattle.laws.proofs.Prelude.{rules}
 use Rattle.words.proofs.read.word_at.Goals as goal

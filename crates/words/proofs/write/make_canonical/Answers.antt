@@ -1,5 +1,5 @@
 -- `words::write::make_canonical`: plain words stand; else the first k are made after k rounds. Assumes nothing.
-use Rattle.laws.proofs.Prelude.{◌≡◌, refl, ap, subst, ◌∙◌, Bool, List, ℕ, ◌-◌, ◌≤◌, add-one, arith, length, length-sets}
+use Rattle.laws.proofs.Prelude.{◌≡◌, ap, subst, ◌∙◌, Bool, List, ℕ, add-one, arith, length, length-sets}
 use native.Mathlib.Nat.{le_antisymm}
 use Rattle.words.specs.Words.{bytes_of, canons, float, Put}
 use Rattle.words.specs.Inner.{Plain}

@@ -1,5 +1,5 @@
 -- `words::write::put_bytes`: after i bytes the first i are written, by sixteens, by fours and then one by one. Assumes nothing.
-use Rattle.laws.proofs.Prelude.{◌≡◌, refl, ap, ◌∙◌, List, ℕ, ◌-◌, ◌≤◌, arith, length, take, sets, length-sets, take_all}
+use Rattle.laws.proofs.Prelude.{refl, arith}
 use Rattle.words.proofs.Written.{one_more, run_more}
 use Rattle.words.proofs.write.put_bytes.Goals as goal
 

@@ -1,5 +1,4 @@
-use Rattle.laws.proofs.Prelude.{◌≡◌, refl, ap, ◌∙◌, List, ℕ, ◌-◌, ◌≤◌, arith, length, take, sets, length-sets, take_all}
-use Rattle.words.proofs.Written.{one_more, run_more}
+use Rattle.laws.proofs.Prelude.{◌≡◌, List, ℕ, ◌-◌, ◌≤◌, length, take, sets}
 use Rattle.words.proofs.write.put_bytes.Given as goal
 
 abbrev pub invariant-loop-i : goal.invariant-loop-i

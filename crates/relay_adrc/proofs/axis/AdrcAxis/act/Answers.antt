@@ -1,4 +1,3 @@
-
 use Rattle.relay_adrc.specs.Inner.{axis_act}
 use Rattle.relay_adrc.proofs.axis.AdrcAxis.act.Goals as goal
 

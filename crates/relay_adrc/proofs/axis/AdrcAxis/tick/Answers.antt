@@ -1,4 +1,3 @@
-
 use Rattle.relay_adrc.proofs.Ticks.{tick_in_halves}
 use Rattle.relay_adrc.proofs.axis.AdrcAxis.tick.Goals as goal
 

@@ -1,4 +1,3 @@
-
 use Rattle.relay_adrc.specs.Biquad.{biquad_filter}
 use Rattle.relay_adrc.proofs.biquad.Biquad.filter.Goals as goal
 

@@ -1,4 +1,3 @@
-
 use Rattle.relay_adrc.specs.Biquad.{lowpass_at, lowpass}
 use Rattle.relay_adrc.proofs.biquad.Biquad.lowpass.Goals as goal
 

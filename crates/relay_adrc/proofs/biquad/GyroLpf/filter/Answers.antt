@@ -1,4 +1,3 @@
-
 use Rattle.relay_adrc.specs.Biquad.{gyro_filter}
 use Rattle.relay_adrc.proofs.biquad.GyroLpf.filter.Goals as goal
 

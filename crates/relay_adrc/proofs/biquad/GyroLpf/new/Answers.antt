@@ -1,4 +1,3 @@
-
 use Rattle.relay_adrc.specs.Biquad.{gyro_new}
 use Rattle.relay_adrc.proofs.biquad.GyroLpf.new.Goals as goal
 

@@ -1,4 +1,3 @@
-
 use Rattle.relay_adrc.specs.Filter.{filter_step}
 use Rattle.relay_adrc.proofs.filter.CommandFilter.step.Goals as goal
 

@@ -1,4 +1,3 @@
-
 use Rattle.relay_adrc.specs.Filter.{filter3_step}
 use Rattle.relay_adrc.proofs.filter.CommandFilter3.step.Goals as goal
 

@@ -1,4 +1,3 @@
-
 use Rattle.relay_adrc.specs.Rate.{rate_tick}
 use Rattle.relay_adrc.proofs.rate.AdrcRate.tick.Goals as goal
 

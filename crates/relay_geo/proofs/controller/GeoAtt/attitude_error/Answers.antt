@@ -1,4 +1,3 @@
-
 use Rattle.laws.proofs.Prelude.{refl}
 use Rattle.relay_geo.specs.Vectors.{prod3}
 use Rattle.relay_geo.specs.Controller.{attitude_error}

@@ -1,4 +1,3 @@
-
 use Rattle.relay_geo.specs.Controller.{desired_rate}
 use Rattle.relay_geo.proofs.controller.GeoAtt.desired_rate.Goals as goal
 

@@ -1,4 +1,3 @@
-
 use Rattle.relay_geo.specs.Controller.{moment}
 use Rattle.relay_geo.proofs.controller.GeoAtt.moment.Goals as goal
 

@@ -1,4 +1,3 @@
-
 use Rattle.relay_geo.specs.Controller.{moment_reduced}
 use Rattle.relay_geo.proofs.controller.GeoAtt.moment_reduced.Goals as goal
 

@@ -1,4 +1,3 @@
-
 use Rattle.relay_geo.specs.Controller.{tick}
 use Rattle.relay_geo.proofs.controller.GeoAtt.tick.Goals as goal
 

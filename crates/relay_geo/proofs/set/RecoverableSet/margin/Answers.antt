@@ -1,4 +1,3 @@
-
 use Rattle.relay_geo.specs.Set.{margin}
 use Rattle.relay_geo.proofs.set.RecoverableSet.margin.Goals as goal
 

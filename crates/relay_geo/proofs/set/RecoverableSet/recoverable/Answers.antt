@@ -1,4 +1,3 @@
-
 use Rattle.relay_geo.specs.Set.{recoverable}
 use Rattle.relay_geo.proofs.set.RecoverableSet.recoverable.Goals as goal
 

@@ -1,4 +1,3 @@
-
 use Rattle.relay_geo.specs.Shield.{filter}
 use Rattle.relay_geo.proofs.shield.SimplexShield.filter.Goals as goal
 

@@ -1,4 +1,3 @@
-
 use Rattle.relay_geo.specs.Shield.{new_shield}
 use Rattle.relay_geo.proofs.shield.SimplexShield.new.Goals as goal
 

@@ -1,4 +1,3 @@
-
 use Rattle.relay_geo.specs.Shield.{step}
 use Rattle.relay_geo.proofs.shield.SimplexShield.step.Goals as goal
 

@@ -1,4 +1,3 @@
-
 use Rattle.relay_traj.specs.Governor.{advance}
 use Rattle.relay_traj.proofs.governor.RefGovernor.advance.Goals as goal
 

@@ -1,4 +1,3 @@
-
 use Rattle.relay_traj.specs.Governor.{gate}
 use Rattle.relay_traj.proofs.governor.RefGovernor.gate.Goals as goal
 

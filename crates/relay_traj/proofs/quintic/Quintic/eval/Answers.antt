@@ -1,4 +1,3 @@
-
 use Rattle.relay_traj.specs.Quintic.{eval, sample_at}
 use Rattle.relay_traj.proofs.quintic.Quintic.eval.Goals as goal
 

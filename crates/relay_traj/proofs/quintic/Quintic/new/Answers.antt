@@ -1,4 +1,3 @@
-
 use Rattle.relay_traj.specs.Quintic.{quintic}
 use Rattle.relay_traj.proofs.quintic.Quintic.new.Goals as goal
 

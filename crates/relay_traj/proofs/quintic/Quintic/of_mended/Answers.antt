@@ -1,4 +1,3 @@
-
 use Rattle.relay_traj.specs.Quintic.{of_mended}
 use Rattle.relay_traj.proofs.quintic.Quintic.of_mended.Goals as goal
 

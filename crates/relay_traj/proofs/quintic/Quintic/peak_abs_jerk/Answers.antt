@@ -1,4 +1,3 @@
-
 use Rattle.laws.proofs.Prelude.{nan_bits}
 use Rattle.relay_traj.specs.Quintic.{peak_abs_jerk}
 use Rattle.relay_traj.proofs.quintic.Quintic.peak_abs_jerk.Goals as goal

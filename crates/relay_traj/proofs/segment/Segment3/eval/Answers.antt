@@ -1,4 +1,3 @@
-
 use Rattle.relay_traj.specs.Segment.{eval3}
 use Rattle.relay_traj.proofs.segment.Segment3.eval.Goals as goal
 

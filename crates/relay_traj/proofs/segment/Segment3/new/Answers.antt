@@ -1,4 +1,3 @@
-
 use Rattle.relay_traj.specs.Segment.{segment}
 use Rattle.relay_traj.proofs.segment.Segment3.new.Goals as goal
 

@@ -1,4 +1,3 @@
-
 use Rattle.relay_traj.specs.Segment.{peak_abs_jerk3}
 use Rattle.relay_traj.proofs.segment.Segment3.peak_abs_jerk.Goals as goal
 

@@ -1,4 +1,3 @@
-
 use Rattle.relay_traj.specs.Segment.{rest_to_rest}
 use Rattle.relay_traj.proofs.segment.Segment3.rest_to_rest.Goals as goal
 

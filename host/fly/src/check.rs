@@ -42,7 +42,7 @@ pub enum Outcome {
 /// The check of a whole flight, and how many records it looked at.
 pub fn verdict(kept: &Kept, given: &Given) -> Result<(Verdict, usize), Trouble> {
     let (mut check, mut count) = (SeriesCheck::new(given.profile, given.enter, given.exit), 0);
-    kept.each(|log| {
+    kept.pieces(|log| {
         count += log.len();
         Ok(check.log(log)?.is_right())
     })?;

@@ -2,10 +2,13 @@
 
 use crate::flight_file::FlightFile;
 use crate::output::{name, read, told};
-use fosavalo::{LogView, Record, Refusal};
+use crate::salvage::trailer;
+use fosavalo::{LogView, Record, Refusal, LOG_TRAILER_BYTES, MOST_RECORDS, RECORD_BYTES};
 use std::borrow::Cow;
 use std::collections::{BTreeSet, HashMap};
 use std::fmt;
+use std::fs::File;
+use std::io::{self, Read, Seek, SeekFrom};
 use std::path::{Path, PathBuf};
 
 /// One log, by its file; what came by standard input has its bytes here.
@@ -26,6 +29,9 @@ pub struct Kept {
     /// The log before its first, where these begin in mid-flight by their numbers, and whether it is there.
     pub before: Option<(String, bool)>,
 }
+
+/// How many records are checked at a time.
+const PIECE: usize = 2048;
 
 /// A file that was looked for, or why it is none.
 pub type Found = (PathBuf, Result<(), String>);
@@ -62,6 +68,18 @@ impl Part {
             Some(told) if told != count => Err(of_log(format!("it has {count} records, and its flight's file tells of {told}"))),
             _ => Ok(bytes),
         }
+    }
+
+    /// Its file and how many records it has, where its length and its last words say that it is a log as its flight's file tells of it.
+    fn opened(&self) -> Option<(File, usize)> {
+        let mut file = File::open(&self.path).ok().filter(|_| self.bytes.is_none())?;
+        let about = file.metadata().ok().filter(|about| about.is_file())?;
+        let records = usize::try_from(about.len()).ok()?.checked_sub(LOG_TRAILER_BYTES)?;
+        let count = records / RECORD_BYTES;
+        let (mut last, fits) = ([0; LOG_TRAILER_BYTES], records % RECORD_BYTES == 0 && count <= MOST_RECORDS);
+        file.seek(SeekFrom::Start(records as u64)).and_then(|_| file.read_exact(&mut last)).ok()?;
+        file.seek(SeekFrom::Start(0)).ok()?;
+        (fits && last == trailer(count) && self.told.is_none_or(|told| told == count)).then_some((file, count))
     }
 
     pub fn file_name(&self) -> String {
@@ -160,6 +178,42 @@ impl Kept {
             let refused = |refusal| Trouble::Refused(None, refusal);
             if !log(LogView::from_bytes(&bytes).map_err(refused)?).map_err(refused)? {
                 break;
+            }
+        }
+        Ok(())
+    }
+
+    /// The same records, of a file in pieces, each a log: so many at a time as stay near the processor between their reading and their check.
+    pub fn pieces(&self, mut log: impl FnMut(LogView) -> Result<bool, Refusal>) -> Result<(), Trouble> {
+        let mut piece = Vec::new();
+        let refused = |refusal| Trouble::Refused(None, refusal);
+        for part in &self.logs {
+            let several = self.logs.len() > 1 || self.file.is_some();
+            let Some((mut file, count)) = part.opened() else {
+                // what is no log is told of as a whole
+                let bytes = part.read(several)?;
+                if !log(LogView::from_bytes(&bytes).map_err(refused)?).map_err(refused)? {
+                    return Ok(());
+                }
+                continue;
+            };
+            let mut left = count;
+            loop {
+                let here = left.min(PIECE);
+                let of_log = |error: io::Error| match several {
+                    true => Trouble::Unreadable(format!("{}: {error}", part.file_name())),
+                    false => Trouble::Unreadable(error.to_string()),
+                };
+                piece.resize(here * RECORD_BYTES, 0);
+                file.read_exact(&mut piece).map_err(of_log)?;
+                piece.extend(trailer(here));
+                if !log(LogView::from_bytes(&piece).map_err(refused)?).map_err(refused)? {
+                    return Ok(());
+                }
+                left -= here;
+                if left == 0 {
+                    break;
+                }
             }
         }
         Ok(())

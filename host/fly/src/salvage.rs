@@ -21,7 +21,7 @@ pub struct Salvaged<'a> {
 }
 
 /// The trailer of a log of so many records.
-fn trailer(count: usize) -> [u8; LOG_TRAILER_BYTES] {
+pub fn trailer(count: usize) -> [u8; LOG_TRAILER_BYTES] {
     let mut bytes = [0; LOG_TRAILER_BYTES];
     let words = [count, count * RECORD_BYTES, RECORD_BYTES];
     bytes.chunks_exact_mut(4).zip(words).for_each(|(four, word)| four.copy_from_slice(&(word as u32).to_le_bytes()));

@@ -24,9 +24,6 @@ const PAGES: [&str; 9] = [
     "include/fosavalo_desk.h",
 ];
 
-/// The page of all edits, which a program writes.
-const EDITS: &str = "crates/EDITS.md";
-
 /// The notes on the requests. They tell of names that are gone too.
 const NOTES: &str = "docs/history/requests";
 
@@ -274,8 +271,8 @@ pub fn named(logic: &Logic) -> Result<Named, String> {
     let page = |name: String| text(&name).map(|text| (name, text));
     let pages = PAGES.iter().map(|name| page(name.to_string())).collect::<Result<Vec<Page>, _>>()?;
     let notes = entries(NOTES)?.iter().map(|name| page(format!("{NOTES}/{name}"))).collect::<Result<Vec<Page>, _>>()?;
-    // which lists them all
-    let listed = text(EDITS)?;
+    // the page of edits names them all, and a test holds the file to this
+    let listed = edits::page()?;
     Ok(in_pages(logic, &in_sources()?, &text(THEOREMS)?, &pages, &notes, &listed, &edits()?))
 }
 

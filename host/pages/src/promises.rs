@@ -12,8 +12,8 @@ const EXCEPTIONS: [(&str, &str, &str); 4] = [
     (
         "relay_geo::lent::SimplexShield::step_lent",
         "step_lent_once",
-        "The state is lent, and such a function is proved by hand: the toolchain makes no `Reads.Post` of its contract. \
-         The theorem is `OneAnswer` of the promise written out, and `step_lent_says` that the function's own clause is that promise.",
+        "The state is lent, and its promise is written out beside the theorem. \
+         It is `OneAnswer` of that promise, and `step_lent_says` that the function's own clause is that promise.",
     ),
     ("relay_traj::lent::RefGovernor::advance_lent", "advance_lent_once", "The same, with `advance_lent_says`."),
     ("flight_log::reader::moved", "moved_once", "The same, of a struct that holds a reference, with `moved_says`."),

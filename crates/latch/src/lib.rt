@@ -10,15 +10,12 @@ use relay_math::{finite_above, is_finite};
 fn engages(enter: f32, margin: f32) -> bool
     ensures { result ≡ engages enter margin }
 {
-    if !is_finite(margin) {
-        true
-    } else {
-        margin < enter
-    }
+    !is_finite(margin) || margin < enter
 }
 
 // Whether the fallback has control after this margin. Between the two thresholds it stays as it was: giving control back as soon as the
 // margin rises over `enter` would change controllers on nearly every tick.
+#[tactic(auto, unfolding(crate::specs::Latch::latch))]
 pub fn latch(enter: f32, exit: f32, engaged: bool, margin: f32) -> bool
     ensures { result ≡ latch enter exit engaged margin }
 {

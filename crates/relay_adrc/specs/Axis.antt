@@ -1,7 +1,7 @@
 -- `AdrcAxis` of document 002, and what mends its inputs. Definitions only.
 use Rattle.std.specs.Prelude.{◌&&◌, cond, Float}
 use Rattle.std.specs.Float.Ieee.{lt}
-use Rattle.relay_math.specs.F32.{◌⊕◌, ◌⊖◌, ◌⊗◌, ◌⊘◌, f32, 0·0, 1e-3, 0·1, 1·0, 2·0, 3·0, is_finite, finite_or, finite_above, clamp, fabsf}
+use Rattle.relay_math.specs.F32.{◌⊕◌, ◌⊖◌, ◌⊗◌, ◌⊘◌, f32, 0·0, 1e-3, 0·1, 1·0, 2·0, 3·0, is_finite, finite_or, finite_above, above_or, clamp_or, fabsf}
 use Rattle.relay_adrc.specs.declared.gains.AdrcGains.{AdrcGains}
 use Rattle.relay_adrc.specs.declared.axis.AdrcAxis.{AdrcAxis}
 use Rattle.relay_adrc.specs.declared.axis.AxisTick.{AxisTick}
@@ -13,10 +13,10 @@ abbrev pub 10·0 : Float
 10·0 = f32 0x4120_0000
 
 abbrev pub mend_dt : Float → Float
-mend_dt dt = cond (is_finite dt) (clamp dt 1e-4 0·1) 1e-3
+mend_dt dt = clamp_or dt 1e-4 0·1 1e-3
 
 abbrev pub positive_or : Float → Float → Float
-positive_or x d = cond (finite_above 0·0 x) x d
+positive_or x d = above_or 0·0 x d
 
 abbrev pub mend_b0 : Float → Float
 mend_b0 b0 = cond (is_finite b0 && lt 1e-3 (fabsf b0)) b0 1·0
@@ -25,7 +25,7 @@ abbrev pub lag : Float → Float → Float → Float → Float
 lag uAct uDelivered tau dt = cond (finite_above 1e-4 tau) (uAct ⊕ dt ⊗ (uDelivered ⊖ uAct) ⊘ tau) uDelivered
 
 abbrev pub delivered_fraction : Float → Float
-delivered_fraction frac = cond (is_finite frac) (clamp frac 0·0 1·0) 1·0
+delivered_fraction frac = clamp_or frac 0·0 1·0 1·0
 
 abbrev pub axis_new : AdrcGains → AdrcAxis
 axis_new g = record { z1 = 0·0; z2 = 0·0; u_prev = 0·0; u_act = 0·0; u_delivered_frac = 1·0; g = g }

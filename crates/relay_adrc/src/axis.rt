@@ -1,7 +1,7 @@
 // One axis of linear ADRC. An observer estimates the rate z1 and all that the nominal plant leaves out, z2; the control tracks the wanted rate and cancels z2.
 ghost use Rattle.std.specs.Prelude.{◌≡◌};
 ghost use Rattle.relay_math.specs.F32.{finite_or};
-ghost use Rattle.relay_adrc.specs.Axis.{mend_dt, positive_or, mend_b0, lag, delivered_fraction, axis_new, axis_tick, axis_reset, axis_set_delivered_fraction};
+ghost use Rattle.relay_adrc.specs.Axis.{mend_dt, mend_b0, lag, axis_new, axis_tick, axis_reset, axis_set_delivered_fraction};
 ghost use Rattle.relay_adrc.specs.Inner.{axis_observe, axis_act};
 
 use crate::gains::AdrcGains;
@@ -37,22 +37,7 @@ pub struct AxisTick {
 pub(crate) fn mend_dt(dt: f32) -> f32
     ensures { result ≡ mend_dt dt }
 {
-    if relay_math::is_finite(dt) {
-        relay_math::clamp(dt, 1e-4, 0.1)
-    } else {
-        1e-3
-    }
-}
-
-// x if it is finite and above zero, else d.
-pub(crate) fn positive_or(x: f32, d: f32) -> f32
-    ensures { result ≡ positive_or x d }
-{
-    if relay_math::finite_above(0.0, x) {
-        x
-    } else {
-        d
-    }
+    relay_math::clamp_or(dt, 1e-4, 0.1, 1e-3)
 }
 
 // The control divides by b0: one of size not above 1e-3, or non-finite, becomes 1.
@@ -74,17 +59,6 @@ fn lag(u_act: f32, u_delivered: f32, tau: f32, dt: f32) -> f32
         u_act + dt * (u_delivered - u_act) / tau
     } else {
         u_delivered
-    }
-}
-
-// The fraction kept for a reported one: within 0 to 1, and 1 where the report is non-finite.
-fn delivered_fraction(frac: f32) -> f32
-    ensures { result ≡ delivered_fraction frac }
-{
-    if relay_math::is_finite(frac) {
-        relay_math::clamp(frac, 0.0, 1.0)
-    } else {
-        1.0
     }
 }
 
@@ -115,6 +89,7 @@ impl AdrcAxis {
     }
 
     // The half of a tick that looks back: the observer's step on what was measured.
+    #[tactic(auto, unfolding(crate::specs::Inner::axis_observe))]
     pub fn observe(self, omega_meas: f32, dt: f32) -> Observed
         ensures { result ≡ axis_observe self omega_meas dt }
     {
@@ -122,7 +97,7 @@ impl AdrcAxis {
         let dt = mend_dt(dt);
         let om = sanitise(omega_meas, 0.0);
 
-        let omega_o = positive_or(g.omega_o, 10.0);
+        let omega_o = relay_math::above_or(0.0, g.omega_o, 10.0);
         let b0 = mend_b0(g.b0);
         let beta1 = 2.0 * omega_o;
         let beta2 = omega_o * omega_o;
@@ -142,28 +117,29 @@ impl AdrcAxis {
     }
 
     // The half that acts: the command from what was observed and what is wanted.
+    #[tactic(auto, unfolding(crate::specs::Inner::axis_act))]
     pub fn act(self, o: Observed, omega_d: f32) -> AxisTick
         ensures { result ≡ axis_act self o omega_d }
     {
-        let g = self.g;
+        let Observed { z1, z2, u_act } = o;
         let od = sanitise(omega_d, 0.0);
-        let kp = positive_or(g.omega_c, 3.0);
-        let b0 = mend_b0(g.b0);
-        let u = sanitise((kp * (od - o.z1) - o.z2) / b0, 0.0);
+        let kp = relay_math::above_or(0.0, self.g.omega_c, 3.0);
+        let b0 = mend_b0(self.g.b0);
+        let u = sanitise((kp * (od - z1) - z2) / b0, 0.0);
         AxisTick {
             axis: AdrcAxis {
-                z1: o.z1,
-                z2: o.z2,
+                z1,
+                z2,
                 u_prev: u,
-                u_act: o.u_act,
-                u_delivered_frac: self.u_delivered_frac,
-                g,
+                u_act,
+                ..self
             },
             u,
         }
     }
 
     // In two halves, since the first needs nothing of what is wanted: a caller may take it early.
+    #[tactic(auto, using(crate::proofs::Ticks::tick_in_halves))]
     pub fn tick(self, omega_meas: f32, omega_d: f32, dt: f32) -> AxisTick
         ensures { result ≡ axis_tick self omega_meas omega_d dt }
     {
@@ -173,22 +149,16 @@ impl AdrcAxis {
     pub fn reset(self) -> Self
         ensures { result ≡ axis_reset self }
     {
-        let g = self.g;
-        AdrcAxis::new(g)
+        AdrcAxis::new(self.g)
     }
 
-    // Set after one tick and used in the next, on the command of the first.
+    // Set after one tick and used in the next, on the command of the first: within 0 to 1, and 1 where the report is non-finite.
     pub fn set_delivered_fraction(self, frac: f32) -> Self
         ensures { result ≡ axis_set_delivered_fraction self frac }
     {
-        let g = self.g;
         AdrcAxis {
-            z1: self.z1,
-            z2: self.z2,
-            u_prev: self.u_prev,
-            u_act: self.u_act,
-            u_delivered_frac: delivered_fraction(frac),
-            g,
+            u_delivered_frac: relay_math::clamp_or(frac, 0.0, 1.0, 1.0),
+            ..self
         }
     }
 }

@@ -39,6 +39,7 @@ pub fn passes_through(fc: f32, fs: f32) -> bool
 
 impl Biquad {
     // The cut-off fc and the sample rate fs in Hz. The angle may overflow to infinity, where sine and cosine are 0: the Rust does so too.
+    #[tactic(auto, unfolding(crate::specs::Biquad::lowpass, crate::specs::Biquad::lowpass_at))]
     pub fn lowpass(fc: f32, fs: f32) -> Self
         ensures { result ≡ lowpass fc fs }
     {
@@ -81,6 +82,7 @@ impl Biquad {
     }
 
     // One step. A non-finite input or output counts as 0.
+    #[tactic(auto, unfolding(crate::specs::Biquad::biquad_filter))]
     pub fn filter(self, x: f32) -> Filtered
         ensures { result ≡ biquad_filter self x }
     {
@@ -91,15 +93,11 @@ impl Biquad {
         let y = relay_math::finite_or(y, 0.0);
         Filtered {
             biquad: Biquad {
-                b0: self.b0,
-                b1: self.b1,
-                b2: self.b2,
-                a1: self.a1,
-                a2: self.a2,
                 x1: x,
                 x2: self.x1,
                 y1: y,
                 y2: self.y1,
+                ..self
             },
             y,
         }
@@ -122,6 +120,7 @@ pub struct GyroFiltered {
 }
 
 impl GyroLpf {
+    #[tactic(auto, unfolding(crate::specs::Biquad::gyro_new))]
     pub fn new(fc: f32, fs: f32) -> Self
         ensures { result ≡ gyro_new fc fs }
     {
@@ -133,6 +132,7 @@ impl GyroLpf {
         }
     }
 
+    #[tactic(auto, unfolding(crate::specs::Biquad::gyro_filter))]
     pub fn filter(self, gyro: BodyRate) -> GyroFiltered
         ensures { result ≡ gyro_filter self gyro }
     {
@@ -140,14 +140,11 @@ impl GyroLpf {
         let roll = self.roll.filter(g.0);
         let pitch = self.pitch.filter(g.1);
         let yaw = self.yaw.filter(g.2);
-        let bx = roll.biquad;
-        let by = pitch.biquad;
-        let bz = yaw.biquad;
         GyroFiltered {
             lpf: GyroLpf {
-                roll: bx,
-                pitch: by,
-                yaw: bz,
+                roll: roll.biquad,
+                pitch: pitch.biquad,
+                yaw: yaw.biquad,
             },
             rate: BodyRate(Vec3(roll.y, pitch.y, yaw.y)),
         }

@@ -1,23 +1,17 @@
 // The command filter: second order, critically damped, with the value and its rate held within limits.
 ghost use Rattle.std.specs.Prelude.{◌≡◌};
-ghost use Rattle.std.specs.Float.Ieee.{is_nan};
 ghost use Rattle.relay_adrc.specs.Filter.{clamp_sym, filter_new, filter_step, filter_reset, filter3_new, filter3_step, filter3_reset};
 
-use crate::axis::{mend_dt, positive_or};
+use crate::axis::mend_dt;
 use relay_math::{BodyRate, Vec3};
 
-fn is_nan(x: f32) -> bool
-    ensures { result ≡ is_nan x }
-{
-    x != x
-}
-
 // x within -m to m. A limit of +infinity passes x; a NaN or negative limit, and a non-finite x, give 0 (the Rust's comment says the bound).
+#[tactic(auto, unfolding(crate::specs::Filter::clamp_sym))]
 pub fn clamp_sym(x: f32, m: f32) -> f32
     ensures { result ≡ clamp_sym x m }
 {
     let x = relay_math::finite_or(x, 0.0);
-    if is_nan(m) || m < 0.0 {
+    if m.is_nan() || m < 0.0 {
         return 0.0;
     }
     if x > m {
@@ -51,7 +45,7 @@ impl CommandFilter {
         ensures { result ≡ filter_new omega_n max_mag max_rate }
     {
         CommandFilter {
-            omega_n: positive_or(omega_n, 1.0),
+            omega_n: relay_math::above_or(0.0, omega_n, 1.0),
             max_mag,
             max_rate,
             y: 0.0,
@@ -60,6 +54,7 @@ impl CommandFilter {
     }
 
     // One step, with the value and the rate held within their limits.
+    #[tactic(auto, unfolding(crate::specs::Filter::filter_step))]
     pub fn step(self, u: f32, dt: f32) -> Stepped
         ensures { result ≡ filter_step self u dt }
     {
@@ -73,13 +68,7 @@ impl CommandFilter {
         let y_next = y0 + dt * yd;
         let y = clamp_sym(y_next, self.max_mag);
         Stepped {
-            filter: CommandFilter {
-                omega_n: self.omega_n,
-                max_mag: self.max_mag,
-                max_rate: self.max_rate,
-                y,
-                yd,
-            },
+            filter: CommandFilter { y, yd, ..self },
             y,
         }
     }
@@ -100,11 +89,9 @@ impl CommandFilter {
         ensures { result ≡ filter_reset self }
     {
         CommandFilter {
-            omega_n: self.omega_n,
-            max_mag: self.max_mag,
-            max_rate: self.max_rate,
             y: 0.0,
             yd: 0.0,
+            ..self
         }
     }
 }
@@ -137,6 +124,7 @@ impl CommandFilter3 {
     }
 
     // A desired body rate, shaped axis by axis.
+    #[tactic(auto, unfolding(crate::specs::Filter::filter3_step))]
     pub fn step(self, u: BodyRate, dt: f32) -> Stepped3
         ensures { result ≡ filter3_step self u dt }
     {
@@ -144,14 +132,11 @@ impl CommandFilter3 {
         let roll = self.roll.step(w.0, dt);
         let pitch = self.pitch.step(w.1, dt);
         let yaw = self.yaw.step(w.2, dt);
-        let fx = roll.filter;
-        let fy = pitch.filter;
-        let fz = yaw.filter;
         Stepped3 {
             filter: CommandFilter3 {
-                roll: fx,
-                pitch: fy,
-                yaw: fz,
+                roll: roll.filter,
+                pitch: pitch.filter,
+                yaw: yaw.filter,
             },
             y: BodyRate(Vec3(roll.y, pitch.y, yaw.y)),
         }

@@ -51,8 +51,8 @@ impl AdrcGains {
         ensures { result ≡ well_separated self min_ratio }
     {
         relay_math::is_finite(self.omega_o)
-            && (relay_math::finite_above(0.0, self.omega_c)
-                && self.omega_o >= min_ratio * self.omega_c)
+            && relay_math::finite_above(0.0, self.omega_c)
+            && self.omega_o >= min_ratio * self.omega_c
     }
 
     // The upper half of the observer's stability bound at a step of dt; the Rust has no test from below, so a negative omega_o passes.
@@ -60,6 +60,7 @@ impl AdrcGains {
         ensures { result ≡ eso_dt_stable self dt margin }
     {
         relay_math::is_finite(self.omega_o)
-            && (relay_math::finite_above(0.0, dt) && self.omega_o * dt < 2.0 * margin)
+            && relay_math::finite_above(0.0, dt)
+            && self.omega_o * dt < 2.0 * margin
     }
 }

@@ -43,6 +43,7 @@ impl AdrcRate {
         )
     }
 
+    #[tactic(auto, unfolding(crate::specs::Rate::rate_tick))]
     pub fn tick(self, omega_meas: BodyRate, omega_d: BodyRate, dt: f32) -> RateTick
         ensures { result ≡ rate_tick self omega_meas omega_d dt }
     {
@@ -51,14 +52,11 @@ impl AdrcRate {
         let roll = self.roll.tick(m.0, d.0, dt);
         let pitch = self.pitch.tick(m.1, d.1, dt);
         let yaw = self.yaw.tick(m.2, d.2, dt);
-        let ax = roll.axis;
-        let ay = pitch.axis;
-        let az = yaw.axis;
         RateTick {
             rate: AdrcRate {
-                roll: ax,
-                pitch: ay,
-                yaw: az,
+                roll: roll.axis,
+                pitch: pitch.axis,
+                yaw: yaw.axis,
             },
             torque: Torque(Vec3(roll.u, pitch.u, yaw.u)),
         }

@@ -7,7 +7,9 @@ use Rattle.relay_math.proofs.fabsf
 use Rattle.relay_math.proofs.is_finite
 use Rattle.relay_math.proofs.finite_or
 use Rattle.relay_math.proofs.finite_above
+use Rattle.relay_math.proofs.above_or
 use Rattle.relay_math.proofs.clamp
+use Rattle.relay_math.proofs.clamp_or
 use Rattle.relay_math.proofs.sqrt
 
 pub sincos_once : OneAnswer promised.angles.sincos.ended angles.sincos.Reads.Post
@@ -31,8 +33,14 @@ finite_or_once κs a x y v w p q = (no_second p q, refl)
 pub finite_above_once : OneAnswer promised.finite_above.ended finite_above.Reads.Post
 finite_above_once κs a x y v w p q = (no_second p q, refl)
 
+pub above_or_once : OneAnswer promised.above_or.ended above_or.Reads.Post
+above_or_once κs a x y v w p q = (no_second p q, refl)
+
 pub clamp_once : OneAnswer promised.clamp.ended clamp.Reads.Post
 clamp_once κs a x y v w p q = (no_second p q, refl)
+
+pub clamp_or_once : OneAnswer promised.clamp_or.ended clamp_or.Reads.Post
+clamp_or_once κs a x y v w p q = (no_second p q, refl)
 
 pub sqrtf_once : OneAnswer promised.sqrt.sqrtf.ended sqrt.sqrtf.Reads.Post
 sqrtf_once κs a x y v w p q = (no_second p.1 q.1, refl)

@@ -64,11 +64,19 @@ finite_or x d = cond (is_finite x) x d
 abbrev pub finite_above : Float → Float → Bool
 finite_above floor x = is_finite x && lt floor x
 
+-- x where it is finite and above floor, else d
+abbrev pub above_or : Float → Float → Float → Float
+above_or floor x d = cond (finite_above floor x) x d
+
 -- Rust's `x.clamp(lo, hi)`: two comparisons in sequence
 abbrev pub clamp : Float → Float → Float → Float
 clamp x lo hi =
     let y = cond (lt x lo) lo x in
     cond (lt hi y) hi y
+
+-- x held within lo to hi, or d where it is not finite
+abbrev pub clamp_or : Float → Float → Float → Float → Float
+clamp_or x lo hi d = cond (is_finite x) (clamp x lo hi) d
 
 -- lo ≤ x ≤ hi: false where one of them is a NaN
 abbrev pub Within : Float → Float → Float → Type 0

@@ -2,7 +2,7 @@
 ghost use Rattle.std.specs.Prelude.{◌≡◌, ◌^◌, ◌<◌, ◌≤◌, T, if◌then◌else◌};
 ghost use Rattle.std.specs.Float.Ieee.{le};
 ghost use Rattle.relay_math.specs.F32.{fabsf};
-ghost use Rattle.relay_math.specs.Exact.{gap, Limit, IsSine, IsCosine};
+ghost use Rattle.relay_math.specs.Exact.{Limit, IsSine, IsCosine};
 ghost use Rattle.relay_math.specs.Steps.{part, less_part, poly_of, sin_poly, cos_poly, to_float, signed, reduce_of, turned, fixed, large, sincos, sinf, cosf, Tiny, Most};
 
 // Sine and cosine are served up to this size, and give +0.0 beyond it.
@@ -15,7 +15,7 @@ const TINY: f32 = 0.000244140625;
 const P: u64 = 0x1921FB54442D1;
 
 // 1 in units of 2^-32, and in units of 2^-48.
-const ONE: u64 = 4294967296;
+pub(crate) const ONE: u64 = 4294967296;
 
 const WHOLE: u64 = 281474976710656;
 
@@ -54,8 +54,8 @@ struct Reduced {
 
 // The product of two fractions in units of 2^-32, cut.
 pub(crate) fn part_of(z: u64, t: u64) -> u64
-    requires fact_1 { z < 2 ^ 32 }
-    requires fact_2 { t ≤ 2 ^ 32 }
+    requires z_small { z < 2 ^ 32 }
+    requires t_small { t ≤ 2 ^ 32 }
     ensures is { result ≡ part z t }
     ensures small { result < 2 ^ 32 }
     ensures least { result ≤ t }
@@ -65,8 +65,8 @@ pub(crate) fn part_of(z: u64, t: u64) -> u64
 
 // r less the fraction q of it, q in units of 2^-32.
 fn less_part(r: u64, q: u64) -> u64
-    requires fact_1 { r ≤ 2 ^ 48 }
-    requires fact_2 { q < 2 ^ 32 }
+    requires r_small { r ≤ 2 ^ 48 }
+    requires q_small { q < 2 ^ 32 }
     ensures is { result ≡ less_part r q }
     ensures small { result ≤ r }
 {
@@ -75,9 +75,9 @@ fn less_part(r: u64, q: u64) -> u64
 
 // r (1 - z (k0 - z (k1 - z (k2 - z k3)))).
 fn poly_of(r: u64, z: u64, k0: u64, k1: u64, k2: u64, k3: u64) -> u64
-    requires fact_1 { r ≤ 2 ^ 48 }
-    requires fact_2 { z < 2 ^ 32 }
-    requires fact_3 { (k0 ≤ 2 ^ 32) × (k1 ≤ k0) × (k2 ≤ k1) × (k3 ≤ k2) }
+    requires r_small { r ≤ 2 ^ 48 }
+    requires z_small { z < 2 ^ 32 }
+    requires falling { (k0 ≤ 2 ^ 32) × (k1 ≤ k0) × (k2 ≤ k1) × (k3 ≤ k2) }
     ensures is { result ≡ poly_of r z k0 k1 k2 k3 }
     ensures small { result ≤ 2 ^ 48 }
 {
@@ -96,8 +96,8 @@ fn pick_of(b: bool, x: u64, y: u64) -> u64
 
 // The sine of r where `sine` says so, else the cosine: one polynomial, by its coefficients.
 fn either_poly(sine: bool, r: u64, z: u64) -> u64
-    requires fact_1 { r < 2 ^ 48 }
-    requires fact_2 { z < 2 ^ 32 }
+    requires r_small { r < 2 ^ 48 }
+    requires z_small { z < 2 ^ 32 }
     ensures is { result ≡ (if sine then sin_poly r z else cos_poly z) }
     ensures small { result ≤ 2 ^ 48 }
 {
@@ -111,24 +111,19 @@ fn either_poly(sine: bool, r: u64, z: u64) -> u64
     )
 }
 
-fn gap_of(x: u64, y: u64) -> u64
-    ensures { result ≡ gap x y }
-{
-    if x < y { y - x } else { x - y }
-}
-
 // A size of at most 2^62 in units of 2^-48, reduced. The remainder by 2^63 changes nothing: it tells the compiler that the sum is small, which spares the division a correction.
+#[tactic(auto, unfolding(crate::specs::Steps::reduce_of, crate::specs::Steps::cut_square))]
 fn reduce(x: u64) -> Reduced
     requires { x < 2 ^ 62 }
     ensures is { result ≡ reduce_of x }
     ensures small { (result.n < 4) × (result.r < 2 ^ 48) × (result.z < 2 ^ 32) }
 {
     let n = (x + P / 2) % 9223372036854775808 / P;
-    let r = gap_of(x, n * P);
+    let r = x.abs_diff(n * P);
     let h = r / 65536;
     Reduced {
         n: n % 4,
-        r: r,
+        r,
         z: part_of(h, h),
         back: x < n * P,
     }
@@ -146,8 +141,8 @@ fn to_float(s: bool, v: u64) -> f32
 
 // The size of x, from 2^-12 to 2^13, in units of 2^-48.
 fn fixed_of(x: f32) -> u64
-    requires fact_1 { T (le Tiny (fabsf x)) }
-    requires fact_2 { T (le (fabsf x) Most) }
+    requires from_tiny { T (le Tiny (fabsf x)) }
+    requires to_most { T (le (fabsf x) Most) }
     ensures is { result ≡ fixed x }
     ensures small { result < 2 ^ 62 }
 {
@@ -169,9 +164,10 @@ fn served(a: f32) -> bool
 }
 
 // By n modulo 4: sn, cs, -sn or -cs; sn has another sign if `back`, and all of it if s.
+#[tactic(auto, unfolding(crate::specs::Steps::turned))]
 fn turned_of(s: bool, n: u64, back: bool, sn: u64, cs: u64) -> f32
-    requires fact_1 { sn ≤ 2 ^ 48 }
-    requires fact_2 { cs ≤ 2 ^ 48 }
+    requires sn_small { sn ≤ 2 ^ 48 }
+    requires cs_small { cs ≤ 2 ^ 48 }
     ensures { result ≡ turned s n back (to_float sn) (to_float cs) }
 {
     let even = n % 2 == 0;
@@ -179,9 +175,10 @@ fn turned_of(s: bool, n: u64, back: bool, sn: u64, cs: u64) -> f32
 }
 
 // Both, from 2^-12 up to 2^13.
+#[tactic(auto, unfolding(crate::specs::Steps::large))]
 fn large_of(s: bool, x: f32) -> SineCosine
-    requires fact_1 { T (le Tiny (fabsf x)) }
-    requires fact_2 { T (le (fabsf x) Most) }
+    requires from_tiny { T (le Tiny (fabsf x)) }
+    requires to_most { T (le (fabsf x) Most) }
     ensures { result ≡ large s x }
 {
     let d = reduce(fixed_of(x));

@@ -3,7 +3,7 @@
 #![tactic(auto)]
 
 ghost use Rattle.std.specs.Prelude.{◌≡◌};
-ghost use Rattle.relay_math.specs.F32.{is_finite, finite_or, finite_above, clamp, fabsf};
+ghost use Rattle.relay_math.specs.F32.{is_finite, finite_or, finite_above, above_or, clamp, clamp_or, fabsf};
 
 mod angles; // angles.rt: sine and cosine
 mod reciprocal; // reciprocal.rt: a table for the root's first guess
@@ -35,11 +35,11 @@ pub fn fabsf(x: f32) -> f32
     if x > 0.0 { x } else { 0.0 - x }
 }
 
-// Rust's `x.is_finite()`: x less itself is a zero, and a NaN where x is an infinity or a NaN.
+// Neither an infinity nor a NaN.
 pub fn is_finite(x: f32) -> bool
     ensures { result ≡ is_finite x }
 {
-    x - x == 0.0
+    x.is_finite()
 }
 
 // x where it is finite, else d.
@@ -56,10 +56,24 @@ pub fn finite_above(floor: f32, x: f32) -> bool
     if is_finite(x) { x > floor } else { false }
 }
 
+// x where it is finite and above floor, else d.
+pub fn above_or(floor: f32, x: f32, d: f32) -> f32
+    ensures { result ≡ above_or floor x d }
+{
+    if finite_above(floor, x) { x } else { d }
+}
+
 // Rust's `x.clamp(lo, hi)`: two comparisons, one after the other, so a negative zero and a NaN pass. Rust panics where lo is above hi or one is a NaN; here the comparisons alone decide.
 pub fn clamp(x: f32, lo: f32, hi: f32) -> f32
     ensures { result ≡ clamp x lo hi }
 {
     let x = if x < lo { lo } else { x };
     if x > hi { hi } else { x }
+}
+
+// x held within lo to hi, or d where it is not finite.
+pub fn clamp_or(x: f32, lo: f32, hi: f32, d: f32) -> f32
+    ensures { result ≡ clamp_or x lo hi d }
+{
+    if is_finite(x) { clamp(x, lo, hi) } else { d }
 }

@@ -6,11 +6,8 @@ ghost use Rattle.std.specs.Float.Ieee.Positive.{positive};
 ghost use Rattle.relay_math.specs.Sqrt.{IsRoot, root_grains, sqrtf};
 ghost use Rattle.relay_math.specs.F32.{grains};
 
-use crate::angles::part_of;
-use crate::reciprocal::line;
-
-// 1 in units of 2^-32.
-const ONE: u64 = 4294967296;
+use crate::angles::{ONE, part_of};
+use crate::reciprocal::LINES;
 
 // 7 / 4 in those units.
 const SEVEN_QUARTERS: u64 = 7516192768;
@@ -24,14 +21,8 @@ const ROOT_UNITS: u64 = 64;
 // Half of it, so that the quotient is rounded.
 const HALF_ROOT_UNITS: u64 = 32;
 
-// The lines of the table.
-const LINES: u32 = 128;
-
 // 2^17: the last 17 digits of d say how far along its part of the table a number is, and the 7 above them which part that is.
 const ALONG: u32 = 131072;
-
-// The same beside a line's own numbers.
-const ALONG_U64: u64 = 131072;
 
 // 2^23: an f32's first digit, which its pattern leaves out, and the unit of the exponent's field.
 const FIRST: u32 = 8388608;
@@ -59,7 +50,7 @@ fn on_line(e: u64, f: u64) -> u64
     requires { f < 2 ^ 17 }
     ensures { result < 2 ^ 32 }
 {
-    (e / ONE + ONE - e % ONE * f / ALONG_U64) % ONE
+    (e / ONE + ONE - e % ONE * f / u64::from(ALONG)) % ONE
 }
 
 // A whole number near the root of n = t * 2^46, right for nearly all n whose digits d has. All that is promised is its range: `nearest_root` corrects it.
@@ -70,7 +61,10 @@ fn guess(n: u64, d: u32) -> u64
     // y = 1 / √t; √t = t y, and Newton's step from there: t y (3 - t y^2) / 2.
     // n / 2^16 is t / 4 in units of 2^-32, so s is t y / 4, and u is (3 - t y^2) / 4, taken from 1 more so that it is not below zero.
     // s u is √t / 8, which is 2^29 √t units, and √n is 2^23 √t.
-    let y = on_line(line(d / ALONG % LINES), (d % ALONG) as u64);
+    let y = on_line(
+        LINES[(d / ALONG) as usize % LINES.len()],
+        u64::from(d % ALONG),
+    );
     let s = part_of(n / QUARTER_UNITS, y);
     let u = (SEVEN_QUARTERS - part_of(s, y)) % ONE;
     (part_of(s, u) + HALF_ROOT_UNITS) / ROOT_UNITS
@@ -151,8 +145,10 @@ pub fn sqrtf(x: f32) -> f32
         } else {
             x
         }
+    } else if x == 0.0 {
+        x
     } else {
-        if x == 0.0 { x } else { 0.0 / 0.0 }
+        f32::NAN
     }
 }
 

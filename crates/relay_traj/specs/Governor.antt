@@ -2,7 +2,7 @@
 use Rattle.std.specs.Prelude.{Bool, not, ◌&&◌, ◌||◌, cond, List, [], ◌∷◌, T, Float}
 use Rattle.std.specs.Float.{binary32}
 use Rattle.std.specs.Float.Ieee.{fits, lt, le}
-use Rattle.relay_math.specs.F32.{◌⊕◌, ◌⊖◌, ◌⊗◌, ◌⊘◌, 0·0, 1·0, is_finite, finite_or, finite_above}
+use Rattle.relay_math.specs.F32.{◌⊕◌, ◌⊖◌, ◌⊗◌, ◌⊘◌, 0·0, 1·0, is_finite, finite_or, above_or}
 use Rattle.relay_traj.specs.declared.governor.RefGovernor.{RefGovernor}
 use Rattle.relay_traj.specs.declared.governor.Advanced.{Advanced}
 
@@ -42,7 +42,7 @@ unfolding gate_factor
 gate g err = gate_factor err g.err_lo g.err_hi g.g_min
 
 abbrev pub moved_by : Float → Float
-moved_by dt = cond (finite_above 0·0 dt) dt 0·0
+moved_by dt = above_or 0·0 dt 0·0
 
 -- the same governor at another time
 abbrev pub at_time : RefGovernor → Float → RefGovernor

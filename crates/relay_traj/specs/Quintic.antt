@@ -1,7 +1,7 @@
 -- One axis of a trajectory, as 001 has it. Definitions only.
-use Rattle.std.specs.Prelude.{cond, T, Float}
+use Rattle.std.specs.Prelude.{T, Float}
 use Rattle.std.specs.Float.Ieee.{le, neg}
-use Rattle.relay_math.specs.F32.{◌⊕◌, ◌⊖◌, ◌⊗◌, ◌⊘◌, f32, 0·0, 1e-3, 0·5, 1·0, 2·0, 3·0, ∞, is_finite, finite_or, finite_above, clamp, fabsf}
+use Rattle.relay_math.specs.F32.{◌⊕◌, ◌⊖◌, ◌⊗◌, ◌⊘◌, f32, 0·0, 1e-3, 0·5, 1·0, 2·0, 3·0, ∞, is_finite, finite_or, above_or, clamp_or, fabsf}
 use Rattle.relay_traj.specs.declared.quintic.Quintic.{Quintic}
 use Rattle.relay_traj.specs.declared.quintic.Sample.{Sample}
 use Rattle.relay_traj.specs.declared.quintic.Mended.{Mended}
@@ -43,7 +43,7 @@ abbrev pub 720·0 : Float
 -- ---- the mending of a leg's numbers on one axis
 
 abbrev pub mended_duration : Float → Float
-mended_duration t = cond (finite_above 1e-3 t) t 1e-3
+mended_duration t = above_or 1e-3 t 1e-3
 
 -- a duration as every leg has it: finite, and 1e-3 at least
 abbrev pub Lasts : Float → Type 0
@@ -82,7 +82,7 @@ quintic p0 v0 a0 pf vf af t = of_mended (mend_ends p0 v0 a0 pf vf af t)
 -- ---- Quintic::eval
 
 unfoldable pub time_on : Float → Float → Float
-time_on t end = cond (is_finite t) (clamp t 0·0 end) 0·0
+time_on t end = clamp_or t 0·0 end 0·0
 
 -- the four Horner schemes at a time t on the segment
 unfoldable pub sample_at : Quintic → Float → Sample

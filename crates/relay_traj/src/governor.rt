@@ -1,6 +1,6 @@
 // The reference governor (001): a clock for the trajectory that runs slower as the craft falls behind.
 ghost use Rattle.std.specs.Prelude.{◌≡◌};
-ghost use Rattle.relay_traj.specs.Governor.{low_end, clamp_to, ramp, no_band, gate_factor, governor, gate, moved_by, advance, reset};
+ghost use Rattle.relay_traj.specs.Governor.{low_end, clamp_to, ramp, no_band, gate_factor, governor, gate, advance, reset};
 
 // s is the governed time in seconds; the gate falls from 1 to g_min as the tracking error goes from err_lo to err_hi.
 #[repr(C)]
@@ -28,6 +28,7 @@ fn low_end(lo: f32) -> f32
 }
 
 // x put into lo..1, a non-finite one as lo.
+#[tactic(auto, unfolding(crate::specs::Governor::clamp_to))]
 pub fn clamp_to(x: f32, lo: f32) -> f32
     ensures { result ≡ clamp_to x lo }
 {
@@ -60,10 +61,13 @@ fn no_band(err: f32, lo: f32, hi: f32) -> bool
     ensures { result ≡ no_band err lo hi }
 {
     !relay_math::is_finite(err)
-        || (!relay_math::is_finite(lo) || (!relay_math::is_finite(hi) || hi <= lo))
+        || !relay_math::is_finite(lo)
+        || !relay_math::is_finite(hi)
+        || hi <= lo
 }
 
 // With no band the gate is g_min: the clock slows down.
+#[tactic(auto, unfolding(crate::specs::Governor::gate_factor))]
 pub fn gate_factor(err: f32, lo: f32, hi: f32, g_min: f32) -> f32
     ensures { result ≡ gate_factor err lo hi g_min }
 {
@@ -76,49 +80,35 @@ pub fn gate_factor(err: f32, lo: f32, hi: f32, g_min: f32) -> f32
     }
 }
 
-// A dt that is not finite and above 0 moves nothing.
-fn moved_by(dt: f32) -> f32
-    ensures { result ≡ moved_by dt }
-{
-    if relay_math::finite_above(0.0, dt) {
-        dt
-    } else {
-        0.0
-    }
-}
-
 impl RefGovernor {
     pub fn new(err_lo: f32, err_hi: f32, g_min: f32) -> RefGovernor
         ensures { result ≡ governor err_lo err_hi g_min }
     {
         RefGovernor {
             s: 0.0,
-            err_lo: err_lo,
-            err_hi: err_hi,
-            g_min: g_min,
+            err_lo,
+            err_hi,
+            g_min,
         }
     }
 
     // Which part of dt the clock moves by, 0 to 1.
+    #[tactic(auto, unfolding(crate::specs::Governor::gate))]
     pub fn gate(self, track_err: f32) -> f32
         ensures { result ≡ gate self track_err }
     {
         gate_factor(track_err, self.err_lo, self.err_hi, self.g_min)
     }
 
-    // The clock after dt, moved by the part that the gate lets through.
+    // The clock after dt, moved by the part that the gate lets through. A dt that is not finite and above 0 moves nothing.
+    #[tactic(auto, unfolding(crate::specs::Governor::advance))]
     pub fn advance(self, track_err: f32, dt: f32) -> Advanced
         ensures { result ≡ advance self track_err dt }
     {
-        let dt = moved_by(dt);
+        let dt = relay_math::above_or(0.0, dt, 0.0);
         let s = self.s + self.gate(track_err) * dt;
         Advanced {
-            governor: RefGovernor {
-                s: s,
-                err_lo: self.err_lo,
-                err_hi: self.err_hi,
-                g_min: self.g_min,
-            },
+            governor: RefGovernor { s, ..self },
             time: s,
         }
     }
@@ -132,11 +122,6 @@ impl RefGovernor {
     pub fn reset(self) -> RefGovernor
         ensures { result ≡ reset self }
     {
-        RefGovernor {
-            s: 0.0,
-            err_lo: self.err_lo,
-            err_hi: self.err_hi,
-            g_min: self.g_min,
-        }
+        RefGovernor { s: 0.0, ..self }
     }
 }

@@ -59,48 +59,37 @@ pub fn fin(x: f32, fallback: f32) -> f32
 pub fn mended_duration(t: f32) -> f32
     ensures { result ≡ mended_duration t }
 {
-    if relay_math::finite_above(SHORTEST, t) {
-        t
-    } else {
-        SHORTEST
-    }
+    relay_math::above_or(SHORTEST, t, SHORTEST)
 }
 
 // A bad end position becomes the start, as that is mended; other bad numbers become 0.
+#[tactic(auto, unfolding(crate::specs::Quintic::mend_ends))]
 fn mend(p0: f32, v0: f32, a0: f32, pf: f32, vf: f32, af: f32, t: f32) -> Mended
     ensures { result ≡ mend_ends p0 v0 a0 pf vf af t }
 {
-    let t = mended_duration(t);
     let p0 = fin(p0, 0.0);
-    let v0 = fin(v0, 0.0);
-    let a0 = fin(a0, 0.0);
-    let pf = fin(pf, p0);
-    let vf = fin(vf, 0.0);
-    let af = fin(af, 0.0);
     Mended {
-        p0: p0,
-        v0: v0,
-        a0: a0,
-        pf: pf,
-        vf: vf,
-        af: af,
-        t: t,
+        p0,
+        v0: fin(v0, 0.0),
+        a0: fin(a0, 0.0),
+        pf: fin(pf, p0),
+        vf: fin(vf, 0.0),
+        af: fin(af, 0.0),
+        t: mended_duration(t),
     }
 }
 
 // Where on a segment of t_end seconds the time t is: before it its start, past it its end, and its start for a time that is not finite.
+#[tactic(auto, unfolding(crate::specs::Quintic::time_on))]
 fn time_on(t: f32, t_end: f32) -> f32
     ensures { result ≡ time_on t t_end }
 {
-    if relay_math::is_finite(t) {
-        relay_math::clamp(t, 0.0, t_end)
-    } else {
-        0.0
-    }
+    relay_math::clamp_or(t, 0.0, t_end, 0.0)
 }
 
 impl Quintic {
     // Between two ends whose bad numbers are mended first.
+    #[tactic(auto, unfolding(crate::specs::Quintic::quintic))]
     pub fn new(p0: f32, v0: f32, a0: f32, pf: f32, vf: f32, af: f32, t: f32) -> Quintic
         ensures { result ≡ quintic p0 v0 a0 pf vf af t }
     {
@@ -108,17 +97,23 @@ impl Quintic {
     }
 
     // The closed form of Mueller, Hehn and D'Andrea, both ends given. A route tick calls it on ends that it mended as it read them.
+    #[tactic(auto, unfolding(crate::specs::Quintic::of_mended))]
     pub fn of_mended(m: Mended) -> Quintic
         ensures { result ≡ of_mended m }
     {
-        let p0 = m.p0;
-        let v0 = m.v0;
-        let a0 = m.a0;
-        let t = m.t;
+        let Mended {
+            p0,
+            v0,
+            a0,
+            pf,
+            vf,
+            af,
+            t,
+        } = m;
         // What is left to do against coasting on at the first acceleration.
-        let dp = m.pf - (p0 + v0 * t + 0.5 * a0 * t * t);
-        let dv = m.vf - (v0 + a0 * t);
-        let da = m.af - a0;
+        let dp = pf - (p0 + v0 * t + 0.5 * a0 * t * t);
+        let dv = vf - (v0 + a0 * t);
+        let da = af - a0;
         let t2 = t * t;
         let t3 = t * t * t;
         let t4 = t * t * t * t;
@@ -127,13 +122,10 @@ impl Quintic {
         let alpha = inv * (720.0 * dp - 360.0 * t * dv + 60.0 * t2 * da);
         let beta = inv * (-360.0 * t * dp + 168.0 * t2 * dv - 24.0 * t3 * da);
         let gamma = inv * (60.0 * t2 * dp - 24.0 * t3 * dv + 3.0 * t4 * da);
-        let c5 = fin(alpha / 120.0, 0.0);
-        let c4 = fin(beta / 24.0, 0.0);
-        let c3 = fin(gamma / 6.0, 0.0);
         Quintic {
-            c5: c5,
-            c4: c4,
-            c3: c3,
+            c5: fin(alpha / 120.0, 0.0),
+            c4: fin(beta / 24.0, 0.0),
+            c3: fin(gamma / 6.0, 0.0),
             c2: a0 / 2.0,
             c1: v0,
             c0: p0,
@@ -148,26 +140,25 @@ impl Quintic {
     }
 
     // At a time that is held within 0 to t_end.
+    #[tactic(auto, unfolding(crate::specs::Quintic::eval, crate::specs::Quintic::sample_at))]
     pub fn eval(self, t: f32) -> Sample
         ensures { result ≡ eval self t }
     {
-        let t = time_on(t, self.t_end);
-        let c5 = self.c5;
-        let c4 = self.c4;
-        let c3 = self.c3;
-        let c2 = self.c2;
-        let c1 = self.c1;
-        let c0 = self.c0;
+        let Quintic {
+            c5,
+            c4,
+            c3,
+            c2,
+            c1,
+            c0,
+            t_end,
+        } = self;
+        let t = time_on(t, t_end);
         let p = ((((c5 * t + c4) * t + c3) * t + c2) * t + c1) * t + c0;
         let v = (((5.0 * c5 * t + 4.0 * c4) * t + 3.0 * c3) * t + 2.0 * c2) * t + c1;
         let a = ((20.0 * c5 * t + 12.0 * c4) * t + 6.0 * c3) * t + 2.0 * c2;
         let j = (60.0 * c5 * t + 24.0 * c4) * t + 6.0 * c3;
-        Sample {
-            p: p,
-            v: v,
-            a: a,
-            j: j,
-        }
+        Sample { p, v, a, j }
     }
 
     pub fn jerk_coeffs(self) -> JerkCoeffs
@@ -181,14 +172,15 @@ impl Quintic {
     }
 
     // The Rust's bound on the size of the jerk over the segment, +infinity where it is not finite. That it is a bound isn't claimed here.
+    #[tactic(auto, unfolding(crate::specs::Quintic::peak_abs_jerk))]
     pub fn peak_abs_jerk(self) -> f32
         ensures { result ≡ peak_abs_jerk self }
     {
-        let k = self.jerk_coeffs();
+        let JerkCoeffs { jc2, jc1, jc0 } = self.jerk_coeffs();
         let t = self.t_end;
-        let bound = relay_math::fabsf(k.jc2) * t * t
-            + relay_math::fabsf(k.jc1) * t
-            + relay_math::fabsf(k.jc0);
-        fin(bound, f32::from_bits(0x7f80_0000))
+        let bound = relay_math::fabsf(jc2) * t * t
+            + relay_math::fabsf(jc1) * t
+            + relay_math::fabsf(jc0);
+        fin(bound, f32::INFINITY)
     }
 }

@@ -20,15 +20,18 @@ pub struct Sample3 {
 }
 
 impl Segment3 {
+    #[tactic(auto, unfolding(crate::specs::Segment::segment))]
     pub fn new(p0: Vec3, v0: Vec3, a0: Vec3, pf: Vec3, vf: Vec3, af: Vec3, t: f32) -> Segment3
         ensures { result ≡ segment p0 v0 a0 pf vf af t }
     {
-        let x = Quintic::new(p0.0, v0.0, a0.0, pf.0, vf.0, af.0, t);
-        let y = Quintic::new(p0.1, v0.1, a0.1, pf.1, vf.1, af.1, t);
-        let z = Quintic::new(p0.2, v0.2, a0.2, pf.2, vf.2, af.2, t);
-        Segment3(x, y, z)
+        Segment3(
+            Quintic::new(p0.0, v0.0, a0.0, pf.0, vf.0, af.0, t),
+            Quintic::new(p0.1, v0.1, a0.1, pf.1, vf.1, af.1, t),
+            Quintic::new(p0.2, v0.2, a0.2, pf.2, vf.2, af.2, t),
+        )
     }
 
+    #[tactic(auto, unfolding(crate::specs::Segment::rest_to_rest))]
     pub fn rest_to_rest(from: Vec3, to: Vec3, t: f32) -> Segment3
         ensures { result ≡ rest_to_rest from to t }
     {
@@ -40,19 +43,16 @@ impl Segment3 {
     pub fn duration(self) -> f32
         ensures { result ≡ duration self }
     {
-        let x = self.0;
-        x.duration()
+        self.0.duration()
     }
 
+    #[tactic(auto, unfolding(crate::specs::Segment::eval3))]
     pub fn eval(self, t: f32) -> Sample3
         ensures { result ≡ eval3 self t }
     {
-        let q0 = self.0;
-        let q1 = self.1;
-        let q2 = self.2;
-        let x = q0.eval(t);
-        let y = q1.eval(t);
-        let z = q2.eval(t);
+        let x = self.0.eval(t);
+        let y = self.1.eval(t);
+        let z = self.2.eval(t);
         Sample3 {
             pos: Vec3(x.p, y.p, z.p),
             vel: Vec3(x.v, y.v, z.v),
@@ -61,12 +61,14 @@ impl Segment3 {
         }
     }
 
+    #[tactic(auto, unfolding(crate::specs::Segment::peak_abs_jerk3))]
     pub fn peak_abs_jerk(self) -> Vec3
         ensures { result ≡ peak_abs_jerk3 self }
     {
-        let q0 = self.0;
-        let q1 = self.1;
-        let q2 = self.2;
-        Vec3(q0.peak_abs_jerk(), q1.peak_abs_jerk(), q2.peak_abs_jerk())
+        Vec3(
+            self.0.peak_abs_jerk(),
+            self.1.peak_abs_jerk(),
+            self.2.peak_abs_jerk(),
+        )
     }
 }

@@ -7,7 +7,7 @@ use Rattle.relay_math.proofs.angles.fixed_of.Goals as goal
 use Rattle.relay_math.proofs.angles.fixed_of.Goals.{Start}
 
 parts : (c : Start) → Parts c.args.x
-parts c = known c.args.x (held c.well_formed.0.1) c.requires.fact_1 c.requires.fact_2
+parts c = known c.args.x (held c.well_formed.0.1) c.requires.from_tiny c.requires.to_most
 
 pub float_to_bits-b : goal.float_to_bits-b
 float_to_bits-b c = (parts c).number

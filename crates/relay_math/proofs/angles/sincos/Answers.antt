@@ -5,7 +5,7 @@ use Rattle.relay_math.proofs.angles.sincos.Goals as goal
 
 pub large_of-requires : goal.large_of-requires
 unfolding of_bits
-large_of-requires c = let d = c.before.before in let p = sized _ _ _ (held d.well_formed.0.1) d.signed_of-a.ensures d.served.ensures c.if-served.true c.if-a.true in record { fact_1 = p.0; fact_2 = p.1 }
+large_of-requires c = let d = c.before.before in let p = sized _ _ _ (held d.well_formed.0.1) d.signed_of-a.ensures d.served.ensures c.if-served.true c.if-a.true in record { from_tiny = p.0; to_most = p.1 }
 
 pub returns-then-a : goal.returns-then-a
 unfolding of_bits

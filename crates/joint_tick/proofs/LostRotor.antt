@@ -1,12 +1,12 @@
 -- Request Six: a tick with a rotor lost. Assumes nothing.
+use Rattle.std.specs.Prelude.{Option, Some, None}
 use Rattle.laws.proofs.Prelude.{◌≡◌, refl, ap, ◌∙◌, Bool, true, false, cond, Float, of_bits}
 use Rattle.relay_math.specs.{F32.{0·0, is_finite}, declared.{BodyRate.BodyRate, Vec3.Vec3}}
 use Rattle.relay_adrc.specs.{declared.rate.AdrcRate.AdrcRate, Rate.{rate_tick, rate_set_delivered_fraction}}
-use Rattle.relay_geo.specs.{declared.{vectors.{Mat3.Mat3, Direction.Direction}, controller.GeoGains.GeoGains}, Vectors.sanitise3, Attitude.{quat_to_rotmat, thrust_axis_ned}}
+use Rattle.relay_geo.specs.{declared.{vectors.Mat3.Mat3, controller.GeoGains.GeoGains}, Vectors.sanitise3, Attitude.{quat_to_rotmat, thrust_axis_ned}}
 use Rattle.joint_tick.specs.declared.{profile.Profile.{Profile, TheVariants.{Whole, LostRotor}}, state.{State.State, TickInput.TickInput}, stages.{Reference.Reference, Guided.Guided}}
 use Rattle.joint_tick.specs.Tick.{cleaned, planner_of, fractions, prepare, rate_toward_axis, guide_lost_rotor, guide, follow, pick, guide_pick_follow, ticked, state_after}
 use Rattle.joint_tick.proofs.Shielding.{wanted_at, by_profile, tick_command}
-use Rattle.relay_geo.specs.declared.vectors.Direction.TheVariants as direction
 
 -- ---- the old rules are as they were: each part that goes by the profile is the routine that stood there (`guide Whole` is `guide_whole` as it is written)
 
@@ -25,10 +25,10 @@ headed i yaw yawRate =
     record { gyro = i.gyro; quat = i.quat; track_err = i.track_err; yaw = yaw; yaw_rate = yawRate; dt = i.dt; agile = i.agile; fraction = i.fraction }
 
 -- the third of either command
-third_of_two : (gains : GeoGains) (r : Mat3) (axis : Direction) → (sanitise3 (rate_toward_axis gains r axis).0).2 ≡ 0·0
+third_of_two : (gains : GeoGains) (r : Mat3) (axis : Option Vec3) → (sanitise3 (rate_toward_axis gains r axis).0).2 ≡ 0·0
 unfolding is_finite of_bits
-third_of_two gains r (direction.Axis b3) = refl
-third_of_two gains r direction.Refused = refl
+third_of_two gains r (Some b3) = refl
+third_of_two gains r None = refl
 
 module _ (source : Float → Reference) (s : State) (i : TickInput) (lost : s.fixed.profile ≡ LostRotor) where
   -- "yaw isn't read": two inputs that differ in yaw and yaw rate alone leave the same state and the same answer

@@ -1,8 +1,9 @@
 -- `guide_whole` builds R and R_d once, and takes the length of g - a once; ADRC's tick is taken in two halves, and follows the command as it was chosen: that
 -- is the Rust's own calls, bit for bit. Assumes nothing.
+use Rattle.std.specs.Prelude.{Option, Some, None}
 use Rattle.laws.proofs.Prelude.{◌≡◌, refl, ◌∙◌, cond, Float}
 use Rattle.relay_math.{specs.{F32.{0·0, is_finite, finite_or}, declared.{Vec3.Vec3, BodyRate.BodyRate}}, proofs.FiniteOr.{finite_or_keeps, or_zero_finite}}
-use Rattle.relay_geo.specs.declared.{vectors.{Mat3.Mat3, Quat.Quat, Direction.Direction}, attitude.Attitude.{Attitude, TheVariants.{Matrix, Refused}}, controller.GeoGains.GeoGains}
+use Rattle.relay_geo.specs.declared.{vectors.{Mat3.Mat3, Quat.Quat}, controller.GeoGains.GeoGains}
 use Rattle.relay_geo.specs.{declared.set.RecoverableSet.RecoverableSet, Vectors.sanitise3, Attitude.{quat_to_rotmat, thrust_axis_ned, thrust_attitude}, Inner.{thrust_of, attitude_on, feedforward_on}}
 use Rattle.relay_geo.{specs.{Controller.{rate_toward, desired_rate}, Set.margin, Shield.step}, proofs.Accepts.{shared_attitude, shared_feedforward}}
 use Rattle.relay_geo.proofs.Sanitised.{sanitise3_finite, sanitise3_keeps, sanitised_after}
@@ -11,7 +12,6 @@ use Rattle.joint_tick.specs.declared.stages.{Guided.Guided, Observed3.Observed3}
 use Rattle.joint_tick.specs.Tick.{cleaned, with_feedforward, rate_error, rate_sq, psi_of, margin_of, guide_whole, rate_toward_axis, psi_to_axis, tilt_rate_sq, margin_to_axis, guide_lost_rotor, shielded}
 use Rattle.joint_tick.specs.{Tick.{tick_third, follow, pick}, Inner.{observe_third, observe, act_third, follow_on, pick_on}}
 use Rattle.relay_adrc.{specs.{declared.{axis.{AdrcAxis.AdrcAxis, Observed.Observed}, rate.AdrcRate.AdrcRate}, Inner.axis_act}, proofs.Ticks.tick_in_halves}
-use Rattle.relay_geo.specs.declared.vectors.Direction.TheVariants as direction
 
 -- `desired_rate` cleans its acceleration, which is clean already: its R_d is the tick's
 pub one_attitude : (g : GeoGains) (q : Quat) (a : Vec3) (yaw : Float) → desired_rate g q (sanitise3 a) yaw ≡ rate_toward g (quat_to_rotmat q) (thrust_attitude (sanitise3 a) yaw)
@@ -19,10 +19,10 @@ unfolding desired_rate
 one_attitude g q a yaw = rw (sanitise3_keeps (sanitise3 a) (sanitise3_finite a))
 
 -- of a psi that is a NaN the margin is minus infinity
-pub one_margin : (set : RecoverableSet) (r : Mat3) (rd : Attitude) (wSq : Float) → margin set (psi_of r rd) wSq ≡ margin_of set r rd wSq
+pub one_margin : (set : RecoverableSet) (r : Mat3) (rd : Option Mat3) (wSq : Float) → margin set (psi_of r rd) wSq ≡ margin_of set r rd wSq
 unfolding margin is_finite
-one_margin set r (Matrix rd) wSq = refl
-one_margin set r Refused wSq = refl
+one_margin set r (Some rd) wSq = refl
+one_margin set r None wSq = refl
 
 pub guided_once : (gains : GeoGains) (set : RecoverableSet) (w : BodyRate) (wanted : Reference) (i : TickInput)
     → (let t = thrust_of (cleaned wanted).acc in
@@ -41,10 +41,10 @@ guided_once gains set w wanted i =
     (rw (one_attitude gains i.quat wanted.acc i.yaw, one_margin set (quat_to_rotmat i.quat) (thrust_attitude acc i.yaw)))
 
 -- with a rotor lost: the same of a thrust axis that is refused
-pub one_margin_to_axis : (set : RecoverableSet) (r : Mat3) (axis : Direction) (wSq : Float) → margin set (psi_to_axis r axis) wSq ≡ margin_to_axis set r axis wSq
+pub one_margin_to_axis : (set : RecoverableSet) (r : Mat3) (axis : Option Vec3) (wSq : Float) → margin set (psi_to_axis r axis) wSq ≡ margin_to_axis set r axis wSq
 unfolding margin is_finite
-one_margin_to_axis set r (direction.Axis b3) wSq = refl
-one_margin_to_axis set r direction.Refused wSq = refl
+one_margin_to_axis set r (Some b3) wSq = refl
+one_margin_to_axis set r None wSq = refl
 
 pub guided_lost_once : (gains : GeoGains) (set : RecoverableSet) (w : BodyRate) (wanted : Reference) (i : TickInput)
     → (let axis = thrust_axis_ned (sanitise3 wanted.acc) in

@@ -6,6 +6,12 @@ use Rattle.joint_tick.proofs.profile
 use Rattle.joint_tick.proofs.setup
 use Rattle.joint_tick.proofs.stages
 
+pub profile_to_word_once : OneAnswer promised.profile.U32FromProfile.from.ended profile.U32FromProfile.from.Reads.Post
+profile_to_word_once κs a x y v w p q = (no_second p q, refl)
+
+pub word_to_profile_once : OneAnswer promised.profile.ProfileTryFromU32.try_from.ended profile.ProfileTryFromU32.try_from.Reads.Post
+word_to_profile_once κs a x y v w p q = (no_second p q, refl)
+
 pub profile_word_once : OneAnswer promised.profile.profile_word.ended profile.profile_word.Reads.Post
 profile_word_once κs a x y v w p q = (no_second p q, refl)
 

@@ -1,31 +1,30 @@
 -- A tick with no desired attitude, by the old rules: in free fall, and at a heading that is no number, infinite or beyond the limit. Assumes nothing.
+use Rattle.std.specs.Prelude.{Option, None}
 use Rattle.laws.proofs.Prelude.{◌≡◌, refl, ◌∙◌, ap, Bool, true, false, not, cond, T, Float, nan, of_bits}
 use Rattle.relay_math.specs.{F32.{0·0, is_finite}, Exact.in_range, declared.{Vec3.Vec3, BodyRate.BodyRate}}
-use Rattle.relay_geo.specs.{declared.{attitude.{Attitude.TheVariants.Refused, Feedforward.Feedforward}, controller.GeoGains.GeoGains, set.RecoverableSet.RecoverableSet}, Vectors.{norm, sanitise3}}
+use Rattle.relay_geo.specs.{declared.{controller.GeoGains.GeoGains, set.RecoverableSet.RecoverableSet}, Vectors.{norm, sanitise3}}
 use Rattle.relay_geo.{specs.{Attitude.{thrust_force, thrust_axis_ned, thrust_attitude, too_weak, flatness_omega_ff}, Inner.{thrust_of, feedforward_on}, Set.minus_infinity}, proofs.Accepts.feedforward_shares}
 use Rattle.relay_geo.proofs.NoAttitude.{bad_heading_none}
 use Rattle.latch.specs.Latch.{latch}
 use Rattle.joint_tick.specs.declared.{profile.Profile.TheVariants.{Whole, LostRotor}, state.{State.State, TickInput.TickInput}, stages.{Reference.Reference, Guided.Guided}}
 use Rattle.joint_tick.specs.Tick.{cleaned, desired_r, planner_of, guide_whole, guide_lost_rotor, guide, guidance, ticked}
 use Rattle.joint_tick.proofs.{Once.one_attitude, Shielding.{filtered, wanted_at, by_profile, tick_latch, tick_margin, tick_psi, tick_fallback}}
-use Rattle.relay_geo.specs.declared.vectors.Direction.TheVariants as direction
-use Rattle.relay_geo.specs.declared.attitude.Feedforward.TheVariants as rate
 
 abbrev zeros : BodyRate
 zeros = record { 0 = (0·0, 0·0, 0·0) }
 
 -- the feedforward "takes an R_d and there is none"
-no_feedforward : (a j : Vec3) (yaw yawRate : Float) → thrust_attitude a yaw ≡ Refused → flatness_omega_ff a j yaw yawRate ≡ rate.Refused
+no_feedforward : (a j : Vec3) (yaw yawRate : Float) → thrust_attitude a yaw ≡ None → flatness_omega_ff a j yaw yawRate ≡ None
 unfolding feedforward_on thrust_of
 no_feedforward a j yaw yawRate e = rw (feedforward_shares a j yaw yawRate, e) (either (too_weak (norm (thrust_force a))))
   where
-    either : (b : Bool) → ◌≡◌ {A = Feedforward} (cond b rate.Refused rate.Refused) rate.Refused
+    either : (b : Bool) → ◌≡◌ {A = Option BodyRate} (cond b None None) None
     either true = refl
     either false = refl
 
 -- "If there is no R_d the margin is minus infinity and the psi word NaN." The fallback is then three +0.0.
 pub no_attitude : (gains : GeoGains) (set : RecoverableSet) (w : BodyRate) (wanted : Reference) (i : TickInput)
-    → desired_r wanted i ≡ Refused
+    → desired_r wanted i ≡ None
     → guide_whole gains set w wanted i ≡ record { fallback = zeros; psi = nan; margin = minus_infinity; planner = planner_of Whole i.agile }
 unfolding guide_whole
 no_attitude gains set w wanted i e =
@@ -58,7 +57,7 @@ module _ (source : Float → Reference) (s : State) (i : TickInput) where
       tick_latch source s i ∙ rw (ap (λ (x : Guided). x.margin) g) (unknown_engages s.fixed.enter s.fixed.exit s.moving.engaged) in
       record { margin = m; psi = tick_psi source s i ∙ ap (λ (x : Guided). x.psi) g; flag = f; command = tick_fallback source s i f ∙ rw (ap (λ (x : Guided). x.fallback) g, clean_zeros) }
 
-  pub no_attitude_tick : s.fixed.profile ≡ Whole → desired_r (wanted_at source s i) i ≡ Refused → Damped source s i
+  pub no_attitude_tick : s.fixed.profile ≡ Whole → desired_r (wanted_at source s i) i ≡ None → Damped source s i
   unfolding guide
   no_attitude_tick p e =
       damped (planner_of Whole i.agile)
@@ -74,6 +73,6 @@ module _ (source : Float → Reference) (s : State) (i : TickInput) where
   nan_heading_tick p e = bad_heading_tick p (rw e tt)
 
   -- With a rotor lost only a thrust axis that is refused does it.
-  pub no_axis_tick : s.fixed.profile ≡ LostRotor → thrust_axis_ned (cleaned (wanted_at source s i)).acc ≡ direction.Refused → Damped source s i
+  pub no_axis_tick : s.fixed.profile ≡ LostRotor → thrust_axis_ned (cleaned (wanted_at source s i)).acc ≡ None → Damped source s i
   unfolding guide guide_lost_rotor
   no_axis_tick p e = damped (planner_of LostRotor i.agile) (by_profile source s i p ∙ rw e)

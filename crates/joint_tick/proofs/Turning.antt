@@ -1,15 +1,15 @@
 -- Request Four, by the old rules: where nothing is commanded, the margin is document 01's, bit for bit. Assumes nothing.
+use Rattle.std.specs.Prelude.{Some, None}
 use Rattle.laws.proofs.Prelude.{◌≡◌, refl, ◌∙◌, ap, Bool, true, false, not, cond, ℕ, zero, suc, ◌*◌, ◌^◌, zero-mul, mul-one, add-zero, sub-zero, arith, le-ltb, lt-ltb, ℤ, pos, T, ltb, Float, nan, inf}
 use Rattle.laws.proofs.Prelude.{fin, binary32, fits, up, down, odd, units, round, neg, sum, add, sub, mul, eq}
 use lib.Ieee.{Bits.of_bits-fits, Fits.{cond-fits, neg-fits, add-fits, sub-fits}}
 use Rattle.relay_math.{specs.{F32.{◌⊖◌, ◌⊗◌, 0·0}, declared.{Vec3.Vec3, BodyRate.BodyRate}}, proofs.{Signs.{zero_is, size_pos}, Sums.{round_zero, round_own}}}
 use Rattle.relay_math.proofs.Zeros.{IsZero, none, is_zero, times, plus, minus}
 use Rattle.relay_adrc.specs.{declared.biquad.Biquad.Biquad, Biquad.{biquad_filter, gyro_filter}}
-use Rattle.relay_geo.specs.{declared.{vectors.Mat3.Mat3, attitude.Attitude.TheVariants.Matrix}, Vectors.{dot, transpose3, matmul3, Finite3}, Attitude.quat_to_rotmat}
+use Rattle.relay_geo.specs.{declared.vectors.Mat3.Mat3, Vectors.{dot, transpose3, matmul3, Finite3}, Attitude.quat_to_rotmat}
 use Rattle.joint_tick.specs.declared.{profile.Profile.TheVariants.Whole, state.{State.State, TickInput.TickInput}, stages.{Reference.Reference, Guided.Guided}}
 use Rattle.joint_tick.specs.Tick.{prepare, desired_r, feedforward, commanded, rate_sq, margin_of, guide_whole, guide, ticked}
 use Rattle.joint_tick.proofs.Shielding.{filtered, wanted_at, by_profile, tick_margin}
-use Rattle.relay_geo.specs.declared.attitude.Feedforward.TheVariants as rate
 
 -- ---- a zero of either sign, taken off an f32, leaves its square: only a -0.0 may become +0.0
 
@@ -91,12 +91,12 @@ module _ (source : Float → Reference) (s : State) (i : TickInput) (p : s.fixed
   margin_is = tick_margin source s i ∙ ap (λ (g : Guided). g.margin) (by_profile source s i p)
 
   -- "where the feedforward refuses, the old rule holds"
-  pub refused_as_before : feedforward wanted i ≡ rate.Refused → (ticked source s i).answer.margin ≡ before
+  pub refused_as_before : feedforward wanted i ≡ None → (ticked source s i).answer.margin ≡ before
   unfolding guide_whole
   refused_as_before e = margin_is ∙ rw e
 
   -- and where it is three zeros, unless they meet what is not finite
-  pub zeros_as_before : (rd : Mat3) (f : BodyRate) → desired_r wanted i ≡ Matrix rd → feedforward wanted i ≡ rate.Rate f → Zeros3 f.0 → Entries (matmul3 (transpose3 (quat_to_rotmat i.quat)) rd)
+  pub zeros_as_before : (rd : Mat3) (f : BodyRate) → desired_r wanted i ≡ Some rd → feedforward wanted i ≡ Some f → Zeros3 f.0 → Entries (matmul3 (transpose3 (quat_to_rotmat i.quat)) rd)
       → (ticked source s i).answer.margin ≡ before
   unfolding guide_whole commanded rate_sq dot prepare gyro_filter
   zeros_as_before rd f d a z n =

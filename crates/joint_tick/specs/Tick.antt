@@ -1,5 +1,5 @@
 -- The joint tick, stage by stage, in document 01's order and with the Rust's own calls. Definitions only.
-use Rattle.std.specs.Prelude.{cond, Float}
+use Rattle.std.specs.Prelude.{cond, Float, Option, Some, None}
 use Rattle.std.specs.Float.{nan}
 use Rattle.std.specs.Float.Ieee.{neg, eq}
 use Rattle.relay_math.specs.declared.Vec3.{Vec3}
@@ -12,12 +12,6 @@ use Rattle.relay_adrc.specs.declared.rate.RateTick.{RateTick}
 use Rattle.relay_adrc.specs.Axis.{axis_tick, axis_set_delivered_fraction}
 use Rattle.relay_adrc.specs.Biquad.{gyro_filter}
 use Rattle.relay_geo.specs.declared.vectors.Mat3.{Mat3}
-use Rattle.relay_geo.specs.declared.vectors.Direction.{Direction}
-use Rattle.relay_geo.specs.declared.vectors.Direction.TheVariants as direction
-use Rattle.relay_geo.specs.declared.attitude.Attitude.{Attitude}
-use Rattle.relay_geo.specs.declared.attitude.Attitude.TheVariants.{Matrix, Refused}
-use Rattle.relay_geo.specs.declared.attitude.Feedforward.{Feedforward}
-use Rattle.relay_geo.specs.declared.attitude.Feedforward.TheVariants as rate
 use Rattle.relay_geo.specs.declared.controller.GeoGains.{GeoGains}
 use Rattle.relay_geo.specs.declared.set.RecoverableSet.{RecoverableSet}
 use Rattle.relay_geo.specs.declared.shield.SimplexShield.{SimplexShield}
@@ -100,17 +94,17 @@ planner_of Whole agile = record { 0 = sanitise3 agile.0 }
 planner_of LostRotor agile = let v = sanitise3 agile.0 in record { 0 = (v.0, v.1, 0·0) }
 
 -- R_d
-abbrev pub desired_r : Reference → TickInput → Attitude
+abbrev pub desired_r : Reference → TickInput → Option Mat3
 desired_r wanted i = thrust_attitude (cleaned wanted).acc i.yaw
 
 -- the feedforward
-abbrev pub feedforward : Reference → TickInput → Feedforward
+abbrev pub feedforward : Reference → TickInput → Option BodyRate
 feedforward wanted i = flatness_omega_ff (cleaned wanted).acc (cleaned wanted).jerk i.yaw i.yaw_rate
 
 -- "`desired_rate` plus `flatness_omega_ff`, without the sum where the latter refuses". Without the sum isn't plus zero: a -0.0 stays.
-abbrev pub with_feedforward : BodyRate → Feedforward → BodyRate
-with_feedforward omega (rate.Rate f) = record { 0 = (omega.0.0 ⊕ f.0.0, omega.0.1 ⊕ f.0.1, omega.0.2 ⊕ f.0.2) }
-with_feedforward omega rate.Refused = omega
+abbrev pub with_feedforward : BodyRate → Option BodyRate → BodyRate
+with_feedforward omega (Some f) = record { 0 = (omega.0.0 ⊕ f.0.0, omega.0.1 ⊕ f.0.1, omega.0.2 ⊕ f.0.2) }
+with_feedforward omega None = omega
 
 -- the commanded rate, from R_d's axes to R's: the product of the matrices, then its rows with f, which start from no 0.0
 unfoldable pub commanded : Mat3 → Mat3 → Vec3 → Vec3
@@ -118,25 +112,25 @@ commanded r rd f = let m = matmul3 (transpose3 r) rd in (dot m.0 f, dot m.1 f, d
 
 -- Request Four: "In the joint tick the rate error is the filtered rate less R transposed times R_d times the feedforward, matrix product first, then the
 -- vector; where the feedforward refuses, the old rule holds." That is the filtered rate itself, as where there is no R_d.
-abbrev pub rate_error : BodyRate → Mat3 → Feedforward → Attitude → BodyRate
-rate_error omega r (rate.Rate f) (Matrix rd) =
+abbrev pub rate_error : BodyRate → Mat3 → Option BodyRate → Option Mat3 → BodyRate
+rate_error omega r (Some f) (Some rd) =
     let c = commanded r rd f.0 in
     record { 0 = (omega.0.0 ⊖ c.0, omega.0.1 ⊖ c.1, omega.0.2 ⊖ c.2) }
-rate_error omega r (rate.Rate f) Refused = omega
-rate_error omega r rate.Refused rd = omega
+rate_error omega r (Some f) None = omega
+rate_error omega r None rd = omega
 
 -- "the squared length" of the rate error
 unfoldable pub rate_sq : BodyRate → Float
 rate_sq e = dot e.0 e.0
 
 -- "If there is no R_d the margin is minus infinity and the psi word NaN."
-abbrev pub psi_of : Mat3 → Attitude → Float
-psi_of r (Matrix rd) = psi r rd
-psi_of r Refused = nan
+abbrev pub psi_of : Mat3 → Option Mat3 → Float
+psi_of r (Some rd) = psi r rd
+psi_of r None = nan
 
-abbrev pub margin_of : RecoverableSet → Mat3 → Attitude → Float → Float
-margin_of set r (Matrix rd) wSq = margin set (psi r rd) wSq
-margin_of set r Refused wSq = minus_infinity
+abbrev pub margin_of : RecoverableSet → Mat3 → Option Mat3 → Float → Float
+margin_of set r (Some rd) wSq = margin set (psi r rd) wSq
+margin_of set r None wSq = minus_infinity
 
 unfoldable pub guide_whole : GeoGains → RecoverableSet → BodyRate → Reference → TickInput → Guided
 guide_whole gains set omega wanted i =
@@ -154,24 +148,24 @@ guide_whole gains set omega wanted i =
 
 -- "There the error is `attitude_error_reduced` toward the thrust axis. The fallback's first two components are -k_r times the error, the third is zero,
 -- with no feedforward." .. "Where the thrust axis refuses, the fallback is zero, psi is NaN and the margin minus infinity."
-abbrev pub rate_toward_axis : GeoGains → Mat3 → Direction → BodyRate
-rate_toward_axis gains r (direction.Axis b3) =
+abbrev pub rate_toward_axis : GeoGains → Mat3 → Option Vec3 → BodyRate
+rate_toward_axis gains r (Some b3) =
     let e = attitude_error_reduced r b3 in
     record { 0 = (neg gains.k_r.0 ⊗ e.0, neg gains.k_r.1 ⊗ e.1, 0·0) }
-rate_toward_axis gains r direction.Refused = record { 0 = (0·0, 0·0, 0·0) }
+rate_toward_axis gains r None = record { 0 = (0·0, 0·0, 0·0) }
 
 -- "Psi is 1 less the dot product of R's third column with that axis."
-abbrev pub psi_to_axis : Mat3 → Direction → Float
-psi_to_axis r (direction.Axis b3) = 1·0 ⊖ dot (column2 r) b3
-psi_to_axis r direction.Refused = nan
+abbrev pub psi_to_axis : Mat3 → Option Vec3 → Float
+psi_to_axis r (Some b3) = 1·0 ⊖ dot (column2 r) b3
+psi_to_axis r None = nan
 
 -- "The margin's squared rate is that of the first two filtered components."
 abbrev pub tilt_rate_sq : BodyRate → Float
 tilt_rate_sq omega = omega.0.0 ⊗ omega.0.0 ⊕ omega.0.1 ⊗ omega.0.1
 
-abbrev pub margin_to_axis : RecoverableSet → Mat3 → Direction → Float → Float
-margin_to_axis set r (direction.Axis b3) wSq = margin set (psi_to_axis r (direction.Axis b3)) wSq
-margin_to_axis set r direction.Refused wSq = minus_infinity
+abbrev pub margin_to_axis : RecoverableSet → Mat3 → Option Vec3 → Float → Float
+margin_to_axis set r (Some b3) wSq = margin set (psi_to_axis r (Some b3)) wSq
+margin_to_axis set r None wSq = minus_infinity
 
 unfoldable pub guide_lost_rotor : GeoGains → RecoverableSet → BodyRate → Reference → TickInput → Guided
 guide_lost_rotor gains set omega wanted i =

@@ -16,18 +16,15 @@ pub fn segment_of(leg: Leg) -> Segment3
 pub fn set_up(input: SetUp) -> State
     ensures { result ≡ set_up input }
 {
-    let gains = input.gains;
-    let profile = input.profile;
     let shield = SimplexShield::new(input.set, input.enter, input.exit);
-    let set = shield.set;
     State {
         fixed: Fixed {
-            gains,
-            set,
+            gains: input.gains,
+            set: shield.set,
             enter: shield.enter,
             exit: shield.exit,
             segment: segment_of(input.leg),
-            profile,
+            profile: input.profile,
         },
         moving: Moving {
             engaged: shield.engaged,
@@ -39,31 +36,19 @@ pub fn set_up(input: SetUp) -> State
 }
 
 // Another segment in flight (request Seven): that of a new leg, from its start on.
+#[tactic(auto, unfolding(crate::specs::SetUp::exchange))]
 pub fn exchange(state: State, leg: Leg) -> State
     ensures { result ≡ exchange state leg }
 {
-    let fixed = state.fixed;
-    let gains = fixed.gains;
-    let set = fixed.set;
-    let profile = fixed.profile;
     let moving = state.moving;
-    let governor = moving.governor;
-    let rate = moving.rate;
-    let lpf = moving.lpf;
     State {
         fixed: Fixed {
-            gains,
-            set,
-            enter: fixed.enter,
-            exit: fixed.exit,
             segment: segment_of(leg),
-            profile,
+            ..state.fixed
         },
         moving: Moving {
-            engaged: moving.engaged,
-            governor: governor.reset(),
-            rate,
-            lpf,
+            governor: moving.governor.reset(),
+            ..moving
         },
     }
 }

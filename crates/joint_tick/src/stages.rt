@@ -9,8 +9,8 @@ use crate::profile::Profile;
 use crate::state::{Answer, Fixed, Moving, TickInput};
 use relay_adrc::{AdrcAxis, AdrcRate, AxisTick, Observed, RateTick};
 use relay_geo::{
-    Attitude, Direction, Feedforward, GeoAtt, GeoGains, Mat3, RecoverableSet, SimplexShield,
-    attitude_on, dot, feedforward_on, quat_to_rotmat, sanitise3, thrust_axis_ned, thrust_of,
+    GeoAtt, GeoGains, Mat3, RecoverableSet, SimplexShield, attitude_on, dot, feedforward_on,
+    quat_to_rotmat, sanitise3, thrust_axis_ned, thrust_of,
 };
 use relay_math::{BodyRate, Torque, Vec3};
 use relay_traj::{Sample3, Segment3};
@@ -89,17 +89,14 @@ pub fn prepare(profile: Profile, moving: Moving, input: TickInput) -> Prepared
     let rate = set_fractions(profile, moving.rate, input.fraction);
     let filtered = moving.lpf.filter(input.gyro);
     let advanced = moving.governor.advance(input.track_err, input.dt);
-    let governor = advanced.governor;
-    let lpf = filtered.lpf;
-    let measured = filtered.rate;
     Prepared {
         moving: Moving {
-            engaged: moving.engaged,
-            governor,
+            governor: advanced.governor,
             rate,
-            lpf,
+            lpf: filtered.lpf,
+            ..moving
         },
-        rate: measured,
+        rate: filtered.rate,
         time: advanced.time,
     }
 }
@@ -110,7 +107,7 @@ pub fn prepare(profile: Profile, moving: Moving, input: TickInput) -> Prepared
 fn sample_time(segment: Segment3, time: f32) -> f32
     ensures { result ≡ sample_time segment time }
 {
-    if time == f32::from_bits(0x7f80_0000) {
+    if time == f32::INFINITY {
         segment.duration()
     } else {
         time
@@ -141,9 +138,10 @@ pub fn reference_at(segment: Segment3, time: f32) -> Reference
     ensures { result ≡ reference_at segment time }
 {
     let s = segment.eval(sample_time(segment, time));
-    let acc = s.acc;
-    let jerk = s.jerk;
-    Reference { acc, jerk }
+    Reference {
+        acc: s.acc,
+        jerk: s.jerk,
+    }
 }
 
 // ---- guide
@@ -159,10 +157,10 @@ fn clean(wanted: Reference) -> Reference
 }
 
 // The sum, and w itself where there is no feedforward: adding +0.0 would turn a -0.0.
-fn plus(w: BodyRate, feedforward: Feedforward) -> BodyRate
+fn plus(w: BodyRate, feedforward: Option<BodyRate>) -> BodyRate
     ensures { result ≡ with_feedforward w feedforward }
 {
-    let Feedforward::Rate(f) = feedforward else {
+    let Some(f) = feedforward else {
         return w;
     };
     BodyRate(Vec3(w.0.0 + f.0.0, w.0.1 + f.0.1, w.0.2 + f.0.2))
@@ -191,13 +189,15 @@ fn commanded(r: Mat3, r_d: Mat3, f: Vec3) -> Vec3
 
 // What nobody commanded of the filtered rate: all of it where there is no feedforward. Three zeros in its place would not do: by an entry of the product
 // that is not finite they give a NaN.
-fn rate_error(omega: BodyRate, r: Mat3, feedforward: Feedforward, r_d: Attitude) -> BodyRate
+fn rate_error(
+    omega: BodyRate,
+    r: Mat3,
+    feedforward: Option<BodyRate>,
+    r_d: Option<Mat3>,
+) -> BodyRate
     ensures { result ≡ rate_error omega r feedforward r_d }
 {
-    let Feedforward::Rate(f) = feedforward else {
-        return omega;
-    };
-    let Attitude::Matrix(r_d) = r_d else {
+    let (Some(f), Some(r_d)) = (feedforward, r_d) else {
         return omega;
     };
     let c = commanded(r, r_d, f.0);
@@ -210,13 +210,11 @@ fn rate_sq(e: BodyRate) -> f32
     dot(e.0, e.0)
 }
 
-fn psi_of(r: Mat3, r_d: Attitude) -> f32
+#[tactic(auto, unfolding(laws::proofs::Prelude::div, laws::proofs::Prelude::of_bits))]
+fn psi_of(r: Mat3, r_d: Option<Mat3>) -> f32
     ensures { result ≡ psi_of r r_d }
 {
-    match r_d {
-        Attitude::Matrix(r_d) => GeoAtt::psi(r, r_d),
-        Attitude::Refused => 0.0 / 0.0,
-    }
+    r_d.map_or(f32::NAN, |r_d| GeoAtt::psi(r, r_d))
 }
 
 // R, R_d and the feedforward are built once, and the length of g - a is taken once: the fallback, psi and the margin share them, bit for bit as the
@@ -251,27 +249,25 @@ fn guide_whole(
 // ---- guide with a rotor lost
 
 // The rate that turns the thrust axis, and none about it: yaw is let go.
-fn rate_toward_axis(gains: GeoGains, r: Mat3, axis: Direction) -> BodyRate
+fn rate_toward_axis(gains: GeoGains, r: Mat3, axis: Option<Vec3>) -> BodyRate
     ensures { result ≡ rate_toward_axis gains r axis }
 {
     match axis {
-        Direction::Axis(b3) => {
+        Some(b3) => {
             let e = GeoAtt::attitude_error_reduced(r, b3);
             let k = gains.k_r;
             BodyRate(Vec3(-k.0 * e.0, -k.1 * e.1, 0.0))
         }
-        Direction::Refused => BodyRate(Vec3(0.0, 0.0, 0.0)),
+        None => BodyRate(Vec3(0.0, 0.0, 0.0)),
     }
 }
 
 // 0 where the thrust axis lies as it should, 2 where it is upside down.
-fn psi_to_axis(r: Mat3, axis: Direction) -> f32
+#[tactic(auto, unfolding(laws::proofs::Prelude::div, laws::proofs::Prelude::of_bits))]
+fn psi_to_axis(r: Mat3, axis: Option<Vec3>) -> f32
     ensures { result ≡ psi_to_axis r axis }
 {
-    match axis {
-        Direction::Axis(b3) => 1.0 - dot(Vec3(r.0.2, r.1.2, r.2.2), b3),
-        Direction::Refused => 0.0 / 0.0,
-    }
+    axis.map_or(f32::NAN, |b3| 1.0 - dot(Vec3(r.0.2, r.1.2, r.2.2), b3))
 }
 
 fn tilt_rate_sq(w: BodyRate) -> f32
@@ -365,14 +361,11 @@ fn follow(profile: Profile, rate: AdrcRate, observed: Observed3, wanted: BodyRat
     let roll = rate.roll.act(observed.roll, w.0);
     let pitch = rate.pitch.act(observed.pitch, w.1);
     let yaw = act_third(profile, rate.yaw, observed.yaw, w.2);
-    let ax = roll.axis;
-    let ay = pitch.axis;
-    let az = yaw.axis;
     RateTick {
         rate: AdrcRate {
-            roll: ax,
-            pitch: ay,
-            yaw: az,
+            roll: roll.axis,
+            pitch: pitch.axis,
+            yaw: yaw.axis,
         },
         torque: Torque(Vec3(roll.u, pitch.u, yaw.u)),
     }
@@ -389,30 +382,25 @@ fn chosen(engaged: bool, planner: BodyRate, fallback: BodyRate) -> BodyRate
 fn pick(fixed: Fixed, prepared: Prepared, observed: Observed3, guided: Guided) -> Ticked
     ensures { result ≡ pick_on fixed prepared observed guided }
 {
-    let set = fixed.set;
     let shield = SimplexShield {
-        set,
+        set: fixed.set,
         engaged: prepared.moving.engaged,
         enter: fixed.enter,
         exit: fixed.exit,
     };
     let picked = shield.step(guided.margin, guided.planner, guided.fallback);
-    let command = picked.command;
-    let profile = fixed.profile;
     let followed = follow(
-        profile,
+        fixed.profile,
         prepared.moving.rate,
         observed,
         chosen(picked.fallback, guided.planner, guided.fallback),
     );
-    let rate = followed.rate;
-    let torque = followed.torque;
     Ticked {
         engaged: picked.shield.engaged,
-        rate,
+        rate: followed.rate,
         answer: Answer {
-            torque,
-            command,
+            torque: followed.torque,
+            command: picked.command,
             fallback: picked.fallback,
             time: prepared.time,
             psi: guided.psi,

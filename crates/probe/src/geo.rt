@@ -8,13 +8,10 @@ ghost use Rattle.relay_geo.specs.Set.{new_set, margin, recoverable};
 ghost use Rattle.relay_geo.specs.Shield.{new_shield, step, filter};
 ghost use Rattle.probe.specs.Answers.{axis_answer, attitude_answer, rate_answer};
 
-use relay_geo::{
-    Attitude, Direction, Feedforward, GeoAtt, GeoGains, Mat3, Quat, RecoverableSet, Shielded,
-    SimplexShield,
-};
+use relay_geo::{GeoAtt, GeoGains, Mat3, Quat, RecoverableSet, Shielded, SimplexShield};
 use relay_math::{BodyRate, Torque, Vec3};
 
-// ---- answers that may be a refusal
+// ---- answers that may be a refusal: a struct for each, since no struct with a type parameter may stand in the signature of a C call
 
 #[repr(C)]
 #[derive(Clone, Copy)]
@@ -37,52 +34,32 @@ pub struct RateAnswer {
     pub rate: BodyRate,
 }
 
-fn axis_answer(d: Direction) -> AxisAnswer
-    ensures { result ≡ axis_answer d }
+const ZEROS: Vec3 = Vec3(0.0, 0.0, 0.0);
+
+fn axis_answer(axis: Option<Vec3>) -> AxisAnswer
+    ensures { result ≡ axis_answer axis }
 {
-    match d {
-        Direction::Axis(v) => AxisAnswer {
-            given: true,
-            axis: v,
-        },
-        Direction::Refused => AxisAnswer {
-            given: false,
-            axis: Vec3(0.0, 0.0, 0.0),
-        },
+    AxisAnswer {
+        given: axis.is_some(),
+        axis: axis.unwrap_or(ZEROS),
     }
 }
 
-fn attitude_answer(a: Attitude) -> AttitudeAnswer
-    ensures { result ≡ attitude_answer a }
+fn attitude_answer(matrix: Option<Mat3>) -> AttitudeAnswer
+    ensures { result ≡ attitude_answer matrix }
 {
-    match a {
-        Attitude::Matrix(m) => AttitudeAnswer {
-            given: true,
-            matrix: m,
-        },
-        Attitude::Refused => AttitudeAnswer {
-            given: false,
-            matrix: Mat3(
-                Vec3(0.0, 0.0, 0.0),
-                Vec3(0.0, 0.0, 0.0),
-                Vec3(0.0, 0.0, 0.0),
-            ),
-        },
+    AttitudeAnswer {
+        given: matrix.is_some(),
+        matrix: matrix.unwrap_or(Mat3(ZEROS, ZEROS, ZEROS)),
     }
 }
 
-fn rate_answer(f: Feedforward) -> RateAnswer
-    ensures { result ≡ rate_answer f }
+fn rate_answer(rate: Option<BodyRate>) -> RateAnswer
+    ensures { result ≡ rate_answer rate }
 {
-    match f {
-        Feedforward::Rate(w) => RateAnswer {
-            given: true,
-            rate: w,
-        },
-        Feedforward::Refused => RateAnswer {
-            given: false,
-            rate: BodyRate(Vec3(0.0, 0.0, 0.0)),
-        },
+    RateAnswer {
+        given: rate.is_some(),
+        rate: rate.unwrap_or(BodyRate(ZEROS)),
     }
 }
 

@@ -1,5 +1,5 @@
 // The test face: each routine as one call, so that the host can run it beside the Rust. Nothing here is flown.
-// A routine that may refuse answers by an enum, which no C call can return: here it is a struct with a flag (specs/Answers.antt).
+// A routine that may refuse answers by an `Option`, which no C call can return: here it is a struct with a flag (specs/Answers.antt).
 #![tactic(auto)]
 
 mod adrc; // adrc.rt: relay_adrc

@@ -1,9 +1,9 @@
 -- When a direction, an attitude or a feedforward is given, and when it is refused. Assumes nothing.
+use Rattle.std.specs.Prelude.{Option, Some, None}
 use Rattle.laws.proofs.Prelude.{◌≡◌, refl, sym, ◌∙◌, Bool, true, false, not, ◌&&◌, cond, not-false, Float, nan, inf, fin, lt, is_nan, of_bits, both}
 use Rattle.relay_math.{specs.{declared.Vec3.Vec3, F32.{1e-3, is_finite, finite_above}}, proofs.Order.{le_is_not_above, lt_trans}}
-use Rattle.relay_geo.specs.{declared.{vectors.Direction.TheVariants.Axis, attitude.Attitude.{Attitude, TheVariants.{Matrix, Refused}}}, Vectors.{1e-9, norm, long, over, normalize, gives_axis}}
+use Rattle.relay_geo.specs.{declared.vectors.Mat3.Mat3, Vectors.{1e-9, norm, long, over, normalize, gives_axis}}
 use Rattle.relay_geo.specs.{Attitude.{thrust_force, thrust_axis_ned, thrust_attitude, too_weak, rate_from, flatness_omega_ff, gives_matrix, gives_rate}, Inner.{thrust_of, attitude_on, feedforward_on}}
-use Rattle.relay_geo.specs.declared.attitude.Feedforward.TheVariants as rate
 
 -- "`normalize` refuses unless the norm is finite and above 1e-9."
 pub normalize_accepts : (a : Vec3) → gives_axis (normalize a) ≡ finite_above 1e-9 (norm a)
@@ -34,7 +34,7 @@ strong_long c w =
     rw (s.0, above c s.1)
 
 -- The thrust axis is then the very b3 of the feedforward: "the same two steps, the same bits".
-pub same_axis : (a : Vec3) → too_weak (norm (thrust_force a)) ≡ false → thrust_axis_ned a ≡ Axis (over (thrust_force a) (norm (thrust_force a)))
+pub same_axis : (a : Vec3) → too_weak (norm (thrust_force a)) ≡ false → thrust_axis_ned a ≡ Some (over (thrust_force a) (norm (thrust_force a)))
 unfolding thrust_axis_ned normalize
 same_axis a w = rw (strong_long (norm (thrust_force a)) w)
 
@@ -55,9 +55,9 @@ shared_attitude a yaw = refl
 pub shared_feedforward : (a j : Vec3) (yaw yawRate : Float) → feedforward_on (thrust_of a) j yawRate (thrust_attitude a yaw) ≡ flatness_omega_ff a j yaw yawRate
 shared_feedforward a j yaw yawRate = sym (feedforward_shares a j yaw yawRate)
 
-given : (s : Bool) (c : Float) (b3 j : Vec3) (yawRate : Float) (r : Attitude) → gives_rate (cond (not s) rate.Refused (rate_from c b3 j yawRate r)) ≡ (s && gives_matrix r)
-given true c b3 j yawRate (Matrix r) = refl
-given true c b3 j yawRate Refused = refl
+given : (s : Bool) (c : Float) (b3 j : Vec3) (yawRate : Float) (r : Option Mat3) → gives_rate (cond (not s) None (rate_from c b3 j yawRate r)) ≡ (s && gives_matrix r)
+given true c b3 j yawRate (Some r) = refl
+given true c b3 j yawRate None = refl
 given false c b3 j yawRate r = refl
 
 -- Numbers exactly if the norm is finite and above 1e-3, and the attitude exists.

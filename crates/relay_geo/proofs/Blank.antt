@@ -1,8 +1,9 @@
 -- A zero or a NaN: what is made of such numbers, or by a product with zero, is one again. Assumes nothing.
+use Rattle.std.specs.Prelude.{None}
 use Rattle.laws.proofs.Prelude.{◌≡◌, refl, Bool, true, false, not, and-false, ℕ, ◌*◌, ◌^◌, zero-mul, mul-zero, arith, le-ltb, ℤ, pos, negsuc, Float, nan, inf, fin, binary32, up, down, unlike, round}
 use Rattle.laws.proofs.Prelude.{neg, sum, add, sub, mul, lt, of_bits}
 use Rattle.relay_math.{specs.{declared.Vec3.Vec3, F32.{◌⊕◌, ◌⊖◌, ◌⊗◌, is_finite}, Sqrt.sqrtf}, proofs.Sums.round_zero}
-use Rattle.relay_geo.specs.{Vectors.{1e-9, cross, dot, norm, normalize}, declared.vectors.Direction.TheVariants.Refused}
+use Rattle.relay_geo.specs.Vectors.{1e-9, cross, dot, norm, normalize}
 
 pub data Blank : Float → Type 0 where
   number : Blank nan
@@ -74,6 +75,6 @@ pub cross_blank : (v : Vec3) → Blank3 (cross v (fin false 0 (pos 0), fin false
 unfolding cross
 cross_blank v = record { x = less (by_zero v.1) (by_zero v.2); y = less (by_zero v.2) (by_zero v.0); z = less (by_zero v.0) (by_zero v.1) }
 
-pub blank_refused : (v : Vec3) → Blank3 v → normalize v ≡ Refused
+pub blank_refused : (v : Vec3) → Blank3 v → normalize v ≡ None
 unfolding normalize
 blank_refused v b = rw (not_above (norm_blank v b), and-false (is_finite (norm v)))

@@ -1,5 +1,5 @@
 -- Attitudes, line by line as the Rust has them. Definitions only.
-use Rattle.std.specs.Prelude.{◌≡◌, Bool, true, false, not, ◌||◌, cond, T, Float}
+use Rattle.std.specs.Prelude.{◌≡◌, Bool, true, false, not, ◌||◌, cond, T, Float, Option, Some, None}
 use Rattle.std.specs.Float.Ieee.{neg, le, eq}
 use Rattle.relay_math.specs.declared.Vec3.{Vec3}
 use Rattle.relay_math.specs.declared.BodyRate.{BodyRate}
@@ -7,12 +7,6 @@ use Rattle.relay_math.specs.F32.{◌⊕◌, ◌⊖◌, ◌⊗◌, ◌⊘◌, 0·
 use Rattle.relay_math.specs.Steps.{sinf, cosf}
 use Rattle.relay_geo.specs.declared.vectors.Mat3.{Mat3}
 use Rattle.relay_geo.specs.declared.vectors.Quat.{Quat}
-use Rattle.relay_geo.specs.declared.vectors.Direction.{Direction}
-use Rattle.relay_geo.specs.declared.vectors.Direction.TheVariants as direction
-use Rattle.relay_geo.specs.declared.attitude.Attitude.{Attitude}
-use Rattle.relay_geo.specs.declared.attitude.Attitude.TheVariants.{Matrix, Refused}
-use Rattle.relay_geo.specs.declared.attitude.Feedforward.{Feedforward}
-use Rattle.relay_geo.specs.declared.attitude.Feedforward.TheVariants as rate
 use Rattle.relay_geo.specs.Vectors.{gravity_ned, cross, norm, over, normalize, sanitise3, transposed_times}
 
 unfoldable pub quat_to_rotmat : Quat → Mat3
@@ -36,30 +30,30 @@ abbrev pub of_columns : Vec3 → Vec3 → Vec3 → Mat3
 of_columns b1 b2 b3 = ((b1.0, b2.0, b3.0), (b1.1, b2.1, b3.1), (b1.2, b2.2, b3.2))
 
 -- b2 is across b3 and the heading, b1 across both, with no attitude where there is no b2
-abbrev pub columns_of : Vec3 → Direction → Attitude
-columns_of b3 (direction.Axis b2) = Matrix (of_columns (cross b2 b3) b2 b3)
-columns_of b3 direction.Refused = Refused
+abbrev pub columns_of : Vec3 → Option Vec3 → Option Mat3
+columns_of b3 (Some b2) = Some (of_columns (cross b2 b3) b2 b3)
+columns_of b3 None = None
 
 -- no attitude where there is no axis b3
-abbrev pub attitude_of : Direction → Float → Attitude
-attitude_of (direction.Axis b3) yaw = columns_of b3 (normalize (cross b3 (heading yaw)))
-attitude_of direction.Refused yaw = Refused
+abbrev pub attitude_of : Option Vec3 → Float → Option Mat3
+attitude_of (Some b3) yaw = columns_of b3 (normalize (cross b3 (heading yaw)))
+attitude_of None yaw = None
 
-unfoldable pub desired_attitude : Vec3 → Float → Attitude
+unfoldable pub desired_attitude : Vec3 → Float → Option Mat3
 desired_attitude b3 yaw = attitude_of (normalize b3) yaw
 
 -- g - a
 unfoldable pub thrust_force : Vec3 → Vec3
 thrust_force a = (gravity_ned.0 ⊖ a.0, gravity_ned.1 ⊖ a.1, gravity_ned.2 ⊖ a.2)
 
-unfoldable pub thrust_axis_ned : Vec3 → Direction
+unfoldable pub thrust_axis_ned : Vec3 → Option Vec3
 thrust_axis_ned a = normalize (thrust_force a)
 
-abbrev pub along_axis : Direction → Float → Attitude
-along_axis (direction.Axis b3) yaw = desired_attitude b3 yaw
-along_axis direction.Refused yaw = Refused
+abbrev pub along_axis : Option Vec3 → Float → Option Mat3
+along_axis (Some b3) yaw = desired_attitude b3 yaw
+along_axis None yaw = None
 
-unfoldable pub thrust_attitude : Vec3 → Float → Attitude
+unfoldable pub thrust_attitude : Vec3 → Float → Option Mat3
 thrust_attitude a yaw = along_axis (thrust_axis_ned a) yaw
 
 -- ---- the feedforward
@@ -74,27 +68,27 @@ body_rate c b3 j yawRate r =
     let w = transposed_times r (neg x.0 ⊘ c, neg x.1 ⊘ c, neg x.2 ⊘ c) in
     record { 0 = sanitise3 (w.0, w.1, w.2 ⊕ yawRate) }
 
-abbrev pub rate_from : Float → Vec3 → Vec3 → Float → Attitude → Feedforward
-rate_from c b3 j yawRate (Matrix r) = rate.Rate (body_rate c b3 j yawRate r)
-rate_from c b3 j yawRate Refused = rate.Refused
+abbrev pub rate_from : Float → Vec3 → Vec3 → Float → Option Mat3 → Option BodyRate
+rate_from c b3 j yawRate (Some r) = Some (body_rate c b3 j yawRate r)
+rate_from c b3 j yawRate None = None
 
 -- the attitude is that of b3 and the heading
-unfoldable pub flatness_omega_ff : Vec3 → Vec3 → Float → Float → Feedforward
+unfoldable pub flatness_omega_ff : Vec3 → Vec3 → Float → Float → Option BodyRate
 flatness_omega_ff a j yaw yawRate =
     let t = thrust_force a in
     let c = norm t in
     let b3 = over t c in
-    cond (too_weak c) rate.Refused (rate_from c b3 j yawRate (desired_attitude b3 yaw))
+    cond (too_weak c) None (rate_from c b3 j yawRate (desired_attitude b3 yaw))
 
 -- ---- for what is proved of them
 
-abbrev pub gives_matrix : Attitude → Bool
-gives_matrix (Matrix r) = true
-gives_matrix Refused = false
+abbrev pub gives_matrix : Option Mat3 → Bool
+gives_matrix (Some r) = true
+gives_matrix None = false
 
-abbrev pub gives_rate : Feedforward → Bool
-gives_rate (rate.Rate w) = true
-gives_rate rate.Refused = false
+abbrev pub gives_rate : Option BodyRate → Bool
+gives_rate (Some w) = true
+gives_rate None = false
 
 -- four zeros, each of either sign
 pub record ZeroQuat (q : Quat) : Type 0 where

@@ -1,5 +1,5 @@
 -- The geometric attitude controller, line by line as the Rust has it. Definitions only.
-use Rattle.std.specs.Prelude.{Float}
+use Rattle.std.specs.Prelude.{Float, Option, Some, None}
 use Rattle.std.specs.Float.Ieee.{neg}
 use Rattle.relay_math.specs.declared.Vec3.{Vec3}
 use Rattle.relay_math.specs.declared.BodyRate.{BodyRate}
@@ -7,8 +7,6 @@ use Rattle.relay_math.specs.declared.Torque.{Torque}
 use Rattle.relay_math.specs.F32.{f32, ◌⊕◌, ◌⊖◌, ◌⊗◌, 0·0, 0·5, 2·0, 3·0}
 use Rattle.relay_geo.specs.declared.vectors.Mat3.{Mat3}
 use Rattle.relay_geo.specs.declared.vectors.Quat.{Quat}
-use Rattle.relay_geo.specs.declared.attitude.Attitude.{Attitude}
-use Rattle.relay_geo.specs.declared.attitude.Attitude.TheVariants.{Matrix, Refused}
 use Rattle.relay_geo.specs.declared.controller.GeoGains.{GeoGains}
 use Rattle.relay_geo.specs.Vectors.{cross, column0, column1, column2, prod3, transposed_times, sanitise3}
 use Rattle.relay_geo.specs.Attitude.{quat_to_rotmat, thrust_attitude}
@@ -72,16 +70,16 @@ moment g r omega rd =
     let w = omega.0 in
     record { 0 = opposed g.k_r (attitude_error r rd) g.k_omega w (gyroscopic g.j w) }
 
-abbrev pub rate_toward : GeoGains → Mat3 → Attitude → BodyRate
-rate_toward g r (Matrix rd) = record { 0 = sanitise3 (against g.k_r (attitude_error r rd)) }
-rate_toward g r Refused = record { 0 = (0·0, 0·0, 0·0) }
+abbrev pub rate_toward : GeoGains → Mat3 → Option Mat3 → BodyRate
+rate_toward g r (Some rd) = record { 0 = sanitise3 (against g.k_r (attitude_error r rd)) }
+rate_toward g r None = record { 0 = (0·0, 0·0, 0·0) }
 
 unfoldable pub desired_rate : GeoGains → Quat → Vec3 → Float → BodyRate
 desired_rate g q a yaw = rate_toward g (quat_to_rotmat q) (thrust_attitude (sanitise3 a) yaw)
 
-abbrev pub torque_toward : GeoGains → Mat3 → BodyRate → Attitude → Torque
-torque_toward g r omega (Matrix rd) = record { 0 = sanitise3 (moment g r omega rd).0 }
-torque_toward g r omega Refused = record { 0 = sanitise3 (against g.k_omega omega.0) }
+abbrev pub torque_toward : GeoGains → Mat3 → BodyRate → Option Mat3 → Torque
+torque_toward g r omega (Some rd) = record { 0 = sanitise3 (moment g r omega rd).0 }
+torque_toward g r omega None = record { 0 = sanitise3 (against g.k_omega omega.0) }
 
 unfoldable pub tick : GeoGains → Quat → BodyRate → Vec3 → Float → Torque
 tick g q omega a yaw = torque_toward g (quat_to_rotmat q) record { 0 = sanitise3 omega.0 } (thrust_attitude (sanitise3 a) yaw)

@@ -1,6 +1,6 @@
 -- The simplex shield (000). Definitions only.
 use Rattle.std.specs.Prelude.{Bool, true, cond, Float}
-use Rattle.relay_math.specs.F32.{◌⊗◌, 0·0, 0·1, 2·0, finite_above}
+use Rattle.relay_math.specs.F32.{◌⊗◌, 0·0, 0·1, 2·0, above_or}
 use Rattle.relay_math.specs.declared.BodyRate.{BodyRate}
 use Rattle.relay_geo.specs.declared.set.RecoverableSet.{RecoverableSet}
 use Rattle.relay_geo.specs.declared.shield.Thresholds.{Thresholds}
@@ -11,10 +11,10 @@ use Rattle.relay_geo.specs.Set.{margin}
 use Rattle.latch.specs.Latch.{latch}
 
 abbrev pub mend_enter : Float → Float
-mend_enter enter = cond (finite_above 0·0 enter) enter 0·1
+mend_enter enter = above_or 0·0 enter 0·1
 
 abbrev pub mend_exit : Float → Float → Float
-mend_exit enter exit = cond (finite_above enter exit) exit (enter ⊗ 2·0)
+mend_exit enter exit = above_or enter exit (enter ⊗ 2·0)
 
 unfoldable pub mend_thresholds : Float → Float → Thresholds
 mend_thresholds enter exit =

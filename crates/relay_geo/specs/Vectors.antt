@@ -1,11 +1,9 @@
 -- Vectors and 3x3 matrices, line by line as the Rust has them. Definitions only.
-use Rattle.std.specs.Prelude.{Bool, true, false, cond, T, Float}
+use Rattle.std.specs.Prelude.{Bool, true, false, cond, T, Float, Option, Some, None}
 use Rattle.relay_math.specs.declared.Vec3.{Vec3}
 use Rattle.relay_math.specs.F32.{f32, ◌⊕◌, ◌⊖◌, ◌⊗◌, ◌⊘◌, 0·0, 0·5, 1·0, is_finite, finite_or, finite_above}
 use Rattle.relay_math.specs.Sqrt.{sqrtf}
 use Rattle.relay_geo.specs.declared.vectors.Mat3.{Mat3}
-use Rattle.relay_geo.specs.declared.vectors.Direction.{Direction}
-use Rattle.relay_geo.specs.declared.vectors.Direction.TheVariants.{Axis, Refused}
 
 abbrev pub 1e-9 : Float
 1e-9 = f32 0x3089_705f
@@ -33,12 +31,12 @@ long n = finite_above 1e-9 n
 abbrev pub over : Vec3 → Float → Vec3
 over a n = (a.0 ⊘ n, a.1 ⊘ n, a.2 ⊘ n)
 
--- the direction of a, n being its norm
-abbrev pub direction_of : Vec3 → Float → Direction
-direction_of a n = cond (long n) (Axis (over a n)) Refused
+-- the direction of a, n being its norm, or a plain refusal that carries no number
+abbrev pub direction_of : Vec3 → Float → Option Vec3
+direction_of a n = cond (long n) (Some (over a n)) None
 
-unfoldable pub normalize : Vec3 → Direction
-normalize a = let n = norm a in cond (long n) (Axis (over a n)) Refused
+unfoldable pub normalize : Vec3 → Option Vec3
+normalize a = let n = norm a in cond (long n) (Some (over a n)) None
 
 abbrev pub identity3 : Mat3
 identity3 = ((1·0, 0·0, 0·0), (0·0, 1·0, 0·0), (0·0, 0·0, 1·0))
@@ -78,9 +76,9 @@ sanitise3 v = (finite_or v.0 0·0, finite_or v.1 0·0, finite_or v.2 0·0)
 
 -- ---- for what is proved of them
 
-abbrev pub gives_axis : Direction → Bool
-gives_axis (Axis b) = true
-gives_axis Refused = false
+abbrev pub gives_axis : Option Vec3 → Bool
+gives_axis (Some b) = true
+gives_axis None = false
 
 -- three finite numbers
 pub record Finite3 (v : Vec3) : Type 0 where

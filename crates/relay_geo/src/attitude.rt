@@ -1,27 +1,13 @@
-// Attitudes: from a quaternion, and from the thrust axis and the heading, with no Euler angles on the way.
+// Attitudes: from a quaternion, and from the thrust axis and the heading, with no Euler angles on the way. An attitude is a rotation from body to
+// NED; where one, or a feedforward body rate, is refused, that is a plain `None` that carries no number.
 ghost use Rattle.std.specs.Prelude.{◌≡◌};
 ghost use Rattle.relay_geo.specs.Attitude.{quat_to_rotmat, heading, desired_attitude, thrust_force, thrust_axis_ned, thrust_attitude, too_weak, rate_from, flatness_omega_ff};
 ghost use Rattle.relay_geo.specs.Inner.{thrust_of, attitude_on, feedforward_on};
 
 use super::vectors::{
-    Direction, GRAVITY_NED, Mat3, Quat, cross, direction_of, dot, normalize, sanitise3,
-    transposed_times,
+    GRAVITY_NED, Mat3, Quat, cross, direction_of, dot, normalize, sanitise3, transposed_times,
 };
 use relay_math::{BodyRate, Vec3, is_finite, sincos, sqrtf};
-
-// A rotation from body to NED, or a plain refusal that carries no number.
-#[derive(Clone, Copy)]
-pub enum Attitude {
-    Matrix(Mat3),
-    Refused,
-}
-
-// A feedforward body rate, or a plain refusal that carries no number.
-#[derive(Clone, Copy)]
-pub enum Feedforward {
-    Rate(BodyRate),
-    Refused,
-}
 
 // g - a and its length: what the attitude and the feedforward of one acceleration share, so that its root is taken once.
 #[repr(C)]
@@ -68,18 +54,15 @@ fn heading(yaw: f32) -> Vec3
 
 // The desired attitude: its columns are the desired body axes in NED, the third the given body-down (thrust) axis brought to length 1. It is
 // refused where that axis or the heading gives no direction, or the cross product of the two is not above 1e-9 in norm (they are parallel).
-pub fn desired_attitude(b3_d: Vec3, yaw: f32) -> Attitude
+#[tactic(auto, unfolding(crate::specs::Attitude::desired_attitude))]
+pub fn desired_attitude(b3_d: Vec3, yaw: f32) -> Option<Mat3>
     ensures { result ≡ desired_attitude b3_d yaw }
 {
-    let Direction::Axis(b3) = normalize(b3_d) else {
-        return Attitude::Refused;
-    };
+    let b3 = normalize(b3_d)?;
     let b1_des = heading(yaw);
-    let Direction::Axis(b2) = normalize(cross(b3, b1_des)) else {
-        return Attitude::Refused;
-    };
+    let b2 = normalize(cross(b3, b1_des))?;
     let b1 = cross(b2, b3);
-    Attitude::Matrix(Mat3(
+    Some(Mat3(
         Vec3(b1.0, b2.0, b3.0),
         Vec3(b1.1, b2.1, b3.1),
         Vec3(b1.2, b2.2, b3.2),
@@ -98,20 +81,18 @@ fn thrust_force(a_cmd: Vec3) -> Vec3
 }
 
 // The desired body-down (thrust) axis in NED for a commanded NED acceleration. Free fall has none.
-pub fn thrust_axis_ned(a_cmd: Vec3) -> Direction
+pub fn thrust_axis_ned(a_cmd: Vec3) -> Option<Vec3>
     ensures { result ≡ thrust_axis_ned a_cmd }
 {
     normalize(thrust_force(a_cmd))
 }
 
-// The desired attitude for a commanded acceleration and a heading: the Rust's `thrust_axis_ned(a).and_then(|b3| desired_attitude(b3, yaw))`.
-pub fn thrust_attitude(a_cmd: Vec3, yaw: f32) -> Attitude
+// The desired attitude for a commanded acceleration and a heading.
+#[tactic(auto, unfolding(crate::specs::Attitude::thrust_attitude))]
+pub fn thrust_attitude(a_cmd: Vec3, yaw: f32) -> Option<Mat3>
     ensures { result ≡ thrust_attitude a_cmd yaw }
 {
-    match thrust_axis_ned(a_cmd) {
-        Direction::Axis(b3) => desired_attitude(b3, yaw),
-        Direction::Refused => Attitude::Refused,
-    }
+    thrust_axis_ned(a_cmd).and_then(|b3| desired_attitude(b3, yaw))
 }
 
 // The thrust is too weak to have an axis that turns.
@@ -122,16 +103,14 @@ fn too_weak(c: f32) -> bool
 }
 
 // The body rate that turns the thrust axis b3 with the jerk, and yaws with the heading, in the body's axes at the attitude r_d.
-fn rate_from(c: f32, b3: Vec3, j_cmd: Vec3, yaw_rate: f32, r_d: Attitude) -> Feedforward
+fn rate_from(c: f32, b3: Vec3, j_cmd: Vec3, yaw_rate: f32, r_d: Option<Mat3>) -> Option<BodyRate>
     ensures { result ≡ rate_from c b3 j_cmd yaw_rate r_d }
 {
-    let Attitude::Matrix(r_d) = r_d else {
-        return Feedforward::Refused;
-    };
+    let r_d = r_d?;
     let bxj = cross(b3, j_cmd);
     let w_world = Vec3(-bxj.0 / c, -bxj.1 / c, -bxj.2 / c);
     let w_body = transposed_times(r_d, w_world);
-    Feedforward::Rate(BodyRate(sanitise3(Vec3(w_body.0, w_body.1, w_body.2 + yaw_rate))))
+    Some(BodyRate(sanitise3(Vec3(w_body.0, w_body.1, w_body.2 + yaw_rate))))
 }
 
 // The thrust of an acceleration. Its norm is written out: so the compiled root stays a call on a number, and no vector goes through memory to it.
@@ -146,25 +125,22 @@ pub fn thrust_of(a_cmd: Vec3) -> Thrust
 }
 
 // `thrust_attitude` of the acceleration whose thrust this is (`shared_attitude` of proofs/Accepts.antt).
-pub fn attitude_on(t: Thrust, yaw: f32) -> Attitude
+#[tactic(auto, unfolding(crate::specs::Inner::attitude_on))]
+pub fn attitude_on(t: Thrust, yaw: f32) -> Option<Mat3>
     ensures { result ≡ attitude_on t yaw }
 {
-    let tf = t.force;
-    match direction_of(tf, t.norm) {
-        Direction::Axis(b3) => desired_attitude(b3, yaw),
-        Direction::Refused => Attitude::Refused,
-    }
+    direction_of(t.force, t.norm).and_then(|b3| desired_attitude(b3, yaw))
 }
 
 // The feedforward of this thrust for a caller that has the attitude already: of an acceleration's thrust, with its `thrust_attitude`, it is that of
 // `flatness_omega_ff` (`feedforward_shares` of proofs/Accepts.antt).
-pub fn feedforward_on(t: Thrust, j_cmd: Vec3, yaw_rate: f32, r_d: Attitude) -> Feedforward
+pub fn feedforward_on(t: Thrust, j_cmd: Vec3, yaw_rate: f32, r_d: Option<Mat3>) -> Option<BodyRate>
     ensures { result ≡ feedforward_on t j_cmd yaw_rate r_d }
 {
     let tf = t.force;
     let c = t.norm;
     if too_weak(c) {
-        return Feedforward::Refused;
+        return None;
     }
     let b3 = Vec3(tf.0 / c, tf.1 / c, tf.2 / c);
     rate_from(c, b3, j_cmd, yaw_rate, r_d)
@@ -172,7 +148,7 @@ pub fn feedforward_on(t: Thrust, j_cmd: Vec3, yaw_rate: f32, r_d: Attitude) -> F
 
 // The body rate that a flat trajectory demands, from its acceleration, jerk, heading and heading's rate. The Rust's comment has the
 // other sign; its code, and this, have -(b3 x j) / c. The Rust builds the attitude of b3; that of the thrust is the same where the thrust is not too weak.
-pub fn flatness_omega_ff(a_cmd: Vec3, j_cmd: Vec3, yaw: f32, yaw_rate: f32) -> Feedforward
+pub fn flatness_omega_ff(a_cmd: Vec3, j_cmd: Vec3, yaw: f32, yaw_rate: f32) -> Option<BodyRate>
     ensures { result ≡ flatness_omega_ff a_cmd j_cmd yaw yaw_rate }
 {
     let t = thrust_of(a_cmd);

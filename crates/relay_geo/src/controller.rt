@@ -2,7 +2,7 @@
 ghost use Rattle.std.specs.Prelude.{◌≡◌};
 ghost use Rattle.relay_geo.specs.Controller.{falcon_quad_gains, psi, attitude_error, attitude_error_reduced, gyroscopic, against, opposed, moment_reduced, moment, rate_toward, torque_toward, desired_rate, tick};
 
-use super::attitude::{Attitude, quat_to_rotmat, thrust_attitude};
+use super::attitude::{quat_to_rotmat, thrust_attitude};
 use super::vectors::{Mat3, Quat, cross, sanitise3, transposed_times};
 use relay_math::{BodyRate, Torque, Vec3};
 
@@ -136,16 +136,16 @@ impl GeoAtt {
     }
 
     // The rate toward an attitude that is there already: zeros where there is none.
-    pub fn rate_toward(self, r: Mat3, r_d: Attitude) -> BodyRate
+    pub fn rate_toward(self, r: Mat3, r_d: Option<Mat3>) -> BodyRate
         ensures { result ≡ rate_toward self.gains r r_d }
     {
         match r_d {
-            Attitude::Matrix(r_d) => {
+            Some(r_d) => {
                 let e = GeoAtt::attitude_error(r, r_d);
                 let g = self.gains;
                 BodyRate(sanitise3(against(g.k_r, e)))
             }
-            Attitude::Refused => BodyRate(Vec3(0.0, 0.0, 0.0)),
+            None => BodyRate(Vec3(0.0, 0.0, 0.0)),
         }
     }
 
@@ -159,15 +159,15 @@ impl GeoAtt {
     }
 
     // The torque toward an attitude that is there already: rate damping alone where there is none.
-    fn torque_toward(self, r: Mat3, omega: BodyRate, r_d: Attitude) -> Torque
+    fn torque_toward(self, r: Mat3, omega: BodyRate, r_d: Option<Mat3>) -> Torque
         ensures { result ≡ torque_toward self.gains r omega r_d }
     {
         match r_d {
-            Attitude::Matrix(r_d) => {
+            Some(r_d) => {
                 let m = self.moment(r, omega, r_d);
                 Torque(sanitise3(m.0))
             }
-            Attitude::Refused => {
+            None => {
                 let g = self.gains;
                 Torque(sanitise3(against(g.k_omega, omega.0)))
             }

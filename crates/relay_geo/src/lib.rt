@@ -10,14 +10,14 @@ mod shield; // shield.rt: the simplex shield, which picks the planner's command 
 mod vectors; // vectors.rt: vectors and 3x3 matrices
 
 pub use attitude::{
-    Attitude, Feedforward, Thrust, attitude_on, desired_attitude, feedforward_on,
-    flatness_omega_ff, quat_to_rotmat, thrust_attitude, thrust_axis_ned, thrust_of,
+    Thrust, attitude_on, desired_attitude, feedforward_on, flatness_omega_ff, quat_to_rotmat,
+    thrust_attitude, thrust_axis_ned, thrust_of,
 };
 pub use controller::{GeoAtt, GeoGains};
 pub use lent::Picked;
 pub use set::RecoverableSet;
 pub use shield::{Shielded, SimplexShield, Thresholds, mend};
 pub use vectors::{
-    Direction, GRAVITY_NED, Mat3, Quat, cross, dot, identity3, matmul3, norm, normalize, sanitise3,
+    GRAVITY_NED, Mat3, Quat, cross, dot, identity3, matmul3, norm, normalize, sanitise3,
     transpose3, vee,
 };

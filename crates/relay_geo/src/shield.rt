@@ -5,7 +5,7 @@ ghost use Rattle.relay_geo.specs.Shield.{mend_enter, mend_exit, mend_thresholds,
 use crate::set::RecoverableSet;
 use crate::vectors::sanitise3;
 use latch::latch;
-use relay_math::{BodyRate, finite_above};
+use relay_math::{BodyRate, above_or};
 
 // Below `enter` the fallback takes over, above `exit` it hands back.
 #[repr(C)]
@@ -36,17 +36,13 @@ pub struct Shielded {
 fn mend_enter(enter: f32) -> f32
     ensures { result ≡ mend_enter enter }
 {
-    if finite_above(0.0, enter) { enter } else { 0.1 }
+    above_or(0.0, enter, 0.1)
 }
 
 fn mend_exit(enter: f32, exit: f32) -> f32
     ensures { result ≡ mend_exit enter exit }
 {
-    if finite_above(enter, exit) {
-        exit
-    } else {
-        enter * 2.0
-    }
+    above_or(enter, exit, enter * 2.0)
 }
 
 // Thresholds in a safe order, whatever is given.

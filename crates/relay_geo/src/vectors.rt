@@ -14,13 +14,6 @@ pub struct Mat3(pub Vec3, pub Vec3, pub Vec3);
 #[derive(Clone, Copy)]
 pub struct Quat(pub f32, pub f32, pub f32, pub f32);
 
-// A direction of length one, or a plain refusal that carries no number.
-#[derive(Clone, Copy)]
-pub enum Direction {
-    Axis(Vec3),
-    Refused,
-}
-
 // Standard gravity in NED (down +), m/s^2.
 pub const GRAVITY_NED: Vec3 = Vec3(0.0, 0.0, 9.81);
 
@@ -47,18 +40,18 @@ pub fn norm(a: Vec3) -> f32
     sqrtf_near_one(dot(a, a))
 }
 
-// The direction of a vector whose length n is there already.
-pub(crate) fn direction_of(a: Vec3, n: f32) -> Direction
+// The direction, of length one, of a vector whose length n is there already, or a plain refusal that carries no number.
+pub(crate) fn direction_of(a: Vec3, n: f32) -> Option<Vec3>
     ensures { result ≡ direction_of a n }
 {
     if finite_above(1e-9, n) {
-        Direction::Axis(Vec3(a.0 / n, a.1 / n, a.2 / n))
+        Some(Vec3(a.0 / n, a.1 / n, a.2 / n))
     } else {
-        Direction::Refused
+        None
     }
 }
 
-pub fn normalize(a: Vec3) -> Direction
+pub fn normalize(a: Vec3) -> Option<Vec3>
     ensures { result ≡ normalize a }
 {
     direction_of(a, norm(a))

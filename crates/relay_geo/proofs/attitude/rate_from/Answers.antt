@@ -3,4 +3,4 @@ use Rattle.relay_geo.proofs.attitude.rate_from.Goals as goal
 
 pub returns : goal.returns
 unfolding body_rate
-returns c = simp (c.in-Matrix.is, c.sanitise3.ensures, c.transposed_times-w_body.ensures, c.cross-bxj.ensures)
+returns c = simp (c.in_ok-r_d.was, c.sanitise3.ensures, c.transposed_times-w_body.ensures, c.cross-bxj.ensures)

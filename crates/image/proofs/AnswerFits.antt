@@ -1,9 +1,10 @@
 -- Margin, command and torque of a tick are f32 values, so that their words are read again. Assumes nothing.
+use Rattle.std.specs.Prelude.{Option, Some, None}
 use Rattle.laws.proofs.Prelude.{Bool, true, false, cond, List, ℕ, Float}
 use lib.Ieee.Fits.{inf-fits}
 use Rattle.words.{specs.Words.vec, proofs.WordsBack.float_fits}
 use Rattle.relay_math.specs.declared.{Vec3.Vec3, BodyRate.BodyRate}
-use Rattle.relay_geo.specs.declared.{vectors.{Mat3.Mat3, Direction.Direction}, attitude.{Attitude.{Attitude, TheVariants.{Matrix, Refused}}, Feedforward.Feedforward}, controller.GeoGains.GeoGains}
+use Rattle.relay_geo.specs.declared.{vectors.Mat3.Mat3, controller.GeoGains.GeoGains}
 use Rattle.relay_geo.specs.{declared.set.RecoverableSet.RecoverableSet, Vectors.sanitise3, Attitude.{quat_to_rotmat, thrust_axis_ned, thrust_attitude, flatness_omega_ff}, Set.margin}
 use Rattle.relay_geo.specs.Controller.{rate_toward, desired_rate}
 use Rattle.relay_adrc.specs.{declared.{axis.AdrcAxis.AdrcAxis, rate.AdrcRate.AdrcRate}, Axis.axis_tick}
@@ -12,30 +13,28 @@ use Rattle.joint_tick.specs.Tick.{planner_of, cleaned, desired_r, feedforward, w
 use Rattle.joint_tick.{specs.Tick.{guidance, follow, ticked}, proofs.Shielding.{filtered, wanted_at, tick_command, tick_torque}}
 use Rattle.image.specs.{Inputs.input_at, Fits.{F32, FitsVec}}
 use Rattle.image.proofs.Fitting.{fitting}
-use Rattle.relay_geo.specs.declared.vectors.Direction.TheVariants as direction
-use Rattle.relay_geo.specs.declared.attitude.Feedforward.TheVariants as rate
 
-margin_of_fits : (set : RecoverableSet) (r : Mat3) (a : Attitude) (wSq : Float) → F32 (margin_of set r a wSq)
+margin_of_fits : (set : RecoverableSet) (r : Mat3) (a : Option Mat3) (wSq : Float) → F32 (margin_of set r a wSq)
 unfolding margin
-margin_of_fits set r (Matrix rd) wSq = search (fitting, inf-fits)
-margin_of_fits set r Refused wSq = search inf-fits
+margin_of_fits set r (Some rd) wSq = search (fitting, inf-fits)
+margin_of_fits set r None wSq = search inf-fits
 
-margin_to_axis_fits : (set : RecoverableSet) (r : Mat3) (axis : Direction) (wSq : Float) → F32 (margin_to_axis set r axis wSq)
+margin_to_axis_fits : (set : RecoverableSet) (r : Mat3) (axis : Option Vec3) (wSq : Float) → F32 (margin_to_axis set r axis wSq)
 unfolding margin
-margin_to_axis_fits set r (direction.Axis b3) wSq = search (fitting, inf-fits)
-margin_to_axis_fits set r direction.Refused wSq = search inf-fits
+margin_to_axis_fits set r (Some b3) wSq = search (fitting, inf-fits)
+margin_to_axis_fits set r None wSq = search inf-fits
 
-rate_toward_axis_fits : (g : GeoGains) (r : Mat3) (axis : Direction) → FitsVec (rate_toward_axis g r axis).0
-rate_toward_axis_fits g r (direction.Axis b3) = search fitting
-rate_toward_axis_fits g r direction.Refused = search fitting
+rate_toward_axis_fits : (g : GeoGains) (r : Mat3) (axis : Option Vec3) → FitsVec (rate_toward_axis g r axis).0
+rate_toward_axis_fits g r (Some b3) = search fitting
+rate_toward_axis_fits g r None = search fitting
 
-rate_toward_fits : (g : GeoGains) (r : Mat3) (a : Attitude) → FitsVec (rate_toward g r a).0
-rate_toward_fits g r (Matrix rd) = search fitting
-rate_toward_fits g r Refused = search fitting
+rate_toward_fits : (g : GeoGains) (r : Mat3) (a : Option Mat3) → FitsVec (rate_toward g r a).0
+rate_toward_fits g r (Some rd) = search fitting
+rate_toward_fits g r None = search fitting
 
-plus_fits : (w : BodyRate) (f : Feedforward) → FitsVec w.0 → FitsVec (with_feedforward w f).0
-plus_fits w (rate.Rate f) h = search fitting
-plus_fits w rate.Refused h = h
+plus_fits : (w : BodyRate) (f : Option BodyRate) → FitsVec w.0 → FitsVec (with_feedforward w f).0
+plus_fits w (Some f) h = search fitting
+plus_fits w None h = h
 
 clean_fits : (v : Vec3) → FitsVec v → FitsVec (sanitise3 v)
 clean_fits v f = search fitting

@@ -1,8 +1,6 @@
 // The parts of the images and inputs, each from word k on. What stands on three axes is read and written by one function, three times.
-// `plain` says that no word of the bytes is a NaN's pattern, which spares the reader a test of each; `false` says nothing and asks nothing.
 ghost use Rattle.std.specs.Prelude.{◌≡◌, ◌∷◌, [], ◌+◌, ◌*◌, ◌≤◌, length};
 ghost use Rattle.words.specs.Words.{words_of, Put};
-ghost use Rattle.words.specs.Inner.{Plain};
 ghost use Rattle.joint_tick.specs.Profile.{profile_word};
 ghost use Rattle.image.specs.Parts.{quat_at, gains_at, set_at, governor_at, quintic_at, segment_at, adrc_gains_at, axis_at, rate_at, biquad_at, lpf_at, leg_at, profile_at, floats_of_gains, floats_of_set, floats_of_governor, floats_of_quintic, floats_of_segment, floats_of_adrc_gains, floats_of_axis, floats_of_rate, floats_of_biquad, floats_of_lpf};
 ghost use Rattle.image.specs.Inner.{moved_of_axis, moved_of_biquad};
@@ -12,179 +10,182 @@ use joint_tick::{Leg, Profile, profile_of, profile_word};
 use relay_adrc::{AdrcAxis, AdrcGains, AdrcRate, Biquad, GyroLpf};
 use relay_geo::{GeoGains, Quat, RecoverableSet};
 use relay_traj::{Quintic, RefGovernor, Segment3};
-use words::{
-    float_at, put_float, put_three, put_vec, put_word, read_float, read_vec, vec_at, word_at,
-};
+use words::{Words, put_float, put_three, put_vec, put_word};
 
-pub(crate) fn quat_at(bytes: &[u8], k: usize, plain: bool) -> Quat
-    requires fact_1 { 4 * k + 16 ≤ length bytes.now }
-    requires fact_2 { Plain plain bytes.now }
-    ensures { result ≡ quat_at bytes.now k }
+#[tactic(auto, unfolding(crate::specs::Parts::quat_at))]
+pub(crate) fn quat_at(words: &Words, k: usize) -> Quat
+    requires { 4 * k + 16 ≤ length words.now.bytes.now }
+    ensures { result ≡ quat_at words.now.bytes.now k }
 {
     Quat(
-        read_float(bytes, k, plain),
-        read_float(bytes, k + 1, plain),
-        read_float(bytes, k + 2, plain),
-        read_float(bytes, k + 3, plain),
+        words.float(k),
+        words.float(k + 1),
+        words.float(k + 2),
+        words.float(k + 3),
     )
 }
 
-pub(crate) fn gains_at(bytes: &[u8], k: usize, plain: bool) -> GeoGains
-    requires fact_1 { 4 * k + 36 ≤ length bytes.now }
-    requires fact_2 { Plain plain bytes.now }
-    ensures { result ≡ gains_at bytes.now k }
+#[tactic(auto, unfolding(crate::specs::Parts::gains_at))]
+pub(crate) fn gains_at(words: &Words, k: usize) -> GeoGains
+    requires { 4 * k + 36 ≤ length words.now.bytes.now }
+    ensures { result ≡ gains_at words.now.bytes.now k }
 {
     GeoGains {
-        k_r: read_vec(bytes, k, plain),
-        k_omega: read_vec(bytes, k + VEC_WORDS, plain),
-        j: read_vec(bytes, k + VEC_WORDS + VEC_WORDS, plain),
+        k_r: words.vec(k),
+        k_omega: words.vec(k + VEC_WORDS),
+        j: words.vec(k + VEC_WORDS + VEC_WORDS),
     }
 }
 
-pub(crate) fn set_at(bytes: &[u8], k: usize, plain: bool) -> RecoverableSet
-    requires fact_1 { 4 * k + 12 ≤ length bytes.now }
-    requires fact_2 { Plain plain bytes.now }
-    ensures { result ≡ set_at bytes.now k }
+#[tactic(auto, unfolding(crate::specs::Parts::set_at))]
+pub(crate) fn set_at(words: &Words, k: usize) -> RecoverableSet
+    requires { 4 * k + 12 ≤ length words.now.bytes.now }
+    ensures { result ≡ set_at words.now.bytes.now k }
 {
     RecoverableSet {
-        k_r: read_float(bytes, k, plain),
-        lambda_j: read_float(bytes, k + 1, plain),
-        psi_max: read_float(bytes, k + 2, plain),
+        k_r: words.float(k),
+        lambda_j: words.float(k + 1),
+        psi_max: words.float(k + 2),
     }
 }
 
-pub(crate) fn governor_at(bytes: &[u8], k: usize, plain: bool) -> RefGovernor
-    requires fact_1 { 4 * k + 16 ≤ length bytes.now }
-    requires fact_2 { Plain plain bytes.now }
-    ensures { result ≡ governor_at bytes.now k }
+#[tactic(auto, unfolding(crate::specs::Parts::governor_at))]
+pub(crate) fn governor_at(words: &Words, k: usize) -> RefGovernor
+    requires { 4 * k + 16 ≤ length words.now.bytes.now }
+    ensures { result ≡ governor_at words.now.bytes.now k }
 {
     RefGovernor {
-        s: read_float(bytes, k, plain),
-        err_lo: read_float(bytes, k + 1, plain),
-        err_hi: read_float(bytes, k + 2, plain),
-        g_min: read_float(bytes, k + 3, plain),
+        s: words.float(k),
+        err_lo: words.float(k + 1),
+        err_hi: words.float(k + 2),
+        g_min: words.float(k + 3),
     }
 }
 
-pub(crate) fn quintic_at(bytes: &[u8], k: usize, plain: bool) -> Quintic
-    requires fact_1 { 4 * k + 28 ≤ length bytes.now }
-    requires fact_2 { Plain plain bytes.now }
-    ensures { result ≡ quintic_at bytes.now k }
+#[tactic(auto, unfolding(crate::specs::Parts::quintic_at))]
+pub(crate) fn quintic_at(words: &Words, k: usize) -> Quintic
+    requires { 4 * k + 28 ≤ length words.now.bytes.now }
+    ensures { result ≡ quintic_at words.now.bytes.now k }
 {
     Quintic {
-        c5: read_float(bytes, k, plain),
-        c4: read_float(bytes, k + 1, plain),
-        c3: read_float(bytes, k + 2, plain),
-        c2: read_float(bytes, k + 3, plain),
-        c1: read_float(bytes, k + 4, plain),
-        c0: read_float(bytes, k + 5, plain),
-        t_end: read_float(bytes, k + T_END, plain),
+        c5: words.float(k),
+        c4: words.float(k + 1),
+        c3: words.float(k + 2),
+        c2: words.float(k + 3),
+        c1: words.float(k + 4),
+        c0: words.float(k + 5),
+        t_end: words.float(k + T_END),
     }
 }
 
-pub(crate) fn segment_at(bytes: &[u8], k: usize, plain: bool) -> Segment3
-    requires fact_1 { 4 * k + 84 ≤ length bytes.now }
-    requires fact_2 { Plain plain bytes.now }
-    ensures { result ≡ segment_at bytes.now k }
+#[tactic(auto, unfolding(crate::specs::Parts::segment_at))]
+pub(crate) fn segment_at(words: &Words, k: usize) -> Segment3
+    requires { 4 * k + 84 ≤ length words.now.bytes.now }
+    ensures { result ≡ segment_at words.now.bytes.now k }
 {
     Segment3(
-        quintic_at(bytes, k, plain),
-        quintic_at(bytes, k + QUINTIC_WORDS, plain),
-        quintic_at(bytes, k + QUINTIC_WORDS + QUINTIC_WORDS, plain),
+        quintic_at(words, k),
+        quintic_at(words, k + QUINTIC_WORDS),
+        quintic_at(words, k + QUINTIC_WORDS + QUINTIC_WORDS),
     )
 }
 
-pub(crate) fn adrc_gains_at(bytes: &[u8], k: usize, plain: bool) -> AdrcGains
-    requires fact_1 { 4 * k + 16 ≤ length bytes.now }
-    requires fact_2 { Plain plain bytes.now }
-    ensures { result ≡ adrc_gains_at bytes.now k }
+#[tactic(auto, unfolding(crate::specs::Parts::adrc_gains_at))]
+pub(crate) fn adrc_gains_at(words: &Words, k: usize) -> AdrcGains
+    requires { 4 * k + 16 ≤ length words.now.bytes.now }
+    ensures { result ≡ adrc_gains_at words.now.bytes.now k }
 {
     AdrcGains {
-        omega_o: read_float(bytes, k, plain),
-        omega_c: read_float(bytes, k + 1, plain),
-        b0: read_float(bytes, k + 2, plain),
-        tau: read_float(bytes, k + 3, plain),
+        omega_o: words.float(k),
+        omega_c: words.float(k + 1),
+        b0: words.float(k + 2),
+        tau: words.float(k + 3),
     }
 }
 
-pub(crate) fn axis_at(bytes: &[u8], k: usize, plain: bool) -> AdrcAxis
-    requires fact_1 { 4 * k + 36 ≤ length bytes.now }
-    requires fact_2 { Plain plain bytes.now }
-    ensures { result ≡ axis_at bytes.now k }
+#[tactic(auto, unfolding(crate::specs::Parts::axis_at))]
+pub(crate) fn axis_at(words: &Words, k: usize) -> AdrcAxis
+    requires { 4 * k + 36 ≤ length words.now.bytes.now }
+    ensures { result ≡ axis_at words.now.bytes.now k }
 {
     AdrcAxis {
-        z1: read_float(bytes, k, plain),
-        z2: read_float(bytes, k + 1, plain),
-        u_prev: read_float(bytes, k + 2, plain),
-        u_act: read_float(bytes, k + 3, plain),
-        u_delivered_frac: read_float(bytes, k + 4, plain),
-        g: adrc_gains_at(bytes, k + 5, plain),
+        z1: words.float(k),
+        z2: words.float(k + 1),
+        u_prev: words.float(k + 2),
+        u_act: words.float(k + 3),
+        u_delivered_frac: words.float(k + 4),
+        g: adrc_gains_at(words, k + 5),
     }
 }
 
-pub(crate) fn rate_at(bytes: &[u8], k: usize, plain: bool) -> AdrcRate
-    requires fact_1 { 4 * k + 108 ≤ length bytes.now }
-    requires fact_2 { Plain plain bytes.now }
-    ensures { result ≡ rate_at bytes.now k }
+#[inline(always)]
+#[tactic(auto, unfolding(crate::specs::Parts::rate_at))]
+pub(crate) fn rate_at(words: &Words, k: usize) -> AdrcRate
+    requires { 4 * k + 108 ≤ length words.now.bytes.now }
+    ensures { result ≡ rate_at words.now.bytes.now k }
 {
     AdrcRate {
-        roll: axis_at(bytes, k, plain),
-        pitch: axis_at(bytes, k + AXIS_WORDS, plain),
-        yaw: axis_at(bytes, k + AXIS_WORDS + AXIS_WORDS, plain),
+        roll: axis_at(words, k),
+        pitch: axis_at(words, k + AXIS_WORDS),
+        yaw: axis_at(words, k + AXIS_WORDS + AXIS_WORDS),
     }
 }
 
-pub(crate) fn biquad_at(bytes: &[u8], k: usize, plain: bool) -> Biquad
-    requires fact_1 { 4 * k + 36 ≤ length bytes.now }
-    requires fact_2 { Plain plain bytes.now }
-    ensures { result ≡ biquad_at bytes.now k }
+#[tactic(auto, unfolding(crate::specs::Parts::biquad_at))]
+pub(crate) fn biquad_at(words: &Words, k: usize) -> Biquad
+    requires { 4 * k + 36 ≤ length words.now.bytes.now }
+    ensures { result ≡ biquad_at words.now.bytes.now k }
 {
     Biquad {
-        b0: read_float(bytes, k, plain),
-        b1: read_float(bytes, k + 1, plain),
-        b2: read_float(bytes, k + 2, plain),
-        a1: read_float(bytes, k + 3, plain),
-        a2: read_float(bytes, k + 4, plain),
-        x1: read_float(bytes, k + 5, plain),
-        x2: read_float(bytes, k + 6, plain),
-        y1: read_float(bytes, k + 7, plain),
-        y2: read_float(bytes, k + 8, plain),
+        b0: words.float(k),
+        b1: words.float(k + 1),
+        b2: words.float(k + 2),
+        a1: words.float(k + 3),
+        a2: words.float(k + 4),
+        x1: words.float(k + 5),
+        x2: words.float(k + 6),
+        y1: words.float(k + 7),
+        y2: words.float(k + 8),
     }
 }
 
-pub(crate) fn lpf_at(bytes: &[u8], k: usize, plain: bool) -> GyroLpf
-    requires fact_1 { 4 * k + 108 ≤ length bytes.now }
-    requires fact_2 { Plain plain bytes.now }
-    ensures { result ≡ lpf_at bytes.now k }
+#[inline(always)]
+#[tactic(auto, unfolding(crate::specs::Parts::lpf_at))]
+pub(crate) fn lpf_at(words: &Words, k: usize) -> GyroLpf
+    requires { 4 * k + 108 ≤ length words.now.bytes.now }
+    ensures { result ≡ lpf_at words.now.bytes.now k }
 {
     GyroLpf {
-        roll: biquad_at(bytes, k, plain),
-        pitch: biquad_at(bytes, k + BIQUAD_WORDS, plain),
-        yaw: biquad_at(bytes, k + BIQUAD_WORDS + BIQUAD_WORDS, plain),
+        roll: biquad_at(words, k),
+        pitch: biquad_at(words, k + BIQUAD_WORDS),
+        yaw: biquad_at(words, k + BIQUAD_WORDS + BIQUAD_WORDS),
     }
 }
 
 // A leg as it is given, before mending. Every reader of legs goes through this one.
+#[tactic(auto, unfolding(crate::specs::Parts::leg_at))]
 pub fn leg_at(bytes: &[u8], k: usize) -> Leg
     requires { 4 * k + 76 ≤ length bytes.now }
     ensures { result ≡ leg_at bytes.now k }
 {
+    let words = Words::new(bytes);
     Leg {
-        p0: vec_at(bytes, k),
-        v0: vec_at(bytes, k + 3),
-        a0: vec_at(bytes, k + 6),
-        pf: vec_at(bytes, k + 9),
-        vf: vec_at(bytes, k + 12),
-        af: vec_at(bytes, k + 15),
-        t: float_at(bytes, k + 18),
+        p0: words.vec(k),
+        v0: words.vec(k + 3),
+        a0: words.vec(k + 6),
+        pf: words.vec(k + 9),
+        vf: words.vec(k + 12),
+        af: words.vec(k + 15),
+        t: words.float(k + 18),
     }
 }
 
-pub(crate) fn profile_at(bytes: &[u8], k: usize) -> Profile
-    requires { 4 * k + 4 ≤ length bytes.now }
-    ensures { result ≡ profile_at bytes.now k }
+#[tactic(auto, unfolding(crate::specs::Parts::profile_at))]
+pub(crate) fn profile_at(words: &Words, k: usize) -> Profile
+    requires { 4 * k + 4 ≤ length words.now.bytes.now }
+    ensures { result ≡ profile_at words.now.bytes.now k }
 {
-    profile_of(word_at(bytes, k))
+    profile_of(words.word(k))
 }
 
 pub(crate) fn put_gains(bytes: &mut [u8], k: usize, g: GeoGains)

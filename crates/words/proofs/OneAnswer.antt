@@ -1,8 +1,12 @@
 -- Of each public function here: no second answer fits its promise. Assumes nothing.
 use Rattle.laws.proofs.Prelude.{refl}
-use Rattle.laws.proofs.Determined.{OneAnswer, no_second, both}
+use contract.Lifetimes.{Lfts}
+use denote.{Triple.{Entry.{Args, Res}, Clauses.{Ended, Lasts, at_exit}}}
+use Rattle.laws.proofs.Prelude.{◌≡◌, List, ℕ, Bool}
+use Rattle.laws.proofs.Determined.{Promise, OneAnswer, no_second, both}
 use Rattle.words.specs.contracts as promised
 use Rattle.words.proofs.read
+use Rattle.words.proofs.view
 use Rattle.words.proofs.write
 
 pub four_bytes_once : OneAnswer promised.read.four_bytes.ended read.four_bytes.Reads.Post
@@ -17,11 +21,14 @@ all_plain_once κs a x y v w p q = (no_second p q, refl)
 pub float_of_once : OneAnswer promised.read.float_of.ended read.float_of.Reads.Post
 float_of_once κs a x y v w p q = (no_second p q, refl)
 
-pub read_float_once : OneAnswer promised.read.read_float.ended read.read_float.Reads.Post
-read_float_once κs a x y v w p q = (no_second p q, refl)
+pub word_once : OneAnswer promised.view.Words.word.ended view.Words.word.Reads.Post
+word_once κs a x y v w p q = (no_second p q, refl)
 
-pub read_vec_once : OneAnswer promised.read.read_vec.ended read.read_vec.Reads.Post
-read_vec_once κs a x y v w p q = (no_second p q, refl)
+pub float_once : OneAnswer promised.view.Words.float.ended view.Words.float.Reads.Post
+float_once κs a x y v w p q = (no_second p q, refl)
+
+pub vec_once : OneAnswer promised.view.Words.vec.ended view.Words.vec.Reads.Post
+vec_once κs a x y v w p q = (no_second p q, refl)
 
 pub finite_at_once : OneAnswer promised.read.finite_at.ended read.finite_at.Reads.Post
 finite_at_once κs a x y v w p q = (no_second p q, refl)
@@ -55,3 +62,19 @@ make_canonical_once κs a x y v w p q = (refl, both (no_second p q) refl)
 
 pub put_bytes_once : OneAnswer promised.write.put_bytes.ended write.put_bytes.Reads.Post
 put_bytes_once κs a x y v w p q = (refl, both (no_second p q) refl)
+
+-- ---- answers that hold the lent bytes: what they hold and whether they are plain is fixed; where they lie no promise says
+
+module _ (T : Ended) {X : Type 0} (seen : (κs : Lfts T.signature.lifetimes) → Res T.signature κs → X) where
+  abbrev OneSeen : Promise T → Type 0
+  OneSeen promise =
+      (κs : Lfts T.signature.lifetimes) (a : Args T.signature κs) (x y : Res T.signature κs) (v w : Lasts T κs a)
+      → promise κs a x (at_exit T κs a v)
+      → promise κs a y (at_exit T κs a w)
+      → (seen κs x ≡ seen κs y) × (v ≡ w)
+
+pub new_once : OneSeen promised.view.Words.new.ended {X = List ℕ × Bool} (λ κs r. (r.bytes.now, r.plain)) view.Words.new.Reads.Post
+new_once κs a x y v w p q = (both (no_second p.0 q.0) (no_second p.1 q.1), refl)
+
+pub scanned_once : OneSeen promised.view.Words.scanned.ended {X = List ℕ × Bool} (λ κs r. (r.bytes.now, r.plain)) view.Words.scanned.Reads.Post
+scanned_once κs a x y v w p q = (both (no_second p.0 q.0) (no_second p.1 q.1), refl)

@@ -23,7 +23,7 @@ each b (suc n) e k l =
 -- what `all_plain` says of all words
 pub scanned : (b : List ℕ) (n : ℕ) (p : Bool) → p ≡ all_plain b n → length b ≡ 4 * n → Plain p b
 scanned b n true e h = λ k l. each b n (sym e) k (omega arith)
-scanned b n false e h = tt
+scanned b n false e h = λ k l. tt
 
 -- ---- what `|` gathers in a scan is nothing only if each part is
 

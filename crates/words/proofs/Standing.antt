@@ -3,7 +3,8 @@
 use Rattle.laws.proofs.Prelude.{◌≡◌, refl, sym, ap, ◌∙◌, inr, true, List, [], ◌∷◌, ◌++◌, ℕ, zero, suc, ◌+◌, ◌*◌, ◌/◌, ◌%◌, ◌≤◌, ◌<◌, add-zero, zero-add, add-one, arith, length, get_or, take, drop}
 use native.Mathlib.Numerals.{add-two, add-three}
 use lib.Seq.{set-get_or}
-use Rattle.words.specs.{Words.{word, bytes_of, canon, canons, Put, Holds}, Inner.Plain}
+use Rattle.std.proofs.Common.{drop-cons}
+use Rattle.words.specs.{Words.{four_bytes, word, bytes_of, canon, canons, Put, Holds}, Inner.Plain}
 use Rattle.words.proofs.{WordsBack.canon_itself, Written.{length_bytes_of, bytes_of_append, put_splits, sets_other, then, whole}}
 
 -- every byte is one, as of a lent [u8]
@@ -16,6 +17,13 @@ Bytes b = (i : ℕ) → get_or b i 0 < 256
 bytes_back : (a c d e : ℕ) → a < 256 → c < 256 → d < 256 → e < 256 → let w = a + c * 256 + d * 65536 + e * 16777216 in
     (w % 256 ≡ a) × (w / 256 % 256 ≡ c) × (w / 65536 % 256 ≡ d) × (w / 16777216 % 256 ≡ e)
 bytes_back a c d e ha hc hd he = (omega arith, omega arith, omega arith, omega arith)
+
+-- four bytes side by side, as the word that they are
+pub four_stands : (b : List ℕ) (i : ℕ) {w : ℕ} → Bytes b → i + 4 ≤ length b → w ≡ four_bytes b i → bytes_of (w ∷ []) ≡ take 4 (drop i b)
+four_stands b i {w} h l e =
+    let v = bytes_back (get_or b i 0) (get_or b (i + 1) 0) (get_or b (i + 2) 0) (get_or b (i + 3) 0) (h i) (h (i + 1)) (h (i + 2)) (h (i + 3)) in
+    let at : (j : ℕ) → j < i + 4 → drop j b ≡ get_or b j 0 ∷ drop (suc j) b = λ j m. drop-cons b j 0 (omega arith) in
+    rw (e, v.0, v.1, v.2, v.3, add-one i, add-two i, add-three i, at i (omega arith), at (suc i) (omega arith), at (suc (suc i)) (omega arith), at (suc (suc (suc i))) (omega arith))
 
 pub word_stands : (b : List ℕ) (k : ℕ) → Bytes b → Put b k (word b k ∷ []) b
 unfolding word

@@ -1,26 +1,14 @@
 -- Laws of read words, for callers: what was written is read again, and what is read is written again but for a NaN's other patterns. Assumes nothing.
-use Rattle.laws.proofs.Prelude.{◌≡◌, refl, sym, ap, ◌∙◌, Bool, true, false, not, List, [], ◌∷◌, ◌++◌, ℕ, zero, suc, ◌+◌, ◌*◌, ◌/◌, ◌%◌, ◌<◌, add-zero, add_assoc, mod-lt, mod-eq_of_lt, arith, T, eqb}
+use Rattle.laws.proofs.Prelude.{◌≡◌, refl, sym, ap, ◌∙◌, Bool, true, false, not, List, [], ◌∷◌, ◌++◌, ℕ, zero, suc, ◌+◌, ◌*◌, ◌/◌, ◌%◌, ◌<◌, add-zero, add_assoc, mod-eq_of_lt, arith, T, eqb}
 use Rattle.laws.proofs.Prelude.{ltb, lit<, length, get_or, take, drop, get_or-take, get_or-drop, get_or-append-add, Float, nan, binary32, is_nan, fits}
-use native.Mathlib.Nat.{suc-add, mod-add-div', div-div-eq-div-mul, add-mul-mod_self_right}
+use native.Mathlib.Nat.{suc-add}
 use lib.{Dec.ltb→lt, Ieee.{Fits.nan-fits, Bits.{of_bits-to_bits, to_bits-lt, to_bits-of_bits, of_bits-fits}}}
 use Rattle.relay_math.specs.declared.Vec3.{Vec3}
 use Rattle.words.specs.Words.{four_bytes, word, float, vec, floats_of_vec, float_of, bits, canon, flag, words_of, bytes_of, AllFit, Holds}
 
 -- four bytes by weight are the word, below 2 ^ 32
 four : (w : ℕ) → w % 256 + w / 256 % 256 * 256 + w / 65536 % 256 * 65536 + w / 16777216 % 256 * 16777216 ≡ w % 4294967296
-four w =
-    let a = w / 256 in let b = a / 256 in let d = b / 256 in
-    let e : w / 65536 ≡ b = sym (div-div-eq-div-mul w 256 256) in
-    let f : w / 16777216 ≡ d = sym (div-div-eq-div-mul w 256 65536) ∙ sym (div-div-eq-div-mul a 256 256) in
-    rw (e, f) (sum w (w % 256) a (a % 256) b (b % 256) d (d % 256) (d / 256)
-    (mod-add-div' w 256) (mod-add-div' a 256) (mod-add-div' b 256) (mod-add-div' d 256)
-    (mod-lt w (lit< tt)) (mod-lt a (lit< tt)) (mod-lt b (lit< tt)) (mod-lt d (lit< tt)))
-  where
-    sum : (w w₀ a a₀ b b₀ d d₀ e : ℕ) → w₀ + a * 256 ≡ w → a₀ + b * 256 ≡ a → b₀ + d * 256 ≡ b → d₀ + e * 256 ≡ d
-        → w₀ < 256 → a₀ < 256 → b₀ < 256 → d₀ < 256 → w₀ + a₀ * 256 + b₀ * 65536 + d₀ * 16777216 ≡ w % 4294967296
-    sum w w₀ a a₀ b b₀ d d₀ e hw ha hb hd lw la lb ld =
-        let n = w₀ + a₀ * 256 + b₀ * 65536 + d₀ * 16777216 in let all : w ≡ n + e * 4294967296 = omega arith in
-        sym (ap (λ (v : ℕ). v % 4294967296) all ∙ add-mul-mod_self_right n e 4294967296 ∙ mod-eq_of_lt (omega arith))
+four w = omega arith
 
 -- the word at place k of written words is the k-th of them, and 0 past their end
 pub word_bytes_of : (ws : List ℕ) (k : ℕ) → word (bytes_of ws) k ≡ get_or ws k 0 % 4294967296

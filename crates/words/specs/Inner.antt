@@ -1,5 +1,5 @@
 -- Only inner functions promise or ask these, for speed: whoever reads what is claimed need not read them. Definitions only.
-use Rattle.std.specs.Prelude.{ℕ, zero, suc, ◌+◌, ◌*◌, ◌≤◌, Bool, true, false, not, ◌&&◌, List, T, length}
+use Rattle.std.specs.Prelude.{ℕ, zero, suc, ◌+◌, ◌*◌, ◌≤◌, Bool, true, not, ◌&&◌, ◌||◌, List, T, length}
 use Rattle.std.specs.Float.Ieee.{is_nan}
 use Rattle.words.specs.Words.{float_of, word}
 
@@ -14,5 +14,4 @@ all_plain b (suc n) = all_plain b n && is_plain (word b n)
 
 -- where p says so, all words of b are; else nothing is said
 abbrev pub Plain : Bool → List ℕ → Type 0
-Plain false b = Unit
-Plain true b = (k : ℕ) → 4 * k + 4 ≤ length b → T (is_plain (word b k))
+Plain p b = (k : ℕ) → 4 * k + 4 ≤ length b → T (not p || is_plain (word b k))

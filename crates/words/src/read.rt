@@ -2,28 +2,20 @@
 ghost use Rattle.std.specs.Prelude.{◌≡◌, ◌+◌, ◌*◌, ◌<◌, ◌≤◌, length};
 ghost use Rattle.relay_math.specs.F32.{finite_or};
 ghost use Rattle.words.specs.Words.{four_bytes, word, float, float_of, vec};
-ghost use Rattle.words.specs.Inner.{is_plain, all_plain, Plain};
+ghost use Rattle.words.specs.Inner.{is_plain, all_plain};
 
+use super::view::Words;
 use relay_math::Vec3;
 
-fn wide(x: u8) -> u32
-    ensures value { result ≡ x }
-    ensures upper_bound { result < 256 }
-{
-    x as u32
-}
-
-// A word from any byte on. The sum of the four bytes by weight compiles to one load.
+// A word from any byte on. It compiles to one load.
 pub fn four_bytes(bytes: &[u8], at: usize) -> u32
     requires { at + 4 ≤ length bytes.now }
     ensures { result ≡ four_bytes bytes.now at }
 {
-    wide(bytes[at])
-        + wide(bytes[at + 1]) * 256
-        + wide(bytes[at + 2]) * 65536
-        + wide(bytes[at + 3]) * 16777216
+    u32::from_le_bytes([bytes[at], bytes[at + 1], bytes[at + 2], bytes[at + 3]])
 }
 
+#[tactic(auto, unfolding(crate::specs::Words::word))]
 pub fn word_at(bytes: &[u8], k: usize) -> u32
     requires { 4 * k + 4 ≤ length bytes.now }
     ensures { result ≡ word bytes.now k }
@@ -32,6 +24,7 @@ pub fn word_at(bytes: &[u8], k: usize) -> u32
 }
 
 // Above the infinity's pattern, the sign dropped, every pattern is a NaN's.
+#[tactic(auto, using(crate::proofs::Plain::plain_is))]
 fn is_plain(w: u32) -> bool
     ensures { result ≡ is_plain w }
 {
@@ -44,11 +37,9 @@ pub fn all_plain(bytes: &[u8], count: usize) -> bool
     requires { 4 * count ≤ length bytes.now }
     ensures { result ≡ all_plain bytes.now count }
 {
-    let mut k = 0;
     let mut above: u32 = 0;
-    while k < count {
-        above = above | (word_at(bytes, k) % 0x8000_0000 + 0x7f_ffff);
-        k += 1;
+    for k in 0..count {
+        above |= word_at(bytes, k) % 0x8000_0000 + 0x7f_ffff;
     }
     above < 0x8000_0000
 }
@@ -62,33 +53,6 @@ pub fn float_of(w: u32) -> f32
     } else {
         0.0 / 0.0
     }
-}
-
-// Untested where all words are known to be plain (`all_plain`).
-pub fn read_float(bytes: &[u8], k: usize, plain: bool) -> f32
-    requires fact_1 { 4 * k + 4 ≤ length bytes.now }
-    requires fact_2 { Plain plain bytes.now }
-    ensures { result ≡ float bytes.now k }
-{
-    let w = word_at(bytes, k);
-    if plain {
-        f32::from_bits(w)
-    } else {
-        float_of(w)
-    }
-}
-
-// Three of them, as a vector.
-pub fn read_vec(bytes: &[u8], k: usize, plain: bool) -> Vec3
-    requires fact_1 { 4 * k + 12 ≤ length bytes.now }
-    requires fact_2 { Plain plain bytes.now }
-    ensures { result ≡ vec bytes.now k }
-{
-    Vec3(
-        read_float(bytes, k, plain),
-        read_float(bytes, k + 1, plain),
-        read_float(bytes, k + 2, plain),
-    )
 }
 
 // The float there, or another where it is not finite, by one test of its word (docs/SPEED.md says what that saves). Tested first for a NaN's
@@ -109,12 +73,12 @@ pub fn float_at(bytes: &[u8], k: usize) -> f32
     requires { 4 * k + 4 ≤ length bytes.now }
     ensures { result ≡ float bytes.now k }
 {
-    read_float(bytes, k, false)
+    Words::new(bytes).float(k)
 }
 
 pub fn vec_at(bytes: &[u8], k: usize) -> Vec3
     requires { 4 * k + 12 ≤ length bytes.now }
     ensures { result ≡ vec bytes.now k }
 {
-    read_vec(bytes, k, false)
+    Words::new(bytes).vec(k)
 }

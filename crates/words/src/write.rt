@@ -4,18 +4,26 @@ ghost use Rattle.std.proofs.lemmas.List.Edits.{sets};
 ghost use Rattle.words.specs.Words.{bits, flag, words_of, floats_of_vec, bytes_of, canons, Put};
 ghost use Rattle.words.specs.Inner.{Plain};
 
-use super::read::float_at;
+use super::read::{float_at, four_bytes};
 use relay_math::Vec3;
+
+// A word from any byte on.
+fn put_four(bytes: &mut [u8], at: usize, w: u32)
+    requires { at + 4 ≤ length bytes.old }
+    ensures { bytes.new ≡ sets bytes.old at (bytes_of (w ∷ [])) }
+{
+    let [a, b, c, d] = w.to_le_bytes();
+    bytes[at] = a;
+    bytes[at + 1] = b;
+    bytes[at + 2] = c;
+    bytes[at + 3] = d;
+}
 
 pub fn put_word(bytes: &mut [u8], k: usize, w: u32)
     requires { 4 * k + 4 ≤ length bytes.old }
     ensures { Put bytes.old k (w ∷ []) bytes.new }
 {
-    let at = 4 * k;
-    bytes[at] = (w % 256) as u8;
-    bytes[at + 1] = (w / 256 % 256) as u8;
-    bytes[at + 2] = (w / 65536 % 256) as u8;
-    bytes[at + 3] = (w / 16777216 % 256) as u8;
+    put_four(bytes, 4 * k, w);
 }
 
 // The NaN is always written as 0x7fc0_0000: compiled code may hold any NaN pattern, and `to_bits` is undefined there.
@@ -25,18 +33,11 @@ pub fn bits_of(x: f32) -> u32
     if x != x { 0x7fc0_0000 } else { f32::to_bits(x) }
 }
 
-// The word of a yes or no.
-fn flag_of(yes: bool) -> u32
-    ensures { result ≡ flag yes }
-{
-    if yes { 1 } else { 0 }
-}
-
 pub fn put_flag(bytes: &mut [u8], k: usize, yes: bool)
     requires { 4 * k + 4 ≤ length bytes.old }
     ensures { Put bytes.old k (flag yes ∷ []) bytes.new }
 {
-    put_word(bytes, k, flag_of(yes))
+    put_word(bytes, k, u32::from(yes))
 }
 
 pub fn put_float(bytes: &mut [u8], k: usize, x: f32)
@@ -72,32 +73,9 @@ pub fn make_canonical(bytes: &mut [u8], count: usize, plain: bool)
     if plain {
         return;
     }
-    let mut k = 0;
-    while k < count {
+    for k in 0..count {
         put_float(bytes, k, float_at(bytes, k));
-        k += 1;
     }
-}
-
-// Four bytes on their way from one place to another.
-#[derive(Clone, Copy)]
-struct Four(u8, u8, u8, u8);
-
-fn four_at(from: &[u8], i: usize) -> Four
-    requires { i + 4 ≤ length from.now }
-    ensures { (result.0 ∷ result.1 ∷ result.2 ∷ result.3 ∷ []) ≡ take 4 (drop i from.now) }
-{
-    Four(from[i], from[i + 1], from[i + 2], from[i + 3])
-}
-
-fn put_four(bytes: &mut [u8], at: usize, four: Four)
-    requires { at + 4 ≤ length bytes.old }
-    ensures { bytes.new ≡ sets bytes.old at (four.0 ∷ four.1 ∷ four.2 ∷ four.3 ∷ []) }
-{
-    bytes[at] = four.0;
-    bytes[at + 1] = four.1;
-    bytes[at + 2] = four.2;
-    bytes[at + 3] = four.3;
 }
 
 // All are read before one is written, so that they are one load and one store.
@@ -105,17 +83,18 @@ fn put_sixteen(bytes: &mut [u8], at: usize, from: &[u8], i: usize)
     requires { (at + 16 ≤ length bytes.old) × (i + 16 ≤ length from.now) }
     ensures { bytes.new ≡ sets bytes.old at (take 16 (drop i from.now)) }
 {
-    let a = four_at(from, i);
-    let b = four_at(from, i + 4);
-    let c = four_at(from, i + 8);
-    let d = four_at(from, i + 12);
+    let a = four_bytes(from, i);
+    let b = four_bytes(from, i + 4);
+    let c = four_bytes(from, i + 8);
+    let d = four_bytes(from, i + 12);
     put_four(bytes, at, a);
     put_four(bytes, at + 4, b);
     put_four(bytes, at + 8, c);
     put_four(bytes, at + 12, d);
 }
 
-// Bytes as they stand, from any byte on: by sixteens, then by fours, then one by one.
+// Bytes as they stand, from any byte on: by sixteens, then by fours, then one by one. `copy_from_slice` over all of them would be `memmove`, which include/fosavalo.h does
+// not ask for.
 pub fn put_bytes(bytes: &mut [u8], at: usize, from: &[u8])
     requires { at + length from.now ≤ length bytes.old }
     ensures { bytes.new ≡ sets bytes.old at from.now }
@@ -126,11 +105,10 @@ pub fn put_bytes(bytes: &mut [u8], at: usize, from: &[u8])
         i += 16;
     }
     while i + 4 <= from.len() {
-        put_four(bytes, at + i, four_at(from, i));
+        put_four(bytes, at + i, four_bytes(from, i));
         i += 4;
     }
-    while i < from.len() {
-        bytes[at + i] = from[i];
-        i += 1;
+    for j in i..from.len() {
+        bytes[at + j] = from[j];
     }
 }

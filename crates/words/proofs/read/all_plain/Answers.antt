@@ -26,6 +26,4 @@ low_plain w =
     ]
 
 pub loop-k-preserved : goal.loop-k-preserved
-loop-k-preserved c =
-    let at = c.loop-k in
-    (omega arith, low_or at.above _ ∙ rw (add-one at.k, low_plain _, c.word_at.ensures, at.invariant.1))
+loop-k-preserved c = let at = c.loop-k in low_or at.above _ ∙ rw (add-one at.k, low_plain _, c.word_at.ensures, at.invariant)

@@ -1,4 +1,4 @@
-use Rattle.laws.proofs.Prelude.{◌≡◌, Bool, ℕ, ◌-◌, ◌≤◌, ltb}
+use Rattle.laws.proofs.Prelude.{◌≡◌, Bool, ℕ, ltb}
 use Rattle.words.specs.Inner.{all_plain}
 use Rattle.words.proofs.read.all_plain.Given as goal
 
@@ -7,7 +7,4 @@ abbrev pub Low : ℕ → Bool
 Low a = ltb a 2147483648
 
 abbrev pub invariant-loop-k : goal.invariant-loop-k
-invariant-loop-k l = (l.k ≤ l.count) × (Low l.above ≡ all_plain l.bytes l.k)
-
-abbrev pub decreases-loop-k : goal.decreases-loop-k
-decreases-loop-k l = l.count - l.k
+invariant-loop-k l = Low l.above ≡ all_plain l.bytes l.k

@@ -13,8 +13,5 @@ invariant-loop-i-2 l = (l.i ≤ length l.from) × ((b : List ℕ) → l.initial.
 abbrev pub decreases-loop-i-2 : goal.decreases-loop-i-2
 decreases-loop-i-2 l = length l.from - l.i
 
-abbrev pub invariant-loop-i-3 : goal.invariant-loop-i-3
-invariant-loop-i-3 l = (l.i ≤ length l.from) × ((b : List ℕ) → l.initial.bytes ≡ sets b l.at (take l.initial.i l.from) → l.bytes ≡ sets b l.at (take l.i l.from))
-
-abbrev pub decreases-loop-i-3 : goal.decreases-loop-i-3
-decreases-loop-i-3 l = length l.from - l.i
+abbrev pub invariant-loop-j : goal.invariant-loop-j
+invariant-loop-j l = (b : List ℕ) → l.initial.bytes ≡ sets b l.at (take l.initial.j l.from) → l.bytes ≡ sets b l.at (take l.j l.from)

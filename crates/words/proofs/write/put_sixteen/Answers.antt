@@ -1,6 +1,8 @@
 -- p, q, r, s are the bytes after each four
 use Rattle.laws.proofs.Prelude.{◌≡◌, ◌∙◌, List, ℕ, ◌+◌, ◌≤◌, arith, length, take, drop, sets, length-drop}
 use lib.Seq.{drop-drop}
+use Rattle.words.specs.Words.{four_bytes}
+use Rattle.words.proofs.Standing.{four_stands}
 use Rattle.words.proofs.Written.{run_more}
 use Rattle.words.proofs.write.put_sixteen.Goals as goal
 
@@ -15,10 +17,7 @@ sixteen b at from i h a e f g k l m n =
 
 pub returns : goal.returns
 returns c =
-    let last = c.before.before in let third = last.before.before.before.before in
-    let second = third.before.before.before.before in let first = second.before.before.before.before in
-    let read = first.before.before in
-    let start = read.before.before.before.before.before.before in
-    sixteen start.args.bytes.now start.args.at start.args.from.now start.args.i start.requires.1
-    read.four_at-a.ensures read.four_at-b.ensures read.four_at-c.ensures read.four_at-d.ensures
-    first.put_four.ensures second.put_four-2.ensures third.put_four-3.ensures last.put_four-4.ensures
+    let four = λ (j : ℕ) (w : ℕ) (l : j + 4 ≤ length c.args.from.now) (e : w ≡ four_bytes c.args.from.now j). four_stands _ j (λ k. omega (arith, c.type_inv.from k)) l e in
+    sixteen _ _ _ _ c.requires.1
+    (four _ _ (omega arith) c.four_bytes-a.ensures) (four _ _ (omega arith) c.four_bytes-b.ensures) (four _ _ (omega arith) c.four_bytes-c.ensures) (four _ _ (omega arith) c.four_bytes-d.ensures)
+    c.put_four.ensures c.put_four-2.ensures c.put_four-3.ensures c.put_four-4.ensures

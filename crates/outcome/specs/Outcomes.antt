@@ -1,38 +1,48 @@
 -- How a call ends, by its number (the documents' tables, and our own above 12), and what it leaves. Definitions only.
-use Rattle.std.specs.Prelude.{ℕ, Bool, not, cond, List, [], ◌∷◌, eqb}
-use Rattle.outcome.specs.declared.Outcome.{Outcome}
-use Rattle.outcome.specs.declared.Outcome.TheVariants.{Done, ImageLength, InputLength, AnswerLength, BrokenImage}
-use Rattle.outcome.specs.declared.Outcome.TheVariants.{LegCount, RouteLength, LegsApart, BrokenLog, NoRoom, BadProfile, PassThrough, BadPattern, NoRecord, RecordLength}
+use Rattle.std.specs.Prelude.{ℕ, Bool, true, false, not, cond, List, [], ◌∷◌, eqb, Result, Ok, Err}
+use Rattle.outcome.specs.declared.Refusal.{Refusal}
+use Rattle.outcome.specs.declared.Refusal.TheVariants.{ImageLength, InputLength, AnswerLength, BrokenImage}
+use Rattle.outcome.specs.declared.Refusal.TheVariants.{LegCount, RouteLength, LegsApart, BrokenLog, NoRoom, BadProfile, PassThrough, BadPattern, NoRecord, RecordLength}
 
-abbrev pub number : Outcome → ℕ
-number Done = 0
-number ImageLength = 1
-number InputLength = 2
-number AnswerLength = 3
-number BrokenImage = 4
-number LegCount = 5
-number RouteLength = 6
-number LegsApart = 7
-number BrokenLog = 8
-number NoRoom = 9
-number BadProfile = 10
-number PassThrough = 11
-number BadPattern = 12
-number NoRecord = 13
-number RecordLength = 14
+abbrev pub refusal_number : Refusal → ℕ
+refusal_number ImageLength = 1
+refusal_number InputLength = 2
+refusal_number AnswerLength = 3
+refusal_number BrokenImage = 4
+refusal_number LegCount = 5
+refusal_number RouteLength = 6
+refusal_number LegsApart = 7
+refusal_number BrokenLog = 8
+refusal_number NoRoom = 9
+refusal_number BadProfile = 10
+refusal_number PassThrough = 11
+refusal_number BadPattern = 12
+refusal_number NoRecord = 13
+refusal_number RecordLength = 14
+
+abbrev pub Outcome : Type 0
+Outcome = Result Unit Refusal
 
 -- the call was not refused
-abbrev pub is_done : Outcome → Bool
-is_done o = eqb (number o) 0
+abbrev pub Done : Outcome
+Done = Ok tt
 
--- ---- what a call is refused for, as the documents' tables have it: a row is a test and an outcome, and the first row whose test holds wins
+abbrev pub number : Outcome → ℕ
+number (Ok u) = 0
+number (Err refusal) = refusal_number refusal
+
+abbrev pub is_done : Outcome → Bool
+is_done (Ok u) = true
+is_done (Err refusal) = false
+
+-- ---- what a call is refused for, as the documents' tables have it: a row is a test and a refusal, and the first row whose test holds wins
 
 abbrev pub Table : Type 0
-Table = List (Bool × Outcome)
+Table = List (Bool × Refusal)
 
 abbrev pub first_of : Table → Outcome
 first_of [] = Done
-first_of (row ∷ rows) = cond row.0 row.1 (first_of rows)
+first_of (row ∷ rows) = cond row.0 (Err row.1) (first_of rows)
 
 -- the test of a length that has to be n
 abbrev pub differs : ℕ → ℕ → Bool

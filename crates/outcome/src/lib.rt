@@ -1,13 +1,13 @@
-// How a call ends. Document 01 numbers the first five, requests One, Two, Six, Twelve and Fourteen of document 02 the next eight. The numbers above 12 are our own:
+// How a call ends. Document 01 numbers the first four refusals, requests One, Two, Six, Twelve and Fourteen of document 02 the next eight. The numbers above 12 are our own:
 // no document gives one to "there is no such record", nor to a wrong buffer for one.
 #![tactic(auto)]
 
 ghost use Rattle.std.specs.Prelude.{◌≡◌};
-ghost use Rattle.outcome.specs.Outcomes.{number, is_done};
+ghost use Rattle.outcome.specs.Outcomes.{refusal_number, number};
 
-#[derive(Clone, Copy)]
-pub enum Outcome {
-    Done,
+// What a call is refused for.
+#[derive(Clone, Copy, PartialEq, Eq)]
+pub enum Refusal {
     ImageLength,
     InputLength,
     AnswerLength,
@@ -24,31 +24,38 @@ pub enum Outcome {
     RecordLength,
 }
 
+// `Ok` where the call was not refused.
+pub type Outcome = Result<(), Refusal>;
+
+impl From<Refusal> for u32 {
+    ghost from_gives = { λ refusal n. n ≡ refusal_number refusal };
+
+    fn from(refusal: Refusal) -> u32 {
+        match refusal {
+            Refusal::ImageLength => 1,
+            Refusal::InputLength => 2,
+            Refusal::AnswerLength => 3,
+            Refusal::BrokenImage => 4,
+            Refusal::LegCount => 5,
+            Refusal::RouteLength => 6,
+            Refusal::LegsApart => 7,
+            Refusal::BrokenLog => 8,
+            Refusal::NoRoom => 9,
+            Refusal::BadProfile => 10,
+            Refusal::PassThrough => 11,
+            Refusal::BadPattern => 12,
+            Refusal::NoRecord => 13,
+            Refusal::RecordLength => 14,
+        }
+    }
+}
+
+// 0 where the call was not refused.
 pub fn number(outcome: Outcome) -> u32
     ensures { result ≡ number outcome }
 {
     match outcome {
-        Outcome::Done => 0,
-        Outcome::ImageLength => 1,
-        Outcome::InputLength => 2,
-        Outcome::AnswerLength => 3,
-        Outcome::BrokenImage => 4,
-        Outcome::LegCount => 5,
-        Outcome::RouteLength => 6,
-        Outcome::LegsApart => 7,
-        Outcome::BrokenLog => 8,
-        Outcome::NoRoom => 9,
-        Outcome::BadProfile => 10,
-        Outcome::PassThrough => 11,
-        Outcome::BadPattern => 12,
-        Outcome::NoRecord => 13,
-        Outcome::RecordLength => 14,
+        Ok(()) => 0,
+        Err(refusal) => u32::from(refusal),
     }
-}
-
-// The call was not refused.
-pub fn is_done(outcome: Outcome) -> bool
-    ensures { result ≡ is_done outcome }
-{
-    number(outcome) == 0
 }

@@ -1,4 +1,5 @@
 -- Request Nine on bytes: what the call writes, when it is refused, and that both flags occur. Assumes nothing.
+use Rattle.std.specs.Prelude.{Err}
 use Rattle.laws.proofs.Prelude.{ℕ, ◌*◌, ◌<◌, ◌≤◌, ◌≡◌, refl, sym, ap, ◌∙◌, ◌↔◌, Bool, true, false, List, [], ◌∷◌, map, arith, eq-eqb, le-ltb, T, Float, binary32, fits, lt, mul, of_bits, length, get_or}
 use Rattle.laws.proofs.Prelude.{both}
 use lib.ListN.{get_or-map}
@@ -6,7 +7,7 @@ use Rattle.relay_math.specs.F32.{f32, 0·0, is_finite}
 use Rattle.words.specs.Words.{word, float, flag, bytes_of}
 use Rattle.latch.specs.Latch.{FliesAt}
 use Rattle.relay_geo.{specs.{declared.{set.RecoverableSet.RecoverableSet, shield.Thresholds.Thresholds}, Shield.{mend_thresholds, new_shield}}, proofs.SetUp.{enter_finite_positive, enter_below_exit}}
-use Rattle.outcome.{specs.{declared.Outcome.TheVariants.{Done, PassThrough}, Outcomes.{first_of, left}}, proofs.Tables.never_given}
+use Rattle.outcome.{specs.{declared.Refusal.TheVariants.PassThrough, Outcomes.{Done, first_of, left}}, proofs.Tables.never_given}
 use Rattle.slow_shield.specs.{Back.{look_back, flags_to, slow_flags}, Entry.{most_margins, margins_from, margins_in, flag_bytes, flags_table, flags_call}}
 use Rattle.slow_shield.specs.Stepping.{StepGiven, margins_given, stepped_flags}
 use Rattle.slow_shield.proofs.{Slow.{slow_flies_at, slow_is_stepping}, Loops.margins_length}
@@ -54,5 +55,5 @@ unfolding flags_call flag_bytes flags_to look_back margins_from float word mend_
 both_occur = refl
 
 -- 11 is "at set-up alone" (request Twelve)
-pub no_flags_give_eleven : (marginsLen flagsLen : ℕ) → ¬ (first_of (flags_table marginsLen flagsLen) ≡ PassThrough)
-no_flags_give_eleven marginsLen flagsLen = never_given PassThrough refl (flags_table marginsLen flagsLen) refl
+pub no_flags_give_eleven : (marginsLen flagsLen : ℕ) → ¬ (first_of (flags_table marginsLen flagsLen) ≡ Err PassThrough)
+no_flags_give_eleven marginsLen flagsLen = never_given PassThrough (flags_table marginsLen flagsLen) refl

@@ -2,6 +2,7 @@
 use Rattle.laws.proofs.Prelude.{ℕ, zero, suc, ◌+◌, ◌*◌, ◌/◌, ◌-◌, ◌<◌, ◌≤◌, ◌≡◌, refl, sym, ap, subst, ◌∙◌, Bool, true, false, not, ◌&&◌, ◌||◌, cond, List, [], ◌∷◌, ◌++◌, map, map-append}
 use Rattle.laws.proofs.Prelude.{le_of_suc-le-suc, add-one, arith, Float, nan, inf, fin, lt, le, length, get_or, set, length-map, sets, no, held, both}
 use lib.Ieee.Bits.{is_true}
+use mir.Val.{bool_byte}
 use Rattle.relay_math.{specs.F32.is_finite, proofs.Order.{finite_number, le_is_not_above, not_lt_of_le, within_finite}}
 use Rattle.words.{specs.Words.{float, flag}, proofs.Written.{sets_append, over_all}}
 use Rattle.latch.specs.Latch.{releases, engages}
@@ -83,6 +84,10 @@ never_flies enter exit p q o ms (suc k) = rw (releases_not enter exit (get_or ms
     either false = refl
 
 -- ---- one flag more
+
+pub byte_of : (b : Bool) → bool_byte b ≡ flag b
+byte_of true = refl
+byte_of false = refl
 
 pub one_more : (enter exit : Float) (ms : List Float) (b : List ℕ) (i : ℕ)
     → set (sets b 0 (map flag (flags_to enter exit ms i))) i (flag (look_back enter exit ms (i + 1))) ≡ sets b 0 (map flag (flags_to enter exit ms (i + 1)))

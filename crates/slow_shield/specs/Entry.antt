@@ -2,7 +2,7 @@
 use Rattle.std.specs.Prelude.{ℕ, zero, suc, ◌*◌, ◌/◌, List, [], ◌∷◌, map, ltb, Float, length}
 use Rattle.words.specs.Words.{float, flag}
 use Rattle.relay_geo.specs.Shield.{mend_thresholds}
-use Rattle.outcome.specs.declared.Outcome.TheVariants.{NoRoom}
+use Rattle.outcome.specs.declared.Refusal.TheVariants.{NoRoom}
 use Rattle.outcome.specs.Outcomes.{Table, first_of, differs, left_unless, Filled}
 use Rattle.slow_shield.specs.Back.{slow_flags}
 

@@ -1,9 +1,6 @@
-use Rattle.laws.proofs.Prelude.{◌≤◌}
+use Rattle.laws.proofs.Prelude.{◌*◌, ◌-◌}
 use Rattle.slow_shield.specs.Inner.{Between}
 use Rattle.slow_shield.proofs.blocks_passed_over.Given as goal
 
-abbrev pub invariant-loop-i : goal.invariant-loop-i
-invariant-loop-i l = (l.i ≤ l.count) × Between l.margins l.lo l.hi l.i l.count
-
-abbrev pub decreases-loop-i : goal.decreases-loop-i
-decreases-loop-i l = l.i
+abbrev pub invariant-loop-n : goal.invariant-loop-n
+invariant-loop-n l = Between l.margins l.lo l.hi (l.count - 64 * l.n) l.count

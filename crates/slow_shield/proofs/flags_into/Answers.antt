@@ -12,11 +12,8 @@ pub returns-then-margins-flags : goal.returns-then-margins-flags
 unfolding flags_call
 returns-then-margins-flags c = simp (ne_eqb _ _ c.if-margins-flags.true, le-ltb _ _ c.if-flags-gt-MOST_MARGINS.false)
 
-pub put_flags-requires : goal.put_flags-requires
-unfolding flags_call
-put_flags-requires c = let m = c.before in record { margins_len = m.if-margins-flags.false; enter_value = mended _ _ (held m.well_formed.1.0.1) m.mend-t.ensures }
+pub invariant_of-band : goal.invariant_of-band
+invariant_of-band c = record { ordered = mended _ _ (held c.well_formed.1.0.1) c.mend-t.ensures }
 
 pub returns : goal.returns
-returns c =
-    let put = c.before.before in let m = put.before.before in
-    finished _ _ _ _ m.if-margins-flags.false m.if-flags-gt-MOST_MARGINS.false m.mend-t.ensures put.put_flags.ensures
+returns c = finished _ _ _ _ c.if-margins-flags.false c.if-flags-gt-MOST_MARGINS.false c.mend-t.ensures c.put_flags.ensures

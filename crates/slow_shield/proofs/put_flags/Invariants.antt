@@ -1,11 +1,8 @@
-use Rattle.laws.proofs.Prelude.{◌≡◌, map, ◌-◌, ◌≤◌, length, sets}
+use Rattle.laws.proofs.Prelude.{◌≡◌, map, sets}
 use Rattle.words.specs.Words.{flag}
 use Rattle.slow_shield.specs.Back.{flags_to}
 use Rattle.slow_shield.specs.Entry.{margins_in}
 use Rattle.slow_shield.proofs.put_flags.Given as goal
 
 abbrev pub invariant-loop-i : goal.invariant-loop-i
-invariant-loop-i l = (l.i ≤ length l.initial.flags) × (length l.flags ≡ length l.initial.flags) × (l.flags ≡ sets l.initial.flags 0 (map flag (flags_to l.enter l.exit (margins_in l.margins) l.i)))
-
-abbrev pub decreases-loop-i : goal.decreases-loop-i
-decreases-loop-i l = length l.initial.flags - l.i
+invariant-loop-i l = l.flags ≡ sets l.initial.flags 0 (map flag (flags_to l.band.enter l.band.exit (margins_in l.margins) l.i))

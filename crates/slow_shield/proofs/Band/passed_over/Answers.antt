@@ -1,13 +1,13 @@
--- `slow_shield::passed_over`: what the first i margins say is what all say. Assumes nothing.
-use Rattle.laws.proofs.Prelude.{ℕ, zero, suc, ◌*◌, ◌-◌, ◌<◌, ◌≤◌, ◌≡◌, refl, ◌∙◌, inl, inr, true, List, eq-or-lt_of_le, le_of_suc-le-suc, arith, T, Float, binary32, fits, length, held}
+-- `slow_shield::Band::passed_over`: what the first i margins say is what all say. Assumes nothing.
+use Rattle.laws.proofs.Prelude.{ℕ, zero, suc, ◌+◌, ◌*◌, ◌-◌, ◌<◌, ◌≤◌, ◌≡◌, refl, sym, ◌∙◌, inl, inr, true, List, eq-or-lt_of_le, le_of_suc-le-suc, arith, T, Float, binary32, fits, length, held}
 use Rattle.relay_math.specs.F32.{is_finite}
 use Rattle.words.specs.Words.{word, float_of, float, bits}
 use Rattle.slow_shield.specs.Back.{look_back}
 use Rattle.slow_shield.specs.Entry.{margins_in}
 use Rattle.slow_shield.specs.Inner.{Between}
-use Rattle.slow_shield.proofs.Loops.{goes_on}
+use Rattle.slow_shield.proofs.Loops.{goes_on, at_start}
 use Rattle.slow_shield.proofs.Words.{in_band_word}
-use Rattle.slow_shield.proofs.passed_over.Goals as goal
+use Rattle.slow_shield.proofs.Band.passed_over.Goals as goal
 
 module _ (enter exit : Float) (p : is_finite enter ≡ true) (q : is_finite exit ≡ true) (f : T (fits binary32 enter)) (g : T (fits binary32 exit)) where
   module _ (lo hi : ℕ) (u : lo ≡ bits enter) (v : hi ≡ bits exit) (s : hi < 2139095040) (b : List ℕ) where
@@ -29,20 +29,18 @@ module _ (enter exit : Float) (p : is_finite enter ≡ true) (q : is_finite exit
 
 pub loop-i-init : goal.loop-i-init
 loop-i-init c =
-    let hi = c.before.before in let lo = hi.before in let start = lo.before.before in
-    let pre = start.requires in let e = c.blocks_passed_over-i.ensures in (
-      e.0,
-      over _ _ pre.enter_value.0 pre.enter_value.1 (held start.well_formed.1.0.1) (held start.well_formed.1.1.0.1) _ _ lo.bits_of-lo.ensures hi.bits_of-hi.ensures (omega arith) _ _ _ e.0 pre.count_in_bounds
-          e.1,
-    )
+    let e = c.blocks_passed_over-i.ensures in let fits = c.well_formed.0.1.1 in
+    over _ _ c.args.self.ordered.0 c.requires.exit_value (held fits.0.1) (held fits.1.0.1) _ _ c.bits_of-lo.ensures c.bits_of-hi.ensures c.if-hi-ge2139095040.false _ _ _ e.0 c.requires.count_in_bounds e.1
 
 pub loop-i-preserved : goal.loop-i-preserved
 loop-i-preserved c =
-    let read = c.before.before in let turn = read.before in let hi = turn.before.before.before.before in
-    let lo = hi.before in let start = lo.before.before in
-    let pre = start.requires in (
-      omega arith,
-      one _ _ pre.enter_value.0 pre.enter_value.1 (held start.well_formed.1.0.1) (held start.well_formed.1.1.0.1) _ _ lo.bits_of-lo.ensures hi.bits_of-hi.ensures (omega arith) _ _ _ (omega arith)
-          (omega arith) (omega (arith, read.word_at-w.ensures)) (omega (arith, read.word_at-w.ensures))
-          ∙ turn.loop-i.invariant.1,
-    )
+    let w = c.outside.ensures c.if-outside.false in let fits = c.well_formed.0.1.1 in
+    one _ _ c.args.self.ordered.0 c.requires.exit_value (held fits.0.1) (held fits.1.0.1) _ _ c.bits_of-lo.ensures c.bits_of-hi.ensures c.if-hi-ge2139095040.false _ _ _ (omega arith) (omega arith)
+    (omega (arith, w.0)) (omega (arith, w.1))
+    ∙ c.loop-i.invariant
+
+pub returns-then-outside : goal.returns-then-outside
+returns-then-outside c = let e : c.loop-i.i - 1 + 1 ≡ c.loop-i.i = omega arith in (omega arith, rw e c.loop-i.invariant)
+
+pub returns : goal.returns
+returns c = (omega arith, at_start _ _ _ 0 (omega arith) ∙ sym (at_start _ _ _ _ c.loop-i-test.false) ∙ c.loop-i.invariant)

@@ -1,9 +1,9 @@
 -- Level flight at rest: its margin is 1.75, so that a fresh shield whose exit is 1 gives the planner control in the very first tick, in either profile. Assumes nothing.
+use Rattle.std.specs.Prelude.{Some}
 use Rattle.laws.proofs.Prelude.{◌≡◌, refl, ap, ◌∙◌, true, false, ℕ, Float, of_bits, to_bits, round, add, sub, mul, div, neg, lt, le, eq}
 use Rattle.words.specs.Words.{word, float, vec}
 use Rattle.relay_math.specs.{F32.{f32, 0·0, 0·5, 1·0, 1·75, is_finite, grains}, Sqrt.sqrtf, Steps.{sinf, cosf, sincos, cut_square, sin_poly, cos_poly, to_float, fixed, reduce_of, turned, large}}
 use Rattle.relay_math.specs.declared.{Vec3.Vec3, BodyRate.BodyRate}
-use Rattle.relay_geo.specs.declared.{attitude.{Attitude.TheVariants.Matrix, Feedforward.TheVariants.Rate}, vectors.Direction.TheVariants.Axis}
 use Rattle.relay_geo.specs.Vectors.{9·81, cross, dot, normalize, identity3, prod3, matmul3, transposed_times}
 use Rattle.relay_geo.specs.{Attitude.{quat_to_rotmat, thrust_force, thrust_axis_ned, thrust_attitude, body_rate, flatness_omega_ff}, Controller.psi, Set.{new_set, margin}, Shield.{mend_thresholds, new_shield}}
 use Rattle.relay_geo.{proofs.AttitudeFigures.level, specs.declared.shield.SimplexShield.SimplexShield}
@@ -26,11 +26,11 @@ root_of_gravity : sqrtf (dot (0·0, 0·0, 9·81) (0·0, 0·0, 9·81)) ≡ 9·81
 unfolding sqrtf grains of_bits dot add mul
 root_of_gravity = refl
 
-upright : thrust_axis_ned zeros ≡ Axis (0·0, 0·0, 1·0)
+upright : thrust_axis_ned zeros ≡ Some (0·0, 0·0, 1·0)
 unfolding thrust_axis_ned thrust_force normalize sub div is_finite lt of_bits
 upright = rw root_of_gravity
 
-at_rest_lem : thrust_attitude zeros 0·0 ≡ Matrix identity3
+at_rest_lem : thrust_attitude zeros 0·0 ≡ Some identity3
 unfolding thrust_attitude
 at_rest_lem = rw (upright, level)
 
@@ -43,7 +43,7 @@ none_turning : body_rate 9·81 (0·0, 0·0, 1·0) zeros 0·0 identity3 ≡ none
 unfolding body_rate cross transposed_times dot is_finite of_bits add sub mul div neg
 none_turning = refl
 
-none_ahead : flatness_omega_ff zeros zeros 0·0 0·0 ≡ Rate none
+none_ahead : flatness_omega_ff zeros zeros 0·0 0·0 ≡ Some none
 unfolding flatness_omega_ff thrust_force is_finite lt le eq of_bits sub div
 none_ahead = rw (root_of_gravity, level, none_turning)
 
@@ -98,7 +98,7 @@ no_turning : (i 0 0).yaw_rate ≡ 0·0
 unfolding input_at float word
 no_turning = refl
 
-level_margin : margin (new_set 1·0 1·0 1·75) (psi identity3 identity3) (rate_sq (rate_error record { 0 = zeros } identity3 (Rate none) (Matrix identity3))) ≡ 1·75
+level_margin : margin (new_set 1·0 1·0 1·75) (psi identity3 identity3) (rate_sq (rate_error record { 0 = zeros } identity3 (Some none) (Some identity3))) ≡ 1·75
 unfolding margin psi prod3 matmul3 commanded rate_sq dot is_finite lt le of_bits add sub mul div
 level_margin = refl
 
@@ -118,7 +118,7 @@ module _ (yaw : ℕ) where
   unfolding set_up setup_at profile_at word
   lost = refl
 
-  tilt_margin : margin (new_set 1·0 1·0 1·75) (psi_to_axis identity3 (Axis (0·0, 0·0, 1·0))) (tilt_rate_sq record { 0 = zeros }) ≡ 1·75
+  tilt_margin : margin (new_set 1·0 1·0 1·75) (psi_to_axis identity3 (Some (0·0, 0·0, 1·0))) (tilt_rate_sq record { 0 = zeros }) ≡ 1·75
   unfolding margin dot is_finite lt le of_bits add sub mul div
   tilt_margin = refl
 

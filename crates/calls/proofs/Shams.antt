@@ -5,7 +5,7 @@ use native.Mathlib.Nat.{suc-ne-zero}
 use Rattle.words.specs.Words.{word, float}
 use Rattle.relay_geo.specs.Shield.{new_shield}
 use Rattle.joint_tick.{specs.{declared.{state.State.State, stages.Ticked.Ticked}, Profile.is_profile, SetUp.set_up, Tick.{reference_at, ticked, state_after}}, proofs.Shielding.tick_keeps_flag}
-use Rattle.outcome.specs.{declared.Outcome.TheVariants.Done, Outcomes.{left, Filled, lent, Called}}
+use Rattle.outcome.specs.{Outcomes.{Done, left, Filled, lent, Called}}
 use Rattle.image.specs.{Layout.{COUNT, ENGAGED, setup_profile, input_bytes}, Image.{state_at, image_of}, Inputs.{setup_at, input_at, answer_of}}
 use Rattle.image.proofs.Decoded.{count_written, engaged_written, decode_encode}
 use Rattle.lent_tick.{specs.{Unbroken.Unbroken, Tick.tick_from}, proofs.{NeverRefused.{set_up_fits, set_up_never_refused}, TickLeaves.unbroken_taken}}

@@ -10,8 +10,9 @@ use Rattle.image.specs.Layout.{image_bytes, setup_fc, setup_fs, setup_profile, s
 use Rattle.image.specs.Parts.{leg_at}
 use Rattle.image.specs.Image.{fixed_at, state_at, image_of}
 use Rattle.image.specs.Inputs.{setup_at}
-use Rattle.outcome.specs.declared.Outcome.{Outcome}
-use Rattle.outcome.specs.declared.Outcome.TheVariants.{Done, ImageLength, InputLength, BrokenImage, BadProfile, PassThrough}
+use Rattle.outcome.specs.Outcomes.{Outcome}
+use Rattle.outcome.specs.Outcomes.{Done}
+use Rattle.outcome.specs.declared.Refusal.TheVariants.{ImageLength, InputLength, BrokenImage, BadProfile, PassThrough}
 use Rattle.outcome.specs.Outcomes.{Table, first_of, differs, left_unless, Filled, Called}
 use Rattle.lent_tick.specs.Unbroken.{unbroken}
 use Rattle.lent_tick.specs.Tick.{tick_refusal, tick_from}

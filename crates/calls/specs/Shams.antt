@@ -2,7 +2,7 @@
 use Rattle.std.specs.Prelude.{ℕ, suc, ◌≡◌, List, [], ◌∷◌, ◌++◌, length, replicate}
 use Rattle.words.specs.Words.{bytes_of}
 use Rattle.image.specs.Layout.{image_bytes, answer_bytes, input_bytes}
-use Rattle.outcome.specs.declared.Outcome.TheVariants.{Done}
+use Rattle.outcome.specs.Outcomes.{Done}
 use Rattle.outcome.specs.Outcomes.{Filled, Called}
 use Rattle.calls.specs.Entry.{SetsUp, set_up_call, tick_call}
 

@@ -5,11 +5,12 @@ ghost use Rattle.lent_tick.specs.Unbroken.{unbroken};
 
 use image::fixed_at;
 use lent_tick::unbroken;
+use words::Words;
 
 pub(crate) fn unread_unbroken(image: &[u8]) -> bool
     requires { length image.now ≡ image_bytes }
     ensures { result ≡ unbroken image.now }
 {
-    let fixed = fixed_at(image, false);
+    let fixed = fixed_at(&Words::new(image));
     unbroken(image, fixed.segment, fixed.enter, fixed.exit)
 }

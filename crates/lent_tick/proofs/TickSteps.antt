@@ -7,7 +7,7 @@ use Rattle.relay_math.proofs.Order.{le_refl_of}
 use Rattle.relay_traj.{specs.Governor.Running, proofs.GovernorClock.never_nan}
 use Rattle.joint_tick.specs.{declared.{state.{State.State, TickInput.TickInput}, stages.Reference.Reference}, Tick.{guidance, state_after, shield_of as shieldOfState}}
 use Rattle.joint_tick.proofs.{Shielding.{tick_latch, tick_keeps_flag}, TickClock.time_never_back}
-use Rattle.outcome.{specs.{declared.Outcome.Outcome, Outcomes.Called}, proofs.Tables.either}
+use Rattle.outcome.{specs.{Outcomes.Outcome, Outcomes.Called}, proofs.Tables.either}
 use Rattle.image.{specs.{Layout.GOVERNOR, Parts.governor_at, Image.{moving_at, state_at, image_of}, Inputs.input_at}, proofs.Decoded.{decode_encode, time_written, state_fits}}
 use Rattle.lent_tick.specs.{Unbroken.Unbroken, Tick.tick_from, Steps.{margins_if, shield_at, stepped, Steps}}
 use Rattle.lent_tick.proofs.{RowFour.unbroken_has, NeverRefused.{tick_fits, tick_never_refused}}

@@ -9,17 +9,17 @@ ghost use Rattle.image.specs.Inner.{OwnWords, Unmoved};
 ghost use Rattle.lent_tick.specs.Inner.{left_moving, Leaves};
 
 use image::{moving_at, put_answer, put_next_state};
-use joint_tick::{Prepared, Profile, TickInput, Ticked};
+use joint_tick::{Moving, Prepared, Profile, TickInput, Ticked};
 use relay_adrc::GyroLpf;
 use relay_traj::RefGovernor;
+use words::Words;
 
 // What moves, read and prepared. What was read is gone from the stack then.
-pub fn read_and_prepare(image: &[u8], plain: bool, profile: Profile, given: TickInput) -> Prepared
-    requires fact_1 { length image.now ≡ image_bytes }
-    requires fact_2 { Plain plain image.now }
-    ensures { result ≡ prepare profile (moving_at image.now) given }
+pub fn read_and_prepare(image: &Words, profile: Profile, given: TickInput) -> Prepared
+    requires { length image.now.bytes.now ≡ image_bytes }
+    ensures { result ≡ prepare profile (moving_at image.now.bytes.now) given }
 {
-    joint_tick::prepare(profile, moving_at(image, plain), given)
+    joint_tick::prepare(profile, moving_at(image), given)
 }
 
 // What a tick leaves, over an image that is unbroken.
@@ -36,6 +36,12 @@ pub fn put_state_and_answer(
     requires fact_3 { OwnWords image.old × Unmoved (left_moving governor lpf done) (moving_at image.old) }
     ensures { Leaves (fixed_at image.old) governor lpf done image.new answer.new }
 {
-    put_next_state(image, plain, done.engaged, governor, done.rate, lpf);
+    let moving = Moving {
+        engaged: done.engaged,
+        governor,
+        rate: done.rate,
+        lpf,
+    };
+    put_next_state(image, plain, moving);
     put_answer(answer, done.answer);
 }

@@ -3,6 +3,8 @@
 
 mod ends; // ends.rt: what a tick reads before its reference is taken, and what it writes
 mod row_four; // row_four.rt: what an unbroken image is
+mod tick; // tick.rt: the tick, wherever its reference comes from
 
 pub use ends::{put_state_and_answer, read_and_prepare};
 pub use row_four::unbroken;
+pub use tick::{right_lengths, tick_toward};

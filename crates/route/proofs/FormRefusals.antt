@@ -1,15 +1,16 @@
 -- What a route tick is refused for, and what a route of the right form has. Assumes nothing.
-use Rattle.laws.proofs.Prelude.{◌≡◌, refl, sym, ap, ◌∙◌, Bool, true, false, cond, List, ℕ, ◌+◌, ◌*◌, ◌≤◌, ◌<◌, arith, ltb-false, eqb-false, eq-eqb, length}
-use Rattle.outcome.{specs.{declared.Outcome.{Outcome, TheVariants.{Done, BrokenImage}}, Outcomes.{is_done, left, lent}}, proofs.Tables.{done_none, in_turn, same, refused_keeps}}
-use Rattle.image.specs.Layout.{image_bytes, leg_bytes, input_bytes, answer_bytes}
-use Rattle.lent_tick.specs.{Unbroken.unbroken, Tick.{tick_table, tick_refusal, tick_from}}
+use Rattle.laws.proofs.Prelude.{◌≡◌, sym, ◌∙◌, false, cond, List, ℕ, ◌+◌, ◌*◌, ◌≤◌, ◌<◌, arith, ltb-false, eqb-false, eq-eqb, length}
+use Rattle.std.specs.Prelude.{Ok}
+use Rattle.outcome.{specs.{Outcomes.{Outcome, Done, is_done, left, lent}}, proofs.Tables.{done_none, in_turn, same, refused_keeps, accepted}}
+use Rattle.image.specs.Layout.{leg_bytes}
+use Rattle.lent_tick.specs.{Tick.{tick_table, tick_refusal, tick_from}}
 use Rattle.route.specs.{Form.{most_legs, route_trailer_bytes, leg_count, form_table, form_refusal}, Entry.{sample_byte_count, route_refusal, route_call, sample_refusal}}
 
 -- a tick's rows, then the route's own
 pub in_their_turn : (image : List ℕ) (inputLen answerLen : ℕ) (route : List ℕ)
     → let t = tick_refusal image inputLen answerLen in route_refusal image inputLen answerLen route ≡ cond (is_done t) (form_refusal route) t
 unfolding route_refusal tick_refusal form_refusal
-in_their_turn image inputLen answerLen route = in_turn (tick_table image inputLen answerLen) (form_table route) refl
+in_their_turn image inputLen answerLen route = in_turn (tick_table image inputLen answerLen) (form_table route)
 
 -- ---- a refused call changes no byte
 
@@ -17,12 +18,6 @@ pub refused_changes_nothing : (image input route answer : List ℕ) → let o = 
     is_done o ≡ false → route_call image input route answer ≡ left o (lent image answer)
 unfolding route_call tick_from
 refused_changes_nothing image input route answer e = refused_keeps (route_refusal image (length input) (length answer) route) _ _ e
-
--- a call of the right lengths whose image is broken
-pub broken : (image input route answer : List ℕ) {b : Bool} → length image ≡ image_bytes → length input ≡ input_bytes → length answer ≡ answer_bytes → b ≡ unbroken image → b ≡ false
-    → left BrokenImage (lent image answer) ≡ route_call image input route answer
-unfolding route_call tick_from route_refusal
-broken image input route answer l i a e n = simp (← e, n, eq-eqb (length image) image_bytes l, eq-eqb (length input) input_bytes i, eq-eqb (length answer) answer_bytes a)
 
 -- ---- by the route's form
 
@@ -32,12 +27,12 @@ pub record Formed (route : List ℕ) : Type 0 where
   pub few : leg_count route ≤ most_legs
   pub whole : leg_bytes * leg_count route ≤ length route
 
--- a function was asked for the form, and said f (t is whether f is done)
-module _ (route : List ℕ) {f : Outcome} {t : Bool} (e : f ≡ form_refusal route) (d : t ≡ is_done f) where
-  pub formed : t ≡ true → Formed route
+-- a function was asked for the form, and said f
+module _ (route : List ℕ) {f : Outcome} (e : f ≡ form_refusal route) where
+  pub formed : {u : Unit} → f ≡ Ok u → Formed route
   unfolding form_refusal
   formed n =
-      let r = done_none (form_table route) refl (ap is_done (sym e) ∙ sym d ∙ n) in
+      let r = done_none (form_table route) (accepted e n) in
       let count = leg_count route in
       record {
         trailer = ltb-false (length route) route_trailer_bytes (r 0);
@@ -52,11 +47,6 @@ module _ (route : List ℕ) {f : Outcome} {t : Bool} (e : f ≡ form_refusal rou
   -- where a tick is taken, the form decides
   pub form_decides : (image : List ℕ) (inputLen answerLen : ℕ) → Done ≡ tick_refusal image inputLen answerLen → f ≡ route_refusal image inputLen answerLen route
   form_decides image inputLen answerLen h = e ∙ sym (in_their_turn image inputLen answerLen route ∙ rw (sym h))
-
-  pub formless : (image input answer : List ℕ) → Done ≡ tick_refusal image (length input) (length answer) → t ≡ false → left f (lent image answer) ≡ route_call image input route answer
-  formless image input answer h n =
-      let p = form_decides image (length input) (length answer) h in
-      rw p (sym (refused_changes_nothing image input route answer (ap is_done (sym p) ∙ sym d ∙ n)))
 
   -- so where a sample's length is right
   pub form_decides_sample : (n : ℕ) → n ≡ sample_byte_count → f ≡ sample_refusal route n

@@ -1,7 +1,8 @@
 -- The joins in the request's words, over any count, and the order of refusals at work. Assumes nothing.
+use Rattle.std.specs.Prelude.{Err}
 use Rattle.laws.proofs.Prelude.{◌≡◌, refl, subst, inl, inr, ◌↔◌, true, false, List, [], ◌∷◌, ℕ, zero, suc, ◌+◌, ◌-◌, ◌≤◌, ◌<◌, eq-or-lt_of_le, arith, pos, Float, nan, inf, fin, eq, replicate, both}
 use Rattle.words.specs.Words.{bytes_of}
-use Rattle.outcome.specs.declared.Outcome.TheVariants.{LegCount, RouteLength}
+use Rattle.outcome.specs.declared.Refusal.TheVariants.{LegCount, RouteLength}
 use Rattle.route.specs.Form.{leg_of, legs_meet, meet_from, all_meet, leg_count, back_of, form_refusal}
 
 -- ---- "Legs meet": each leg but the first meets the one before it
@@ -47,23 +48,23 @@ infinities_meet = (refl, refl, refl)
 
 -- ---- "6 a route below 8 bytes; 5 .. 0 or above 32; 6 .."
 
-pub no_bytes : form_refusal [] ≡ RouteLength
+pub no_bytes : form_refusal [] ≡ Err RouteLength
 unfolding form_refusal leg_count back_of
 no_bytes = refl
 
-pub eight_zeros : form_refusal (replicate 8 0) ≡ LegCount
+pub eight_zeros : form_refusal (replicate 8 0) ≡ Err LegCount
 unfolding form_refusal leg_count back_of
 eight_zeros = refl
 
-pub many_legs_in_no_room : (form_refusal (bytes_of (32 ∷ 0 ∷ [])) ≡ RouteLength) × (form_refusal (bytes_of (33 ∷ 0 ∷ [])) ≡ LegCount)
+pub many_legs_in_no_room : (form_refusal (bytes_of (32 ∷ 0 ∷ [])) ≡ Err RouteLength) × (form_refusal (bytes_of (33 ∷ 0 ∷ [])) ≡ Err LegCount)
 unfolding form_refusal leg_count back_of
 many_legs_in_no_room = (refl, refl)
 
 -- 76 times 2^30 is 0 in 32 bits
-pub no_wrapping : form_refusal (bytes_of (1073741824 ∷ 0 ∷ [])) ≡ LegCount
+pub no_wrapping : form_refusal (bytes_of (1073741824 ∷ 0 ∷ [])) ≡ Err LegCount
 unfolding form_refusal leg_count back_of
 no_wrapping = refl
 
-pub one_leg_in_no_room : form_refusal (bytes_of (1 ∷ 76 ∷ [])) ≡ RouteLength
+pub one_leg_in_no_room : form_refusal (bytes_of (1 ∷ 76 ∷ [])) ≡ Err RouteLength
 unfolding form_refusal leg_count back_of
 one_leg_in_no_room = refl

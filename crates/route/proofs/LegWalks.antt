@@ -1,20 +1,14 @@
 -- One turn of each walk over a route's legs. Assumes nothing.
-use Rattle.laws.proofs.Prelude.{◌≡◌, sym, ap, ◌∙◌, Bool, true, false, not, ◌&&◌, List, ℕ, suc, ◌+◌, ◌-◌, ◌%◌, ◌<◌, ◌≤◌, add-one, arith, ltb, Float, binary32, eq, ne, lt}
+use Rattle.laws.proofs.Prelude.{◌≡◌, sym, ap, ◌∙◌, Bool, true, false, not, ◌&&◌, List, ℕ, suc, ◌+◌, ◌-◌, ◌/◌, ◌%◌, ◌<◌, ◌≤◌, add-one, arith, leb, ltb, le-leb, lt-leb, ltb-true, ltb-false, Float, binary32, eq, ne, lt}
 use lib.{Bits.{bit_or, bit_xor, xor_add_and, and_le_l, and_le_r}, Ieee.Bits.{nan_bits_above, nan_bits_is}}
 use Rattle.words.{specs.Words.{word, float, float_of}, proofs.Plain.none_of}
 use Rattle.relay_math.{specs.F32.{◌⊕◌, ◌⊖◌}, proofs.Order.differs_as_nan}
 use Rattle.route.specs.{Form.{leg_of, legs_meet, meet_from}, Legs.{Flown, duration_of, flown_from}}
 
--- ---- three tests one after another
+-- ---- three tests
 
 pub third : {a b c : Bool} → a ≡ true → b ≡ true → (a && b && c) ≡ c
 third p q = rw (p, q)
-
-pub second : {a b : Bool} (c : Bool) → a ≡ true → b ≡ false → (a && b && c) ≡ false
-second c p q = rw (p, q)
-
-pub first : {a : Bool} (b c : Bool) → a ≡ false → (a && b && c) ≡ false
-first b c p = rw p
 
 -- whether two words are the same number, by what was read of them
 pub met : (a : List ℕ) (j : ℕ) (b : List ℕ) (k : ℕ) {w x : ℕ} {r t : Bool} → w ≡ word a j → x ≡ word b k → r ≡ eq (float_of w) (float_of x) → r ≡ t
@@ -24,18 +18,20 @@ met a j b k p q e f = rw (← p, ← q, ← e) f
 
 -- ---- words
 
-back : (t u : Bool) → not t ≡ u → t ≡ not u
-back true u e = ap not e
-back false u e = ap not e
+at_most : (t : Bool) (a b : ℕ) → not t ≡ ltb b a → t ≡ leb a b
+at_most true a b e = sym (le-leb a b (ltb-false b a (sym e)))
+at_most false a b e = sym (lt-leb a b (ltb-true b a (sym e)))
 
 -- a word beside itself
-pub itself : {w x : ℕ} {t : Bool} → w ≡ x → ltb 0x7f80_0000 (w % 0x8000_0000) ≡ t → eq (float_of w) (float_of x) ≡ not t
-itself {w} {x} {t} p e =
-    rw (← p) (back (eq (float_of w) (float_of w)) t (unfold ne in differs_as_nan (float_of w) ∙ sym (nan_bits_is binary32 w) ∙ nan_bits_above binary32 w ∙ e))
+pub itself : {w x : ℕ} → w ≡ x → eq (float_of w) (float_of x) ≡ leb (w % 0x8000_0000) 0x7f80_0000
+itself {w} p = rw (← p) (at_most _ _ _ (unfold ne in differs_as_nan (float_of w) ∙ sym (nan_bits_is binary32 w) ∙ nan_bits_above binary32 w))
 
 -- what `^` leaves of two words is nothing only if they are the same
 pub same_of : (a b : ℕ) → bit_xor a b ≡ 0 → a ≡ b
 same_of a b e = omega (arith, xor_add_and a b, and_le_l a b, and_le_r a b)
+
+pub none_apart : (w x : ℕ) → bit_or (bit_xor w x) ((w % 0x8000_0000 + 0x7f_ffff) / 0x8000_0000) ≡ 0 → eq (float_of w) (float_of x) ≡ true
+none_apart w x e = let p = none_of _ _ e in itself (same_of w x p.0) ∙ le-leb (w % 0x8000_0000) 0x7f80_0000 (omega (arith, p.1))
 
 pub all_three : {x y z : Bool} {a b c : ℕ} → (a ≡ 0 → x ≡ true) → (b ≡ 0 → y ≡ true) → (c ≡ 0 → z ≡ true) → bit_or (bit_or a b) c ≡ 0 → (x && y && z) ≡ true
 all_three {x} {y} {z} {a} {b} {c} f g h e = let p = none_of (bit_or a b) c e in let q = none_of a b p.0 in third (f q.0) (g q.1) ∙ h p.1

@@ -13,7 +13,7 @@ less A B C h = omega arith
 
 rest_le : (X N L p q r : ℕ) → X * (q * r) ≤ (N * r + L * q) * p → (X * q - N * p) * r ≤ L * (p * q)
 rest_le X N L p q r h =
-    let a : r * (X * q) ≡ X * (q * r) = simp (mul_assoc, mul_comm, mul_left_comm) in
+    let a : r * (X * q) ≡ X * (q * r) = simp (mul_comm, mul_left_comm) in
     let b : (N * r + L * q) * p ≡ r * (N * p) + L * (p * q) = simp (add-mul, mul_assoc, mul_comm, mul_left_comm) in
     rw (mul_comm (X * q - N * p) r, mul-sub r (X * q) (N * p)) (less (r * (X * q)) (r * (N * p)) (L * (p * q)) (rw (a, ← b) h))
 

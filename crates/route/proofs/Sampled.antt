@@ -1,10 +1,10 @@
 -- What a sample of a route tells: the words, and what guides a tick at that time. Assumes nothing.
-use Rattle.laws.proofs.Prelude.{◌≡◌, refl, ap, List, ℕ, ◌≤◌, ◌<◌, lt_of_lt_of_le, le_trans, lit≤, length, Float}
+use Rattle.laws.proofs.Prelude.{◌≡◌, refl, List, ℕ, ◌≤◌, ◌<◌, lt_of_lt_of_le, le_trans, lit≤, length, Float}
 use Rattle.words.{specs.Words.{word, vec, Holds}, proofs.WordsBack.{word_back, vec_back}}
 use Rattle.relay_traj.specs.{declared.segment.Segment3.Segment3, Governor.Running, Quintic.{sample_at, eval}, Segment.eval3}
 use Rattle.joint_tick.specs.SetUp.{segment_of}
 use Rattle.image.{specs.Fits.FitsVec, proofs.Fitting.fitting}
-use Rattle.outcome.specs.{declared.Outcome.{Outcome, TheVariants.Done}, Outcomes.{is_done, left}}
+use Rattle.outcome.specs.{Outcomes.{Done, left}}
 use Rattle.route.specs.{declared.legs.Sampled.Sampled, Form.{most_legs, leg_of, leg_count, form_refusal}, Legs.{leg_flown, sample_of, sample_on, reference_on}}
 use Rattle.route.specs.Entry.{sample_byte_count, words_of_sample, sample_bytes, sample_call, on_route, reference_told}
 use Rattle.route.proofs.{LegFlown.{one_of_them, sampled_there}, FormRefusals.{formed, form_decides_sample}}
@@ -49,12 +49,12 @@ eval_of_the_leg b n time r = rw (sampled_there b time r n)
 module _ (route sample : List ℕ) (time : Float) (f : form_refusal route ≡ Done) (l : length sample ≡ sample_byte_count) where
   pub sampled_done : sample_call route time sample ≡ left Done (sample_bytes (sample_on route (leg_count route) time))
   unfolding sample_call
-  sampled_done = rw (← form_decides_sample route refl refl (length sample) l, f)
+  sampled_done = rw (← form_decides_sample route refl (length sample) l, f)
 
   -- what the bytes tell is what guides a tick on the route
   pub told_on_route : reference_told (sample_call route time sample).later ≡ on_route route time
   unfolding on_route reference_on
   told_on_route =
-      let k = formed route refl refl (ap (λ (o : Outcome). is_done o) f) in
+      let k = formed route refl f in
       let s = sample_told route (leg_count route) time k.some k.few in
       rw (sampled_done, s.acc, s.jerk)

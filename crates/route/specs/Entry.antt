@@ -2,8 +2,8 @@
 use Rattle.std.specs.Prelude.{ℕ, List, ◌∷◌, ◌++◌, Float, length}
 use Rattle.words.specs.Words.{vec, floats_of_vec, words_of, bytes_of}
 use Rattle.joint_tick.specs.declared.stages.Reference.{Reference}
-use Rattle.outcome.specs.declared.Outcome.{Outcome}
-use Rattle.outcome.specs.declared.Outcome.TheVariants.{AnswerLength}
+use Rattle.outcome.specs.Outcomes.{Outcome}
+use Rattle.outcome.specs.declared.Refusal.TheVariants.{AnswerLength}
 use Rattle.outcome.specs.Outcomes.{first_of, differs, left_unless, Filled, Called}
 use Rattle.lent_tick.specs.Tick.{tick_table, tick_from}
 use Rattle.route.specs.declared.legs.Sampled.{Sampled}

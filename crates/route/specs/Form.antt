@@ -7,8 +7,8 @@ use Rattle.relay_math.specs.declared.Vec3.{Vec3}
 use Rattle.joint_tick.specs.declared.state.Leg.{Leg}
 use Rattle.image.specs.Layout.{leg_words, leg_bytes}
 use Rattle.image.specs.Parts.{leg_at}
-use Rattle.outcome.specs.declared.Outcome.{Outcome}
-use Rattle.outcome.specs.declared.Outcome.TheVariants.{LegCount, RouteLength, LegsApart}
+use Rattle.outcome.specs.Outcomes.{Outcome}
+use Rattle.outcome.specs.declared.Refusal.TheVariants.{LegCount, RouteLength, LegsApart}
 use Rattle.outcome.specs.Outcomes.{Table, first_of, differs}
 
 -- the limit: everything but the check is over any count

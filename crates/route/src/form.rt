@@ -7,7 +7,7 @@ ghost use Rattle.image.specs.Parts.{leg_at};
 ghost use Rattle.route.specs.Form.{route_trailer_bytes, leg_count, back_of, vecs_meet, legs_meet, all_meet, form_refusal};
 
 use image::{LEG_BYTES, LEG_WORDS};
-use outcome::Outcome;
+use outcome::{Outcome, Refusal};
 use words::{float_of, four_bytes, word_at};
 
 // The limit: everything but the check is over any count.
@@ -16,6 +16,7 @@ pub const MOST_LEGS: usize = 32;
 pub const TRAILER_BYTES: usize = 8;
 
 // The trailer is the last 8 bytes, whatever the length.
+#[tactic(auto, unfolding(crate::specs::Form::leg_count))]
 pub(crate) fn leg_count(route: &[u8]) -> usize
     requires { route_trailer_bytes ≤ length route.now }
     ensures { result ≡ leg_count route.now }
@@ -23,6 +24,7 @@ pub(crate) fn leg_count(route: &[u8]) -> usize
     four_bytes(route, route.len() - TRAILER_BYTES) as usize
 }
 
+#[tactic(auto, unfolding(crate::specs::Form::back_of))]
 fn bytes_back(route: &[u8]) -> usize
     requires { route_trailer_bytes ≤ length route.now }
     ensures { result ≡ back_of route.now }
@@ -31,52 +33,40 @@ fn bytes_back(route: &[u8]) -> usize
 }
 
 // As numbers: -0.0 meets 0.0, and a NaN meets nothing. Mostly the words are the same, and then no float is made of them: a tick compares all joins.
+#[tactic(auto, using(crate::proofs::LegWalks::itself))]
 fn words_meet(w: u32, x: u32) -> bool
     ensures { result ≡ eq (float_of w) (float_of x) }
 {
     if w == x {
-        let size = w % 0x8000_0000;
-        if size > 0x7f80_0000 {
-            return false;
-        }
-        return true;
+        return w % 0x8000_0000 <= 0x7f80_0000;
     }
     float_of(w) == float_of(x)
 }
 
 // The vectors whose first words are these.
+#[tactic(auto, unfolding(crate::specs::Form::vecs_meet, words::specs::Words::vec, words::specs::Words::float))]
 fn vecs_meet(a: &[u8], j: usize, b: &[u8], k: usize) -> bool
     requires { (4 * j + 12 ≤ length a.now) × (4 * k + 12 ≤ length b.now) }
     ensures { result ≡ vecs_meet (vec a.now j) (vec b.now k) }
 {
-    if words_meet(word_at(a, j), word_at(b, k)) {
-        if words_meet(word_at(a, j + 1), word_at(b, k + 1)) {
-            words_meet(word_at(a, j + 2), word_at(b, k + 2))
-        } else {
-            false
-        }
-    } else {
-        false
-    }
+    words_meet(word_at(a, j), word_at(b, k))
+        && words_meet(word_at(a, j + 1), word_at(b, k + 1))
+        && words_meet(word_at(a, j + 2), word_at(b, k + 2))
 }
 
 // The legs whose first words are these. They may stand in different bytes: a pattern's are not a route's.
+#[tactic(auto, unfolding(crate::specs::Form::legs_meet, image::specs::Parts::leg_at))]
 pub fn legs_meet(earlier: &[u8], j: usize, later: &[u8], k: usize) -> bool
     requires { (4 * j + leg_bytes ≤ length earlier.now) × (4 * k + leg_bytes ≤ length later.now) }
     ensures { result ≡ legs_meet (leg_at earlier.now j) (leg_at later.now k) }
 {
-    if vecs_meet(later, k, earlier, j + 9) {
-        if vecs_meet(later, k + 3, earlier, j + 12) {
-            vecs_meet(later, k + 6, earlier, j + 15)
-        } else {
-            false
-        }
-    } else {
-        false
-    }
+    vecs_meet(later, k, earlier, j + 9)
+        && vecs_meet(later, k + 3, earlier, j + 12)
+        && vecs_meet(later, k + 6, earlier, j + 15)
 }
 
 // 0 only of words that meet since they are the same, and no NaN's: 0x7f_ffff more brings just a NaN's pattern to the top bit. Nothing is tested.
+#[tactic(auto, using(crate::proofs::LegWalks::none_apart))]
 fn words_apart(w: u32, x: u32) -> u32
     ensures { result ≡ 0 → eq (float_of w) (float_of x) ≡ true }
 {
@@ -92,6 +82,7 @@ fn vecs_apart(a: &[u8], j: usize, b: &[u8], k: usize) -> u32
         | words_apart(word_at(a, j + 2), word_at(b, k + 2))
 }
 
+#[tactic(auto, using(crate::proofs::LegWalks::all_three), unfolding(crate::specs::Form::legs_meet, image::specs::Parts::leg_at))]
 fn legs_apart(earlier: &[u8], j: usize, later: &[u8], k: usize) -> u32
     requires { (4 * j + leg_bytes ≤ length earlier.now) × (4 * k + leg_bytes ≤ length later.now) }
     ensures { result ≡ 0 → legs_meet (leg_at earlier.now j) (leg_at later.now k) ≡ true }
@@ -107,12 +98,10 @@ fn all_alike(route: &[u8], count: usize) -> bool
     requires { leg_bytes * count ≤ length route.now }
     ensures { result ≡ true → all_meet route.now count ≡ true }
 {
-    let mut i = 1;
-    while i < count {
+    for i in 1..count {
         if legs_apart(route, LEG_WORDS * (i - 1), route, LEG_WORDS * i) != 0 {
             return false;
         }
-        i += 1;
     }
     true
 }
@@ -125,39 +114,33 @@ fn all_meet(route: &[u8], count: usize) -> bool
     if all_alike(route, count) {
         return true;
     }
-    let mut i = 1;
-    while i < count {
+    for i in 1..count {
         if !legs_meet(route, LEG_WORDS * (i - 1), route, LEG_WORDS * i) {
             return false;
         }
-        i += 1;
     }
     true
 }
 
 // What a route is refused for. The count is tested before it is multiplied: 76 times 2^30 is 0 in 32 bits.
+#[tactic(auto, unfolding(crate::specs::Form::form_refusal))]
 pub(crate) fn form_refusal(route: &[u8]) -> Outcome
     ensures { result ≡ form_refusal route.now }
 {
     let length = route.len();
     if length < TRAILER_BYTES {
-        return Outcome::RouteLength;
+        return Err(Refusal::RouteLength);
     }
     let count = leg_count(route);
-    if count == 0 {
-        return Outcome::LegCount;
+    if count == 0 || count > MOST_LEGS {
+        return Err(Refusal::LegCount);
     }
-    if count > MOST_LEGS {
-        return Outcome::LegCount;
-    }
-    if bytes_back(route) != LEG_BYTES * count {
-        return Outcome::RouteLength;
-    }
-    if length != LEG_BYTES * count + TRAILER_BYTES {
-        return Outcome::RouteLength;
+    let legs = LEG_BYTES * count;
+    if bytes_back(route) != legs || length != legs + TRAILER_BYTES {
+        return Err(Refusal::RouteLength);
     }
     if !all_meet(route, count) {
-        return Outcome::LegsApart;
+        return Err(Refusal::LegsApart);
     }
-    Outcome::Done
+    Ok(())
 }

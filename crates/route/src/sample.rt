@@ -6,7 +6,7 @@ ghost use Rattle.route.specs.Entry.{sample_byte_count, sample_bytes, sample_call
 
 use super::form::{form_refusal, leg_count};
 use super::legs::{Sampled, sample_on};
-use outcome::{Outcome, is_done};
+use outcome::{Outcome, Refusal};
 use words::{put_vec, put_word};
 
 pub const SAMPLE_BYTES: usize = 52;
@@ -37,12 +37,9 @@ pub fn route_sample(route: &[u8], time: f32, sample: &mut [u8]) -> Outcome
     ensures { left result sample.new ≡ sample_call route.now time sample.old }
 {
     if sample.len() != SAMPLE_BYTES {
-        return Outcome::AnswerLength;
+        return Err(Refusal::AnswerLength);
     }
-    let form = form_refusal(route);
-    if !is_done(form) {
-        return form;
-    }
+    form_refusal(route)?;
     put_sample(sample, sample_on(route, leg_count(route), time));
-    Outcome::Done
+    Ok(())
 }

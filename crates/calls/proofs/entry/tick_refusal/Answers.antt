@@ -1,24 +1,19 @@
--- `calls::entry::tick_refusal` meets its contract: what its calls ensure, put together. Assumes nothing.
-use Rattle.laws.proofs.Prelude.{eq-eqb, ne_eqb}
-use Rattle.lent_tick.specs.Tick.{tick_refusal}
+-- `calls::entry::tick_refusal`: rows 1 to 3, then row 4. Assumes nothing.
+use Rattle.std.proofs.Common.{rules}
+use Rattle.std.specs.Prelude.{Err}
+use Rattle.laws.proofs.Prelude.{◌≡◌, sym}
+use Rattle.lent_tick.proofs.TickLeaves.{is_unbroken, unbroken_taken, wrong_length, lengths, row_four_broken}
 use Rattle.calls.proofs.entry.tick_refusal.Goals as goal
 
-pub returns-then-image-ne-IMAGE_BYTES : goal.returns-then-image-ne-IMAGE_BYTES
-unfolding tick_refusal
-returns-then-image-ne-IMAGE_BYTES c = simp (ne_eqb _ _ c.if-image-ne-IMAGE_BYTES.true)
-
-pub returns-then-input_len-ne-INPUT_BYTES : goal.returns-then-input_len-ne-INPUT_BYTES
-unfolding tick_refusal
-returns-then-input_len-ne-INPUT_BYTES c = simp (ne_eqb _ _ c.if-input_len-ne-INPUT_BYTES.true, eq-eqb _ _ c.if-image-ne-IMAGE_BYTES.false)
-
-pub returns-then-answer_len-ne-ANSWER_BYTES : goal.returns-then-answer_len-ne-ANSWER_BYTES
-unfolding tick_refusal
-returns-then-answer_len-ne-ANSWER_BYTES c = simp (ne_eqb _ _ c.if-answer_len-ne-ANSWER_BYTES.true, eq-eqb _ _ c.if-input_len-ne-INPUT_BYTES.false, eq-eqb _ _ c.if-image-ne-IMAGE_BYTES.false)
+pub returns-in_err-right_lengths : goal.returns-in_err-right_lengths
+returns-in_err-right_lengths c =
+    let handed : c.from_residual.result ≡ Err c.in_err-right_lengths.field-0.0 = search rules in
+    rw handed (sym (wrong_length c.args.image.now c.args.input_len c.args.answer_len c.right_lengths.ensures c.in_err-right_lengths.was))
 
 pub returns-then-unread_unbroken : goal.returns-then-unread_unbroken
-unfolding tick_refusal
-returns-then-unread_unbroken c = let l = c.before.before in simp (← c.unread_unbroken.ensures, c.if-unread_unbroken.true, eq-eqb _ _ l.if-answer_len-ne-ANSWER_BYTES.false, eq-eqb _ _ l.if-input_len-ne-INPUT_BYTES.false, eq-eqb _ _ l.if-image-ne-IMAGE_BYTES.false)
+returns-then-unread_unbroken c =
+    let l = lengths c.args.image.now c.args.input_len c.args.answer_len c.right_lengths.ensures c.in_ok-right_lengths.was in
+    unbroken_taken _ _ _ (is_unbroken l.0 c.unread_unbroken.ensures c.if-unread_unbroken.true) l.1 l.2
 
 pub returns : goal.returns
-unfolding tick_refusal
-returns c = let l = c.before.before in simp (← c.unread_unbroken.ensures, c.if-unread_unbroken.false, eq-eqb _ _ l.if-answer_len-ne-ANSWER_BYTES.false, eq-eqb _ _ l.if-input_len-ne-INPUT_BYTES.false, eq-eqb _ _ l.if-image-ne-IMAGE_BYTES.false)
+returns c = sym (row_four_broken c.args.image.now c.args.input_len c.args.answer_len c.right_lengths.ensures c.in_ok-right_lengths.was c.unread_unbroken.ensures c.if-unread_unbroken.false)

@@ -25,15 +25,14 @@ axes b k = rw (axis_of b k 1, axis_of b k 2)
 pub returns : goal.returns
 unfolding reference_of sample_of reference_at
 returns c =
-    let y = c.before.before.before in let x = y.before.before in
     simp (
       axes,
       c.reference_at.ensures,
       c.of_mended-z.ensures,
       c.axis_at-3.ensures,
-      y.of_mended-y.ensures,
-      y.axis_at-2.ensures,
-      x.of_mended-x.ensures,
-      x.axis_at.ensures,
-      x.float_at-t.ensures,
+      c.of_mended-y.ensures,
+      c.axis_at-2.ensures,
+      c.of_mended-x.ensures,
+      c.axis_at.ensures,
+      c.float_at-t.ensures,
     )

@@ -5,8 +5,8 @@ use Rattle.route.proofs.legs.sample_on.Goals as goal
 
 pub returns-then-before-count : goal.returns-then-before-count
 unfolding sample_on
-returns-then-before-count c = let t = c.before.before in of_the_found (sample_of _) c.sample_of.ensures (t.passed-before.ensures.on t.if-before-count.true)
+returns-then-before-count c = of_the_found (sample_of _) c.sample_of.ensures (c.passed-before.ensures.on c.if-before-count.true)
 
 pub returns : goal.returns
 unfolding sample_on
-returns c = let d = c.before in let t = d.before in of_the_found (sample_of _) (c.sample_of-2.ensures ∙ ap (sample_of _ _) d.duration_of.ensures) (t.passed-before.ensures.past t.if-before-count.false)
+returns c = of_the_found (sample_of _) (c.sample_of-2.ensures ∙ ap (sample_of _ _) c.duration_of.ensures) (c.passed-before.ensures.past c.if-before-count.false)

@@ -6,7 +6,4 @@ use Rattle.route.proofs.sample.put_sample.Goals as goal
 pub returns : goal.returns
 unfolding sample_bytes
 returns c =
-    let jerk = c.before.before in let acc = jerk.before.before.before.before in let vel = acc.before.before.before.before in
-    let pos = vel.before.before.before.before in let leg = pos.before.before.before.before in
-    whole (then (then (then (then leg.put_word.ensures pos.put_vec.ensures refl) vel.put_vec-2.ensures refl) acc.put_vec-3.ensures refl) jerk.put_vec-4.ensures refl)
-    leg.requires.0
+    whole (then (then (then (then c.put_word.ensures c.put_vec.ensures refl) c.put_vec-2.ensures refl) c.put_vec-3.ensures refl) c.put_vec-4.ensures refl) c.requires.0

@@ -4,7 +4,7 @@ use Rattle.laws.proofs.Prelude.{add-one, arith, le-ltb, eq-eqb, ne_eqb, ltb-fals
 use Rattle.laws.proofs.Prelude.{get_or-append-add, no, both}
 use Rattle.words.{specs.Words.{four_bytes, word, float, float_of, vec, bytes_of as word_bytes}, proofs.WordsBack.{four_after, word_bytes_of}}
 use Rattle.image.specs.{Layout.leg_bytes, Parts.leg_at}
-use Rattle.outcome.{specs.{declared.Outcome.TheVariants.Done, Outcomes.{is_done, left}}, proofs.Tables.{done_none, refused_keeps, either}}
+use Rattle.outcome.{specs.{Outcomes.{Done, is_done, left}}, proofs.Tables.{done_none, refused_keeps, either}}
 use Rattle.route.{specs.Form.{route_trailer_bytes, most_legs, leg_count, back_of, leg_of, legs_meet, form_refusal, all_meet as routeMeets}, proofs.Joins.joins_say}
 use Rattle.pattern.specs.{Tree.{Pattern, flown_legs, times, repeat, pattern_bytes, WithinLimits}, Read.{Read, broken, is, read}}
 use Rattle.pattern.specs.Entry.{DEEPEST, joined, route_length, route_of, flown_meet, legs_read, legs_of, expand_table, expand_refusal, buffers, Expanded, with_route, expand_call, expanded_call}
@@ -138,7 +138,7 @@ pub record Taken (b : List ℕ) (routeLen : ℕ) : Type 0 where
 pub taken : (b : List ℕ) (routeLen writtenLen : ℕ) → is_done (expand_refusal b routeLen writtenLen) ≡ true → Taken b routeLen
 unfolding expand_refusal
 taken b routeLen writtenLen e =
-    let t = done_none (expand_table b routeLen writtenLen) refl e in let n = length (legs_of b) in
+    let t = done_none (expand_table b routeLen writtenLen) e in let n = length (legs_of b) in
     record {
       some = pos n (eqb-false n 0 (t 2));
       few = ltb-false most_legs n (t 3);

@@ -1,7 +1,8 @@
 -- What a call's outcome says of the bytes that it was given: done, they are a pattern's; 7, two neighbours do not meet. Assumes nothing.
+use Rattle.std.specs.Prelude.{Err}
 use Rattle.laws.proofs.Prelude.{◌≡◌, refl, sym, subst, ◌∙◌, Bool, true, false, not, ◌&&◌, List, [], ◌∷◌, ◌++◌, ℕ, suc, ◌≤◌, ◌<◌, suc-le-suc, zero-lt-suc, arith, length, get_or, take, no}
 use Rattle.image.specs.Parts.{leg_at}
-use Rattle.outcome.{specs.{declared.Outcome.{Outcome, TheVariants.{Done, PassThrough, LegsApart}}, Outcomes.{is_done, Table, first_of, left}}, proofs.Tables.{never_given, either}}
+use Rattle.outcome.{specs.{declared.Refusal.{Refusal, TheVariants.{PassThrough, LegsApart}}, Outcomes.{Done, is_done, Table, first_of, left}}, proofs.Tables.{never_given, either}}
 use Rattle.route.specs.Form.{legs_meet}
 use Rattle.pattern.specs.{Tree.{Pattern, flown_legs}, Read.{Read, broken, is, read}, Entry.{DEEPEST, flown_meet, legs_read, legs_of, expand_table, expand_refusal, Expanded, with_route, expand_call}}
 use Rattle.pattern.proofs.{ReadBack.{Bytes, Written, writes_back}, Flies.taken}
@@ -48,13 +49,13 @@ abbrev earlier : List ℕ → ℕ → ℕ → Table
 earlier b routeLen writtenLen = take 5 (expand_table b routeLen writtenLen)
 
 -- a last row that does not hold gives nothing
-idle : (rows : Table) (o : Outcome) → first_of (rows ++ (false, o) ∷ []) ≡ first_of rows
+idle : (rows : Table) (o : Refusal) → first_of (rows ++ (false, o) ∷ []) ≡ first_of rows
 idle [] o = refl
 idle ((true, x) ∷ rows) o = refl
 idle ((false, x) ∷ rows) o = idle rows o
 
 -- 7 is given only if two neighbours do not meet
-pub seven_apart : (b : List ℕ) (routeLen writtenLen : ℕ) → expand_refusal b routeLen writtenLen ≡ LegsApart → Apart (legs_of b)
+pub seven_apart : (b : List ℕ) (routeLen writtenLen : ℕ) → expand_refusal b routeLen writtenLen ≡ Err LegsApart → Apart (legs_of b)
 unfolding expand_refusal
 seven_apart b routeLen writtenLen e = go (flown_meet (legs_of b)) refl
   where
@@ -63,9 +64,9 @@ seven_apart b routeLen writtenLen e = go (flown_meet (legs_of b)) refl
 
     go : (t : Bool) → flown_meet (legs_of b) ≡ t → Apart (legs_of b)
     go false p = find_apart (legs_of b) p
-    go true p = absurd (never_given LegsApart refl rows refl (sym (idle rows LegsApart) ∙ subst (λ (t : Bool). first_of (rows ++ (not t, LegsApart) ∷ []) ≡ LegsApart) p e))
+    go true p = absurd (never_given LegsApart rows refl (sym (idle rows LegsApart) ∙ subst (λ (t : Bool). first_of (rows ++ (not t, LegsApart) ∷ []) ≡ Err LegsApart) p e))
 
 -- 11 is "at set-up alone" (request Twelve)
-pub no_expansion_gives_eleven : (b : List ℕ) (routeLen writtenLen : ℕ) → ¬ (expand_refusal b routeLen writtenLen ≡ PassThrough)
+pub no_expansion_gives_eleven : (b : List ℕ) (routeLen writtenLen : ℕ) → ¬ (expand_refusal b routeLen writtenLen ≡ Err PassThrough)
 unfolding expand_refusal
-no_expansion_gives_eleven b routeLen writtenLen = never_given PassThrough refl (expand_table b routeLen writtenLen) refl
+no_expansion_gives_eleven b routeLen writtenLen = never_given PassThrough (expand_table b routeLen writtenLen) refl

@@ -3,7 +3,8 @@ use Rattle.laws.proofs.Prelude.{◌≡◌, sym, ap, subst, inl, inr, List, [], �
 use Rattle.laws.proofs.Prelude.{length-take-le, take_all, le_or_lt}
 use Rattle.image.specs.Layout.{leg_bytes}
 use Rattle.outcome.proofs.Tables.{by_test_lem}
-use Rattle.pattern.specs.{declared.form.Head.{Head, TheVariants.{Neither, Leg, Repeat}}, Tree.{times, flown_legs}}
+use Rattle.std.proofs.Common.{Option, Some, None}
+use Rattle.pattern.specs.{declared.form.Head.{Head, TheVariants.{Leg, Repeat}}, Tree.{times, flown_legs}}
 use Rattle.pattern.specs.{Read.{Read, broken, is, head_of, size_of, repeated, item_of, before, items_of, read}, Walk.leg_in}
 use Rattle.pattern.proofs.{Heads.{Room, head_room}, Trees.flown_append}
 
@@ -36,11 +37,11 @@ long_repeated n broken a = tt
 long_repeated n (is p) a = subst AllLong (sym (append-nil (times n (flown_legs p)))) (long_times n (flown_legs p) a)
 
 module _ (inside : List ℕ → Read) (f : (b : List ℕ) → Long (inside b)) where
-  long_item : (b : List ℕ) (h : Head) → Room (length b) h → Long (item_of inside b h)
+  long_item : (b : List ℕ) (h : Option Head) → Room (length b) h → Long (item_of inside b h)
   unfolding item_of flown_legs
-  long_item b Neither r = tt
-  long_item b Leg r = (length-take-le leg_bytes (drop 1 b) (omega (arith, r, length-drop 1 b)), tt)
-  long_item b (Repeat n len) r = long_repeated n (inside (take len (drop 4 b))) (f (take len (drop 4 b)))
+  long_item b None r = tt
+  long_item b (Some Leg) r = (length-take-le leg_bytes (drop 1 b) (omega (arith, r, length-drop 1 b)), tt)
+  long_item b (Some (Repeat n len)) r = long_repeated n (inside (take len (drop 4 b))) (f (take len (drop 4 b)))
 
   long_items : (n : ℕ) (b : List ℕ) → Long (items_of inside n b)
   unfolding items_of flown_legs

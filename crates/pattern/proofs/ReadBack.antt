@@ -3,14 +3,15 @@ use Rattle.laws.proofs.Prelude.{◌≡◌, refl, sym, ap, subst, ◌∙◌, inl,
 use Rattle.laws.proofs.Prelude.{length-append, length-drop, take-append-drop, take_at, drop_at, get_or-take, get_or-drop, length-take-le, le_or_lt}
 use lib.{ListN.get_or-eq_default, Seq.{drop-cons, drop-drop}}
 use Rattle.image.specs.Layout.{leg_bytes}
-use Rattle.pattern.specs.{declared.form.Head.{Head, TheVariants.{Neither, Leg, Repeat}}, Tree.{Pattern, nothing, leg, repeat, pattern_bytes, WithinLimits}}
+use Rattle.std.proofs.Common.{Option, Some, None}
+use Rattle.pattern.specs.{declared.form.Head.{Head, TheVariants.{Leg, Repeat}}, Tree.{Pattern, nothing, leg, repeat, pattern_bytes, WithinLimits}}
 use Rattle.pattern.specs.Read.{Read, broken, is, head_of, size_of, repeated, item_of, append, before, items_of, read, inside_of, item_within}
 use Rattle.pattern.proofs.{Heads.{a_leg, a_repeat, Room, head_room, Tags, head_tags, size_some}, Trees.{read_none, read_here, items_none, items_here}}
 
 -- ---- what was written is read: for every pattern at most so deep that has bytes
 
 module _ (depth : ℕ) (l : List ℕ) (more : Pattern) (long : length l ≡ leg_bytes) where
-  leg_starts : Leg ≡ head_of (pattern_bytes (leg l more))
+  leg_starts : Some Leg ≡ head_of (pattern_bytes (leg l more))
   unfolding pattern_bytes
   leg_starts = a_leg (pattern_bytes (leg l more)) refl refl refl (le-ltb (length (pattern_bytes (leg l more))) 77 (omega (arith, length-append l (pattern_bytes more))))
 
@@ -21,18 +22,18 @@ module _ (depth : ℕ) (l : List ℕ) (more : Pattern) (long : length l ≡ leg_
       let item : item_within depth s ≡ is (leg l nothing) =
       ap (item_of (inside_of depth) s) (sym leg_starts) ∙ ap (λ (x : List ℕ). is (leg x nothing)) (take_at l (pattern_bytes more) leg_bytes long) in
       let after : drop (size_of (head_of s)) s ≡ pattern_bytes more =
-      ap (λ (h : Head). drop (size_of h) s) (sym leg_starts) ∙ drop_at (0 ∷ l) (pattern_bytes more) (1 + leg_bytes) (omega (arith, long)) in
+      ap (λ (h : Option Head). drop (size_of h) s) (sym leg_starts) ∙ drop_at (0 ∷ l) (pattern_bytes more) (1 + leg_bytes) (omega (arith, long)) in
       read_here depth s (omega (arith, length-append l (pattern_bytes more))) ∙ rw (item, after, r)
 
 module _ (depth n : ℕ) (inner more : Pattern) (some : 1 ≤ n) (few : n ≤ 9) where
-  repeat_starts : Repeat n (length (pattern_bytes inner)) ≡ head_of (pattern_bytes (repeat n inner more))
+  repeat_starts : Some (Repeat n (length (pattern_bytes inner))) ≡ head_of (pattern_bytes (repeat n inner more))
   unfolding pattern_bytes
   repeat_starts =
       let len = length (pattern_bytes inner) in let s = pattern_bytes (repeat n inner more) in
       let e : len ≡ len % 256 + 256 * (len / 256) = omega arith in
       let all = length-append (pattern_bytes inner) (pattern_bytes more) in
-      ap (Repeat n) e
-      ∙ a_repeat s refl refl refl refl (le-ltb (length s) 4 (omega arith)) refl (ne_eqb n 0 (λ z. omega arith)) (le-ltb 9 n few) refl refl
+      ap (λ (k : ℕ). Some (Repeat n k)) e
+      ∙ a_repeat s refl refl refl refl (le-ltb (length s) 4 (omega arith)) refl (ne_eqb n 0 (λ z. omega arith)) (le-ltb 9 n few) refl
       (le-ltb (length s - 4) (len % 256 + 256 * (len / 256)) (omega (arith, e, all)))
 
   repeat_back : read depth (pattern_bytes inner) ≡ is inner → read (suc depth) (pattern_bytes more) ≡ is more
@@ -45,7 +46,7 @@ module _ (depth n : ℕ) (inner more : Pattern) (some : 1 ≤ n) (few : n ≤ 9)
       ∙ ap (λ (x : List ℕ). repeated n (read depth x)) (take_at (pattern_bytes inner) (pattern_bytes more) len refl) ∙ ap (repeated n) i in
       let front : List ℕ = 1 ∷ n ∷ len % 256 ∷ len / 256 ∷ pattern_bytes inner in
       let after : drop (size_of (head_of s)) s ≡ pattern_bytes more =
-      ap (λ (h : Head). drop (size_of h) s) (sym repeat_starts) ∙ drop_at front (pattern_bytes more) (4 + len) (omega arith) in
+      ap (λ (h : Option Head). drop (size_of h) s) (sym repeat_starts) ∙ drop_at front (pattern_bytes more) (4 + len) (omega arith) in
       read_here (suc depth) s (omega arith) ∙ rw (item, after, r)
 
 pub reads_back : (depth : ℕ) (p : Pattern) → WithinLimits depth p → read depth (pattern_bytes p) ≡ is p
@@ -142,7 +143,7 @@ leg_right depth b more r t w =
       fits = (length-take-le leg_bytes (drop 1 b) (omega (arith, length-drop 1 b)), w.fits);
     }
 
-repeat_right : (depth : ℕ) (b : List ℕ) (n len : ℕ) (inner more : Pattern) → Bytes b → Room (length b) (Repeat n len) → Tags b (Repeat n len)
+repeat_right : (depth : ℕ) (b : List ℕ) (n len : ℕ) (inner more : Pattern) → Bytes b → Room (length b) (Some (Repeat n len)) → Tags b (Some (Repeat n len))
     → pattern_bytes inner ≡ take len (drop 4 b) → Inner depth inner → Written depth (drop (4 + len) b) more
     → Written depth b (append (repeat n inner nothing) more)
 unfolding append pattern_bytes
@@ -166,12 +167,12 @@ repeat_right depth b n len inner more y r t i f w =
 
 module _ (depth : ℕ) (inside : List ℕ → Read) (right : (c : List ℕ) (q : Pattern) → Bytes c → inside c ≡ is q → (pattern_bytes q ≡ c) × Inner depth q) where
   -- by what the bytes start with, where the rest is right
-  item_right : (b : List ℕ) (h : Head) (first second : Pattern) → Bytes b → Room (length b) h → Tags b h → item_of inside b h ≡ is first
+  item_right : (b : List ℕ) (h : Option Head) (first second : Pattern) → Bytes b → Room (length b) h → Tags b h → item_of inside b h ≡ is first
       → Written depth (drop (size_of h) b) second → Written depth b (append first second)
   unfolding item_of size_of
-  item_right b Neither first second y r t e w = let z : ◌≡◌ {A = ℕ} 0 1 = cc in absurd (omega arith)
-  item_right b Leg first second y r t e w = let f : first ≡ leg (take leg_bytes (drop 1 b)) nothing = cc in rw f (leg_right depth b second r t w)
-  item_right b (Repeat n len) first second y r t e w =
+  item_right b None first second y r t e w = let z : ◌≡◌ {A = ℕ} 0 1 = cc in absurd (omega arith)
+  item_right b (Some Leg) first second y r t e w = let f : first ≡ leg (take leg_bytes (drop 1 b)) nothing = cc in rw f (leg_right depth b second r t w)
+  item_right b (Some (Repeat n len)) first second y r t e w =
       let g = body n (inside (take len (drop 4 b))) first e in
       let i = right (take len (drop 4 b)) g.inner (bytes_take (drop 4 b) len (bytes_drop b 4 y)) g.inner_is in
       rw g.whole (repeat_right depth b n len g.inner second y r t i.0 i.1 w)

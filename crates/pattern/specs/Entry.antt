@@ -4,8 +4,8 @@ use Rattle.std.proofs.lemmas.List.Edits.{sets}
 use Rattle.words.specs.Words.{bytes_of}
 use Rattle.image.specs.Layout.{leg_bytes}
 use Rattle.image.specs.Parts.{leg_at}
-use Rattle.outcome.specs.declared.Outcome.{Outcome}
-use Rattle.outcome.specs.declared.Outcome.TheVariants.{InputLength, BadPattern, LegCount, NoRoom, LegsApart}
+use Rattle.outcome.specs.Outcomes.{Outcome}
+use Rattle.outcome.specs.declared.Refusal.TheVariants.{InputLength, BadPattern, LegCount, NoRoom, LegsApart}
 use Rattle.outcome.specs.Outcomes.{Table, first_of, differs, Left, left_unless}
 use Rattle.route.specs.Form.{route_trailer_bytes, most_legs, legs_meet}
 use Rattle.pattern.specs.Tree.{flown_legs}

@@ -1,8 +1,8 @@
 -- What the bytes of a pattern hold: they are broken, or they are a pattern. Definitions only.
-use Rattle.std.specs.Prelude.{ℕ, zero, suc, ◌+◌, ◌-◌, ◌*◌, cond, List, eqb, ltb, length, get_or, take, drop}
+use Rattle.std.specs.Prelude.{ℕ, zero, suc, ◌+◌, ◌-◌, ◌*◌, cond, Option, Some, None, List, eqb, ltb, length, get_or, take, drop}
 use Rattle.image.specs.Layout.{leg_bytes}
 use Rattle.pattern.specs.declared.form.Head.{Head}
-use Rattle.pattern.specs.declared.form.Head.TheVariants.{Neither, Leg, Repeat}
+use Rattle.pattern.specs.declared.form.Head.TheVariants.{Leg, Repeat}
 use Rattle.pattern.specs.Tree.{Pattern, nothing, leg, repeat}
 
 pub data Read : Type 0 where
@@ -14,34 +14,34 @@ pub data Read : Type 0 where
 abbrev pub inner_length : List ℕ → ℕ
 inner_length b = get_or b 2 0 + 256 * get_or b 3 0
 
--- what the bytes start with: a leg, a repeat with its count and the length of its inner bytes, or neither
-unfoldable pub head_of : List ℕ → Head
+-- what the bytes start with: a leg, a repeat with its count and the length of its inner bytes, or no item
+unfoldable pub head_of : List ℕ → Option Head
 head_of b =
-    cond (eqb (get_or b 0 0) 0) (cond (ltb (length b) (1 + leg_bytes)) Neither Leg)
+    cond (eqb (get_or b 0 0) 0) (cond (ltb (length b) (1 + leg_bytes)) None (Some Leg))
     (cond (eqb (get_or b 0 0) 1)
-    (cond (ltb (length b) 4) Neither
-    (cond (eqb (get_or b 1 0) 0) Neither
-    (cond (ltb 9 (get_or b 1 0)) Neither
-    (cond (ltb (length b - 4) (inner_length b)) Neither
-    (Repeat (get_or b 1 0) (inner_length b))))))
-    Neither)
+    (cond (ltb (length b) 4) None
+    (cond (eqb (get_or b 1 0) 0) None
+    (cond (ltb 9 (get_or b 1 0)) None
+    (cond (ltb (length b - 4) (inner_length b)) None
+    (Some (Repeat (get_or b 1 0) (inner_length b)))))))
+    None)
 
 -- how many bytes an item takes
-unfoldable pub size_of : Head → ℕ
-size_of Neither = 1
-size_of Leg = 1 + leg_bytes
-size_of (Repeat n len) = 4 + len
+unfoldable pub size_of : Option Head → ℕ
+size_of None = 1
+size_of (Some Leg) = 1 + leg_bytes
+size_of (Some (Repeat n len)) = 4 + len
 
 unfoldable pub repeated : ℕ → Read → Read
 repeated n broken = broken
 repeated n (is p) = is (repeat n p nothing)
 
 -- the one item at the start, where `inside` reads what a repeat holds
-unfoldable pub item_of : (List ℕ → Read) → List ℕ → Head → Read
+unfoldable pub item_of : (List ℕ → Read) → List ℕ → Option Head → Read
 unfolding repeated
-item_of inside b Neither = broken
-item_of inside b Leg = is (leg (take leg_bytes (drop 1 b)) nothing)
-item_of inside b (Repeat n len) = repeated n (inside (take len (drop 4 b)))
+item_of inside b None = broken
+item_of inside b (Some Leg) = is (leg (take leg_bytes (drop 1 b)) nothing)
+item_of inside b (Some (Repeat n len)) = repeated n (inside (take len (drop 4 b)))
 
 -- one pattern's items, and then the other's
 unfoldable pub append : Pattern → Pattern → Pattern

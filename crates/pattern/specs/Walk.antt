@@ -1,11 +1,10 @@
 -- What the walk over a pattern's bytes finds: how many legs are flown, up to 33, and the places at which they stand. Definitions only.
-use Rattle.std.specs.Prelude.{ℕ, suc, ◌+◌, ◌-◌, ◌*◌, ◌≤◌, ◌<◌, ◌≡◌, cond, List, map, ltb, length, get_or, set, take, drop}
+use Rattle.std.specs.Prelude.{ℕ, suc, ◌+◌, ◌-◌, ◌*◌, ◌≤◌, ◌<◌, ◌≡◌, cond, Option, Some, None, List, map, ltb, length, get_or, set, take, drop}
 use Rattle.std.proofs.lemmas.List.Edits.{sets}
 use Rattle.std.proofs.Math.Seq.{slice}
 use Rattle.image.specs.Layout.{leg_bytes}
 use Rattle.route.specs.Form.{most_legs}
-use Rattle.pattern.specs.declared.walk.Walked.{Walked}
-use Rattle.pattern.specs.declared.walk.Walked.TheVariants.{Broken, Past}
+use Rattle.pattern.specs.declared.walk.Past.{Past}
 use Rattle.pattern.specs.Tree.{Pattern, times, flown_legs}
 use Rattle.pattern.specs.Read.{Read, broken, is}
 
@@ -23,13 +22,17 @@ pub record Found (b : List ℕ) (ls : List (List ℕ)) (n : ℕ) (old new : List
   pub legs : map (leg_in b) places ≡ ls
   pub put : new ≡ sets old n places
 
-unfoldable pub walked_to : ℕ → ℕ → Read → Walked
+-- how far the walk came, and how many legs it has found
+abbrev pub past : ℕ → ℕ → Option Past
+past next legs = Some record { next = next; legs = legs }
+
+unfoldable pub walked_to : ℕ → ℕ → Read → Option Past
 unfolding capped
-walked_to next n broken = Broken
-walked_to next n (is p) = Past next (capped (n + length (flown_legs p)))
+walked_to next n broken = None
+walked_to next n (is p) = past next (capped (n + length (flown_legs p)))
 
 -- a walk over what was read, up to a place, after n legs
-pub record Walk (b : List ℕ) (r : Read) (next n : ℕ) (old : List ℕ) (answer : Walked) (new : List ℕ) : Type 0 where
+pub record Walk (b : List ℕ) (r : Read) (next n : ℕ) (old : List ℕ) (answer : Option Past) (new : List ℕ) : Type 0 where
   pub counted : answer ≡ walked_to next n r
   pub found : (p : Pattern) → r ≡ is p → n + length (flown_legs p) ≤ most_legs → Found b (flown_legs p) n old new
 
@@ -43,7 +46,6 @@ pub record Rounds (rounds n m : ℕ) (old : List ℕ) (r : ℕ) (new : List ℕ)
   pub counted : r ≡ capped (n + rounds * (m - n))
   pub put : n + rounds * (m - n) ≤ most_legs → new ≡ sets old n (times rounds (slice n m old))
 
--- the first n places are places of legs
-pub record Places (b places : List ℕ) (n : ℕ) : Type 0 where
-  pub few : n ≤ length places
-  pub fits : (i : ℕ) → i < n → get_or places i 0 + leg_bytes ≤ length b
+-- the places are places of legs
+pub record Places (b places : List ℕ) : Type 0 where
+  pub fits : (i : ℕ) → i < length places → get_or places i 0 + leg_bytes ≤ length b

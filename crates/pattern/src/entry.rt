@@ -4,8 +4,8 @@ ghost use Rattle.outcome.specs.Outcomes.{left};
 ghost use Rattle.pattern.specs.Entry.{buffers, expand_call};
 
 use super::legs::put_route;
-use super::walk::{Walked, expand};
-use outcome::Outcome;
+use super::walk::expand;
+use outcome::{Outcome, Refusal};
 use route::MOST_LEGS;
 
 const DEEPEST: usize = 4;
@@ -15,20 +15,15 @@ pub fn expand_into(pattern: &[u8], route: &mut [u8], written: &mut [u8]) -> Outc
     ensures { left result (buffers route.new written.new) ≡ expand_call pattern.now route.old written.old }
 {
     if written.len() != 4 {
-        return Outcome::InputLength;
+        return Err(Refusal::InputLength);
     }
     let mut places = [0usize; 32];
-    let walked = expand(pattern, 0, pattern.len(), DEEPEST, &mut places, 0);
-    match walked {
-        Walked::Broken => Outcome::BadPattern,
-        Walked::Past(_, count) => {
-            if count == 0 {
-                return Outcome::LegCount;
-            }
-            if count > MOST_LEGS {
-                return Outcome::LegCount;
-            }
-            put_route(pattern, &places, count, route, written)
-        }
+    let Some(past) = expand(pattern, 0, pattern.len(), DEEPEST, &mut places, 0) else {
+        return Err(Refusal::BadPattern);
+    };
+    let count = past.legs;
+    if count == 0 || count > MOST_LEGS {
+        return Err(Refusal::LegCount);
     }
+    put_route(pattern, &places[..count], route, written)
 }

@@ -8,49 +8,37 @@ use image::LEG_BYTES;
 // A tag and a leg.
 pub const LEG_ITEM_BYTES: usize = 1 + LEG_BYTES;
 
-// What an item starts with: a leg, a repeat with its count and the length of its inner bytes, or neither.
+// What an item starts with: a leg, or a repeat with its count and the length of its inner bytes.
 #[derive(Clone, Copy)]
 pub enum Head {
-    Neither,
     Leg,
-    Repeat(usize, usize),
+    Repeat { times: usize, inner: usize },
 }
 
-fn wide(x: u8) -> usize
-    ensures { (result ≡ x) × (result < 256) }
-{
-    x as usize
-}
-
-// What stands at `at`, of a pattern that ends at `end`. Of a repeat only its own four bytes are read.
-pub(crate) fn head_at(b: &[u8], at: usize, end: usize) -> Head
+// What stands at `at`, of a pattern that ends at `end`: none if it is no item. Of a repeat only its own four bytes are read.
+pub(crate) fn head_at(b: &[u8], at: usize, end: usize) -> Option<Head>
     requires { (at < end) × (end ≤ length b.now) }
     ensures { result ≡ head_of (slice at end b.now) }
 {
     let left = end - at;
-    let tag = wide(b[at]);
+    let tag = b[at];
     if tag == 0 {
-        if left < LEG_ITEM_BYTES {
-            return Head::Neither;
-        }
-        return Head::Leg;
+        return if left < LEG_ITEM_BYTES {
+            None
+        } else {
+            Some(Head::Leg)
+        };
     }
-    if tag != 1 {
-        return Head::Neither;
+    if tag != 1 || left < 4 {
+        return None;
     }
-    if left < 4 {
-        return Head::Neither;
+    let times = usize::from(b[at + 1]);
+    let inner = usize::from(u16::from_le_bytes([b[at + 2], b[at + 3]]));
+    if times == 0 || times > 9 || left - 4 < inner {
+        return None;
     }
-    let times = wide(b[at + 1]);
-    if times == 0 {
-        return Head::Neither;
-    }
-    if times > 9 {
-        return Head::Neither;
-    }
-    let inner = wide(b[at + 2]) + 256 * wide(b[at + 3]);
-    if left - 4 < inner {
-        return Head::Neither;
-    }
-    Head::Repeat(times, inner)
+    Some(Head::Repeat {
+        times: times,
+        inner: inner,
+    })
 }

@@ -1,5 +1,5 @@
 // The legs that a walk found, by their places in the pattern's bytes: whether they meet, and the route of them.
-ghost use Rattle.std.specs.Prelude.{◌≡◌, map, ◌∷◌, [], ◌+◌, ◌*◌, ◌≤◌, ◌<◌, length, take};
+ghost use Rattle.std.specs.Prelude.{◌≡◌, map, ◌∷◌, [], ◌+◌, ◌*◌, ◌≤◌, ◌<◌, length};
 ghost use Rattle.std.proofs.lemmas.List.Edits.{sets};
 ghost use Rattle.words.specs.Words.{Put};
 ghost use Rattle.outcome.specs.Outcomes.{left};
@@ -9,7 +9,7 @@ ghost use Rattle.pattern.specs.Walk.{leg_in, Places};
 ghost use Rattle.pattern.specs.Entry.{flown_meet, joined, buffers, expanded_call};
 
 use image::{LEG_BYTES, LEG_WORDS};
-use outcome::Outcome;
+use outcome::{Outcome, Refusal};
 use route::{TRAILER_BYTES, legs_meet};
 use words::{put_bytes, put_word};
 
@@ -23,31 +23,27 @@ fn leg_in(b: &[u8], place: usize) -> &[u8]
 }
 
 // Whether each leg meets the one that is flown after it.
-fn all_meet(b: &[u8], places: &[usize], count: usize) -> bool
-    requires { Places b.now places.now count }
-    ensures { result ≡ flown_meet (map (leg_in b.now) (take count places.now)) }
+fn all_meet(b: &[u8], places: &[usize]) -> bool
+    requires { Places b.now places.now }
+    ensures { result ≡ flown_meet (map (leg_in b.now) places.now) }
 {
-    let mut i = 1;
-    while i < count {
-        let earlier = leg_in(b, places[i - 1]);
-        let later = leg_in(b, places[i]);
+    for pair in places.windows(2) {
+        let earlier = leg_in(b, pair[0]);
+        let later = leg_in(b, pair[1]);
         if !legs_meet(earlier, 0, later, 0) {
             return false;
         }
-        i += 1;
     }
     true
 }
 
-fn put_legs(b: &[u8], places: &[usize], count: usize, route: &mut [u8])
-    requires places { Places b.now places.now count }
-    requires count_in_bounds { leg_bytes * count ≤ length route.old }
-    ensures { route.new ≡ sets route.old 0 (joined (map (leg_in b.now) (take count places.now))) }
+fn put_legs(b: &[u8], places: &[usize], route: &mut [u8])
+    requires places { Places b.now places.now }
+    requires room { leg_bytes * length places.now ≤ length route.old }
+    ensures { route.new ≡ sets route.old 0 (joined (map (leg_in b.now) places.now)) }
 {
-    let mut i = 0;
-    while i < count {
-        put_bytes(route, LEG_BYTES * i, leg_in(b, places[i]));
-        i += 1;
+    for (i, place) in places.iter().enumerate() {
+        put_bytes(route, LEG_BYTES * i, leg_in(b, *place));
     }
 }
 
@@ -62,26 +58,21 @@ fn put_trailer(route: &mut [u8], count: usize)
 }
 
 // The route of 1 to 32 legs, unless it has no room or they are apart.
-pub(crate) fn put_route(
-    b: &[u8],
-    places: &[usize],
-    count: usize,
-    route: &mut [u8],
-    written: &mut [u8],
-) -> Outcome
-    requires places { Places b.now places.now count }
-    requires count_bound { (count ≤ most_legs) × (length written.old ≡ 4) }
-    ensures { left result (buffers route.new written.new) ≡ expanded_call (map (leg_in b.now) (take count places.now)) route.old written.old }
+pub(crate) fn put_route(b: &[u8], places: &[usize], route: &mut [u8], written: &mut [u8]) -> Outcome
+    requires places { Places b.now places.now }
+    requires count_bound { (length places.now ≤ most_legs) × (length written.old ≡ 4) }
+    ensures { left result (buffers route.new written.new) ≡ expanded_call (map (leg_in b.now) places.now) route.old written.old }
 {
+    let count = places.len();
     let length = LEG_BYTES * count + TRAILER_BYTES;
     if route.len() < length {
-        return Outcome::NoRoom;
+        return Err(Refusal::NoRoom);
     }
-    if !all_meet(b, places, count) {
-        return Outcome::LegsApart;
+    if !all_meet(b, places) {
+        return Err(Refusal::LegsApart);
     }
-    put_legs(b, places, count, route);
+    put_legs(b, places, route);
     put_trailer(route, count);
     put_word(written, 0, length as u32);
-    Outcome::Done
+    Ok(())
 }

@@ -11,9 +11,9 @@ use route::MOST_LEGS;
 
 // How far the walk came, and how many legs it has found: 33 stands for more than 32.
 #[derive(Clone, Copy)]
-pub enum Walked {
-    Broken,
-    Past(usize, usize),
+pub struct Past {
+    pub next: usize,
+    pub legs: usize,
 }
 
 fn at_most_33(n: usize) -> usize
@@ -28,9 +28,10 @@ fn put_place(places: &mut [usize], count: usize, place: usize) -> usize
 {
     if count < MOST_LEGS {
         places[count] = place;
-        return count + 1;
+        count + 1
+    } else {
+        33
     }
-    33
 }
 
 // A repeat's legs stand at the numbers `from` up to `to`, flown once: they are copied for the other rounds, so that no body is walked twice.
@@ -43,15 +44,13 @@ fn put_rounds(places: &mut [usize], from: usize, to: usize, times: usize) -> usi
     if end > MOST_LEGS {
         return end;
     }
-    let mut i = to;
-    while i < end {
+    for i in to..end {
         places[i] = places[i - legs];
-        i += 1;
     }
     end
 }
 
-// The items from `from` up to `end`, in which repeats may stand `depth` deep, after so many legs.
+// The items from `from` up to `end`, in which repeats may stand `depth` deep, after so many legs: none if the bytes are broken.
 #[cycle(expand_expand_item)]
 pub(crate) fn expand(
     b: &[u8],
@@ -60,23 +59,18 @@ pub(crate) fn expand(
     depth: usize,
     places: &mut [usize],
     count: usize,
-) -> Walked
+) -> Option<Past>
     requires { (from ≤ end) × (end ≤ length b.now) × (length places.old ≡ most_legs) × (count ≤ 33) }
     ensures { Walk b.now (read depth (slice from end b.now)) end count places.old result places.new }
 {
-    let mut at = from;
-    let mut n = count;
-    while at < end {
-        let walked = expand_item(b, at, end, depth, places, n);
-        match walked {
-            Walked::Broken => return Walked::Broken,
-            Walked::Past(next, m) => {
-                at = next;
-                n = m;
-            }
-        }
+    let mut past = Past {
+        next: from,
+        legs: count,
+    };
+    while past.next < end {
+        past = expand_item(b, past.next, end, depth, places, past.legs)?;
     }
-    Walked::Past(end, n)
+    Some(past)
 }
 
 // The item at `at`, of a pattern that ends at `end`.
@@ -88,23 +82,25 @@ fn expand_item(
     depth: usize,
     places: &mut [usize],
     count: usize,
-) -> Walked
+) -> Option<Past>
     requires { (at < end) × (end ≤ length b.now) × (length places.old ≡ most_legs) × (count ≤ 33) }
     ensures { Walk b.now (item_within depth (slice at end b.now)) (at + size_of (head_of (slice at end b.now))) count places.old result places.new }
 {
-    let head = head_at(b, at, end);
-    match head {
-        Head::Neither => Walked::Broken,
-        Head::Leg => Walked::Past(at + LEG_ITEM_BYTES, put_place(places, count, at + 1)),
-        Head::Repeat(times, inner) => {
+    match head_at(b, at, end) {
+        None => None,
+        Some(Head::Leg) => Some(Past {
+            next: at + LEG_ITEM_BYTES,
+            legs: put_place(places, count, at + 1),
+        }),
+        Some(Head::Repeat { times, inner }) => {
             if depth == 0 {
-                return Walked::Broken;
+                return None;
             }
-            let body = expand(b, at + 4, at + 4 + inner, depth - 1, places, count);
-            match body {
-                Walked::Broken => Walked::Broken,
-                Walked::Past(next, n) => Walked::Past(next, put_rounds(places, count, n, times)),
-            }
+            let body = expand(b, at + 4, at + 4 + inner, depth - 1, places, count)?;
+            Some(Past {
+                next: body.next,
+                legs: put_rounds(places, count, body.legs, times),
+            })
         }
     }
 }

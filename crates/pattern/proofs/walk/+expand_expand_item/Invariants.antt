@@ -12,8 +12,10 @@ decreases-expand l = l.depth + l.depth + 1
 abbrev pub decreases-expand_item : goal.decreases-expand_item
 decreases-expand_item l = l.depth + l.depth
 
-abbrev pub invariant-expand-loop-at : goal.invariant-expand-loop-at
-invariant-expand-loop-at l = (l.at ≤ l.end) × (length l.places ≡ most_legs) × Going l.b (read l.depth (slice l.from l.end l.b)) (read l.depth (slice l.at l.end l.b)) l.count l.initial.places l.n l.places
+abbrev pub invariant-expand-loop-past : goal.invariant-expand-loop-past
+invariant-expand-loop-past l =
+    (l.past.next ≤ l.end) × (length l.places ≡ most_legs)
+    × Going l.b (read l.depth (slice l.from l.end l.b)) (read l.depth (slice l.past.next l.end l.b)) l.count l.initial.places l.past.legs l.places
 
-abbrev pub decreases-expand-loop-at : goal.decreases-expand-loop-at
-decreases-expand-loop-at l = l.end - l.at
+abbrev pub decreases-expand-loop-past : goal.decreases-expand-loop-past
+decreases-expand-loop-past l = l.end - l.past.next

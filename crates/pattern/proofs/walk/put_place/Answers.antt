@@ -5,5 +5,5 @@ use Rattle.pattern.proofs.walk.put_place.Goals as goal
 pub returns-then-count-lt-MOST_LEGS : goal.returns-then-count-lt-MOST_LEGS
 returns-then-count-lt-MOST_LEGS c = record { counted = sym (capped_below _ (omega arith)); put = λ _. refl }
 
-pub returns : goal.returns
-returns c = record { counted = sym (capped_full _ (omega arith)); put = λ h. absurd (omega arith) }
+pub returns-else-count-lt-MOST_LEGS : goal.returns-else-count-lt-MOST_LEGS
+returns-else-count-lt-MOST_LEGS c = record { counted = sym (capped_full _ (omega arith)); put = λ h. absurd (omega arith) }

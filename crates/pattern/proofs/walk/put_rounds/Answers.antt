@@ -1,7 +1,7 @@
 -- `pattern::walk::put_rounds`: up to place i the buffer holds the rounds. Assumes nothing.
-use Rattle.laws.proofs.Prelude.{◌≡◌, refl, ◌∙◌, ℕ, ◌-◌, ◌*◌, ◌≤◌, ◌<◌, mul-le-mul, arith, length-set}
+use Rattle.laws.proofs.Prelude.{◌≡◌, ◌∙◌, ℕ, ◌-◌, ◌*◌, ◌≤◌, ◌<◌, mul-le-mul, arith}
 use Rattle.pattern.specs.Walk.{capped}
-use Rattle.pattern.proofs.Rounds.{capped_below, to_end, rounds_start, rounds_on, rounds_end}
+use Rattle.pattern.proofs.Rounds.{capped_below, rounds_start, rounds_on, rounds_end}
 use Rattle.pattern.proofs.walk.put_rounds.Goals as goal
 
 too_many : (n : ℕ) {r : ℕ} → n ≤ 32 → (r ≡ capped n) × (32 < r) → ⊥
@@ -19,18 +19,14 @@ returns-then-end-gt-MOST_LEGS c =
     record { counted = e; put = λ h. absurd (too_many _ h (e, c.if-end-gt-MOST_LEGS.true)) }
 
 pub loop-i-init : goal.loop-i-init
-loop-i-init c =
-    let start = c.before.before.before in let pre = start.requires in let e = c.at_most_33-end.ensures in
-    (omega arith, to_end start.args.places.now _ _ _ pre.0 pre.3 pre.1 e c.if-end-gt-MOST_LEGS.false, refl, rounds_start _ _ _ _ pre.0 pre.3 pre.1 e c.if-end-gt-MOST_LEGS.false)
+loop-i-init c = let pre = c.requires in rounds_start _ _ _ _ pre.0 pre.3 pre.1 c.at_most_33-end.ensures c.if-end-gt-MOST_LEGS.false
 
 pub loop-i-preserved : goal.loop-i-preserved
 loop-i-preserved c =
-    let turn = c.before in let inv = turn.loop-i.invariant in let few = turn.before.before in let pre = few.requires in
-    let on = rounds_on _ _ _ _ pre.0 pre.3 pre.1 few.at_most_33-end.ensures few.if-end-gt-MOST_LEGS.false _ inv.0 turn.loop-i-test.true in
-    (omega arith, omega arith, simp length-set inv.2, rw inv.3 on)
+    let pre = c.requires in
+    rw c.loop-i.invariant (rounds_on _ _ _ _ pre.0 pre.3 pre.1 c.at_most_33-end.ensures c.if-end-gt-MOST_LEGS.false _ c.loop-i.auto.i c.loop-i-test.true)
 
 pub returns : goal.returns
 returns c =
-    let inv = c.loop-i.invariant in let few = c.before.before in let pre = few.requires in
-    let e = few.at_most_33-end.ensures in
-    record { counted = e; put = λ _. inv.3 ∙ rounds_end _ _ _ _ pre.0 pre.3 pre.1 e few.if-end-gt-MOST_LEGS.false _ c.loop-i-test.false }
+    let pre = c.requires in let e = c.at_most_33-end.ensures in
+    record { counted = e; put = λ _. c.loop-i.invariant ∙ rounds_end _ _ _ _ pre.0 pre.3 pre.1 e c.if-end-gt-MOST_LEGS.false _ c.loop-i-test.false }

@@ -1,9 +1,6 @@
-use Rattle.laws.proofs.Prelude.{◌≡◌, ◌-◌, ◌≤◌, length, take, sets, slice}
+use Rattle.laws.proofs.Prelude.{◌≡◌, ◌-◌, take, sets, slice}
 use Rattle.pattern.specs.Tree.{times as rounds}
 use Rattle.pattern.proofs.walk.put_rounds.Given as goal
 
 abbrev pub invariant-loop-i : goal.invariant-loop-i
-invariant-loop-i l = (l.to ≤ l.i) × (l.i ≤ l.end) × (length l.places ≡ length l.initial.places) × (l.places ≡ sets l.initial.places l.from (take (l.i - l.from) (rounds l.times (slice l.from l.to l.initial.places))))
-
-abbrev pub decreases-loop-i : goal.decreases-loop-i
-decreases-loop-i l = l.end - l.i
+invariant-loop-i l = l.places ≡ sets l.initial.places l.from (take (l.i - l.from) (rounds l.times (slice l.from l.to l.initial.places)))

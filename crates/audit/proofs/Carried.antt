@@ -2,13 +2,14 @@
 -- between two logs. Assumes nothing.
 use Rattle.laws.proofs.Prelude.{ℕ, zero, suc, ◌<◌, ◌≡◌, refl, sym, ap, subst, ◌∙◌, ◌↔◌, Bool, true, false, List, [], ◌∷◌, ◌++◌, le_of_suc-le-suc, suc-le-suc, zero-lt-suc, arith, eqb, eqb-true}
 use Rattle.laws.proofs.Prelude.{Float, lt, of_bits, to_bits, length, get_or, take, replicate, length-map, both}
+use Rattle.std.proofs.Common.{None}
 use Rattle.relay_math.specs.F32.{f32, is_finite}
 use Rattle.words.specs.Words.{flag, word, float, bytes_of}
 use Rattle.latch.{specs.Latch.{latch, after}, proofs.LatchFlies.flag_from}
 use Rattle.joint_tick.specs.declared.profile.Profile.{Profile, TheVariants.{Whole, LostRotor}}
 use Rattle.image.specs.Passed.{passed_on}
 use Rattle.slow_shield.{specs.Back.look_back, proofs.Slow.{flag_to, slow_is_latch}}
-use Rattle.audit.specs.{declared.Verdict.TheVariants.AllRight, Right.{flag_word, passes, passes_third, planners, finites, margin_in, margins_in, right, right_at}, Verdict.verdict_of}
+use Rattle.audit.specs.{Right.{flag_word, passes, passes_third, planners, finites, margin_in, margins_in, right, right_at}, Verdict.verdict_of}
 use Rattle.audit.specs.Series.{last_flag, behind, Releasing, joined, PiecesRight}
 use Rattle.audit.proofs.Said.{verdict_says}
 
@@ -28,9 +29,9 @@ carried_at profile enter exit before (r ∷ rs) c (suc i) h = carried_at profile
 looked_back : (enter exit : Float) → lt enter exit ≡ true → (ms : List Float) (i : ℕ) → i < length ms → after enter exit true (take (suc i) ms) ≡ look_back enter exit ms (suc i)
 looked_back enter exit o ms i h = sym (flag_from enter exit true ms i h) ∙ ap (λ (bs : List Bool). get_or bs i true) (sym (slow_is_latch enter exit ms o)) ∙ flag_to enter exit ms (length ms) i h
 
-pub carried_right : (profile : Profile) (enter exit : Float) → lt enter exit ≡ true → (rs : List (List ℕ)) → Carried profile enter exit true rs → verdict_of profile enter exit rs ≡ AllRight
+pub carried_right : (profile : Profile) (enter exit : Float) → lt enter exit ≡ true → (rs : List (List ℕ)) → Carried profile enter exit true rs → verdict_of profile enter exit rs ≡ None
 unfolding right_at
-carried_right profile enter exit o rs c = (verdict_says profile enter exit rs AllRight).1 (λ i h.
+carried_right profile enter exit o rs c = (verdict_says profile enter exit rs None).1 (λ i h.
     ap (λ (demanded : Bool). right profile demanded (get_or rs i [])) (sym (looked_back enter exit o (margins_in rs) i (rw (length-map rs margin_in) h))) ∙ carried_at profile enter exit true rs c i h)
 
 carried_from : (profile : Profile) (enter exit : Float) (before : Bool) (rs : List (List ℕ))
@@ -39,11 +40,11 @@ unfolding after
 carried_from profile enter exit before [] f = _
 carried_from profile enter exit before (r ∷ rs) f = (f 0 (zero-lt-suc (length rs)), carried_from profile enter exit (latch enter exit before (margin_in r)) rs (λ i h. f (suc i) (suc-le-suc h)))
 
-pub right_carried : (profile : Profile) (enter exit : Float) → lt enter exit ≡ true → (rs : List (List ℕ)) → verdict_of profile enter exit rs ≡ AllRight → Carried profile enter exit true rs
+pub right_carried : (profile : Profile) (enter exit : Float) → lt enter exit ≡ true → (rs : List (List ℕ)) → verdict_of profile enter exit rs ≡ None → Carried profile enter exit true rs
 unfolding right_at
 right_carried profile enter exit o rs v = carried_from profile enter exit true rs (λ i h.
     ap (λ (demanded : Bool). right profile demanded (get_or rs i [])) (looked_back enter exit o (margins_in rs) i (rw (length-map rs margin_in) h))
-    ∙ (verdict_says profile enter exit rs AllRight).0 v i h)
+    ∙ (verdict_says profile enter exit rs None).0 v i h)
 
 -- ---- a seam, between any records and any that go on from them
 
@@ -67,7 +68,7 @@ module _ (profile : Profile) (enter exit : Float) where
 
   module _ (o : lt enter exit ≡ true) (release : List ℕ) (z : Releasing profile exit release) where
     -- what goes on, as it is checked
-    piece : (before : Bool) (ss : List (List ℕ)) → (verdict_of profile enter exit (behind release (flag before) ss) ≡ AllRight) ↔ Carried profile enter exit before ss
+    piece : (before : Bool) (ss : List (List ℕ)) → (verdict_of profile enter exit (behind release (flag before) ss) ≡ None) ↔ Carried profile enter exit before ss
     unfolding latch
     piece true ss = (right_carried profile enter exit o ss, carried_right profile enter exit o ss)
     piece false ss =
@@ -76,7 +77,7 @@ module _ (profile : Profile) (enter exit : Float) where
         (λ v. subst (λ (b : Bool). Carried profile enter exit b ss) e (right_carried profile enter exit o (release ∷ ss) v).1, λ c. back (rw e z.planners, rw e c))
 
     pub seam_right : (rs ss : List (List ℕ))
-        → (verdict_of profile enter exit (rs ++ ss) ≡ AllRight) ↔ ((verdict_of profile enter exit rs ≡ AllRight) × (verdict_of profile enter exit (behind release (last_flag 1 rs) ss) ≡ AllRight))
+        → (verdict_of profile enter exit (rs ++ ss) ≡ None) ↔ ((verdict_of profile enter exit rs ≡ None) × (verdict_of profile enter exit (behind release (last_flag 1 rs) ss) ≡ None))
     seam_right rs ss = let next = piece (after enter exit true (margins_in rs)) ss in (
       λ v. let c = (seam true rs ss).0 (right_carried profile enter exit o (rs ++ ss) v) in (carried_right profile enter exit o rs c.0, rw (last_flag_lem true rs c.0) (next.1 c.1)),
       λ v. let c = right_carried profile enter exit o rs v.0 in carried_right profile enter exit o (rs ++ ss) ((seam true rs ss).1 (c, next.0 (rw (← last_flag_lem true rs c) v.1))),
@@ -91,7 +92,7 @@ module _ (profile : Profile) (enter exit : Float) where
       λ s. let d = (piece before p).0 s.0 in (seam before p (joined ps)).1 (d, more.1 (rw (← last_flag_lem before p d) s.1)),
     )
 
-    pub pieces_right : (ps : List (List (List ℕ))) → (verdict_of profile enter exit (joined ps) ≡ AllRight) ↔ PiecesRight profile enter exit release 1 ps
+    pub pieces_right : (ps : List (List (List ℕ))) → (verdict_of profile enter exit (joined ps) ≡ None) ↔ PiecesRight profile enter exit release 1 ps
     pieces_right ps = (λ v. (each true ps).0 (right_carried profile enter exit o (joined ps) v), λ s. carried_right profile enter exit o (joined ps) ((each true ps).1 s))
 
 -- zeros, and the greatest f32 as the margin: such a record for every exit below it

@@ -1,14 +1,14 @@
 -- What the verdict says of a list of records, exactly. Assumes nothing.
 use Rattle.laws.proofs.Prelude.{ℕ, zero, suc, ◌+◌, ◌<◌, ◌≡◌, refl, sym, ap, subst, ◌∙◌, inl, inr, ◌↔◌, Bool, true, false, ◌&&◌, cond, List, [], le_of_suc-le-suc, eq-or-lt_of_le, arith, eqb-true}
 use Rattle.laws.proofs.Prelude.{eq-eqb, eqb, Float, length, get_or, no, both, le_or_lt}
+use Rattle.std.proofs.Common.{Some, None}
 use Rattle.relay_math.specs.F32.{is_finite}
 use Rattle.words.specs.Words.{float_of, flag}
 use Rattle.latch.specs.Latch.{FliesAt}
 use Rattle.joint_tick.specs.declared.profile.Profile.{Profile, TheVariants.{Whole, LostRotor}}
 use Rattle.image.specs.Passed.{planner_word}
 use Rattle.slow_shield.{specs.Back.look_back, proofs.Slow.looks_back}
-use Rattle.audit.specs.declared.Verdict.{Verdict, TheVariants.{AllRight, FirstWrong}}
-use Rattle.audit.specs.{Right.{command_word, flag_word, passes, passes_third, planners, finite_on, finites, right, margins_in, right_at, RightAt}, Verdict.{verdict_from, verdict_of, Says}}
+use Rattle.audit.specs.{Right.{command_word, flag_word, passes, passes_third, planners, finite_on, finites, right, margins_in, right_at, RightAt}, Verdict.{Verdict, verdict_from, verdict_of, Says}}
 
 -- ---- "Answer yes exactly if all hold, else the first wrong record, counted from 0."
 
@@ -26,7 +26,7 @@ module _ (profile : Profile) (enter exit : Float) (rs : List (List ℕ)) where
   said_from i (suc n) e r = go (right_at profile enter exit rs i) refl (λ t. said_from (suc i) n (omega arith) (one_more i r t))
     where
       go : (b : Bool) → right_at profile enter exit rs i ≡ b → (right_at profile enter exit rs i ≡ true → Says profile enter exit rs (verdict_from profile enter exit rs (suc i) n))
-          → Says profile enter exit rs (cond b (verdict_from profile enter exit rs (suc i) n) (FirstWrong i))
+          → Says profile enter exit rs (cond b (verdict_from profile enter exit rs (suc i) n) (Some i))
       go true t more = more t
       go false t more = (omega arith, t, r)
 
@@ -35,11 +35,11 @@ module _ (profile : Profile) (enter exit : Float) (rs : List (List ℕ)) where
 
   -- no two verdicts can be said of the same records
   one_verdict : (v w : Verdict) → Says profile enter exit rs v → Says profile enter exit rs w → v ≡ w
-  one_verdict AllRight AllRight s t = refl
-  one_verdict AllRight (FirstWrong k) s t = apart k (s k t.0) t.1
-  one_verdict (FirstWrong k) AllRight s t = apart k (t k s.0) s.1
-  one_verdict (FirstWrong j) (FirstWrong k) s t = elim (le_or_lt j k) [
-    | inl h ↦ elim (eq-or-lt_of_le h) [ inl e ↦ ap FirstWrong e | inr l ↦ apart j (t.2 j l) s.1 ]
+  one_verdict None None s t = refl
+  one_verdict None (Some k) s t = apart k (s k t.0) t.1
+  one_verdict (Some k) None s t = apart k (t k s.0) s.1
+  one_verdict (Some j) (Some k) s t = elim (le_or_lt j k) [
+    | inl h ↦ elim (eq-or-lt_of_le h) [ inl e ↦ ap (λ (i : ℕ). Some i) e | inr l ↦ apart j (t.2 j l) s.1 ]
     | inr l ↦ apart k (s.2 k l) t.1
   ]
 
@@ -51,7 +51,7 @@ module _ (profile : Profile) (enter exit : Float) (rs : List (List ℕ)) where
   verdict_says v = (λ e. subst (Says profile enter exit rs) e said, λ s. one_verdict (verdict_of profile enter exit rs) v said s)
 
 -- "An empty log gets yes."
-pub empty_right : (profile : Profile) (enter exit : Float) → verdict_of profile enter exit [] ≡ AllRight
+pub empty_right : (profile : Profile) (enter exit : Float) → verdict_of profile enter exit [] ≡ None
 unfolding verdict_from
 empty_right profile enter exit = refl
 
@@ -128,6 +128,6 @@ module _ (profile : Profile) (enter exit : Float) (rs : List (List ℕ)) (i : �
       (shown demanded rule, meets demanded rule)
 
 -- Soundness: an accepted log shows the planner flying exactly where the user's rule says
-pub accepted_flies_at : (profile : Profile) (enter exit : Float) (rs : List (List ℕ)) → verdict_of profile enter exit rs ≡ AllRight
+pub accepted_flies_at : (profile : Profile) (enter exit : Float) (rs : List (List ℕ)) → verdict_of profile enter exit rs ≡ None
     → (i : ℕ) → i < length rs → (flag_word (get_or rs i []) ≡ 0) ↔ FliesAt enter exit (margins_in rs) i
-accepted_flies_at profile enter exit rs e i h = ((right_exactly profile enter exit rs i).0 ((verdict_says profile enter exit rs AllRight).0 e i h)).flies
+accepted_flies_at profile enter exit rs e i h = ((right_exactly profile enter exit rs i).0 ((verdict_says profile enter exit rs None).0 e i h)).flies

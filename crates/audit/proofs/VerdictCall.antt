@@ -1,11 +1,13 @@
 -- Request Ten on bytes: what the call writes and when it is refused. Assumes nothing.
+use Rattle.std.specs.Prelude.{Err}
 use Rattle.laws.proofs.Prelude.{ℕ, ◌<◌, ◌≤◌, ◌≡◌, refl, sym, ap, ◌∙◌, ◌↔◌, true, false, List, [], ◌∷◌, mod-eq_of_lt, arith, T, lit<, Float, binary32, fits, lt, length}
+use Rattle.std.proofs.Common.{Some, None}
 use Rattle.words.{specs.Words.{word, bytes_of}, proofs.WordsBack.word_bytes_of}
 use Rattle.relay_geo.{specs.{declared.shield.Thresholds.Thresholds, Shield.mend_thresholds}, proofs.SetUp.enter_below_exit}
 use Rattle.joint_tick.specs.{declared.profile.Profile.Profile, Profile.{is_profile, profile_of}}
-use Rattle.outcome.{specs.{declared.Outcome.TheVariants.{Done, BrokenLog, PassThrough}, Outcomes.{first_of, left, Filled}}, proofs.Tables.never_given}
+use Rattle.outcome.{specs.{declared.Refusal.TheVariants.{BrokenLog, PassThrough}, Outcomes.{Done, first_of, left, Filled}}, proofs.Tables.never_given}
 use Rattle.flight_log.{specs.{Form.{most_records, empty_log, from_end, is_log}, Records.records}, proofs.{LogForm.is_a_log, Reading.records_count, Refused.empty_log_lem}}
-use Rattle.audit.specs.{declared.Verdict.{Verdict, TheVariants.{AllRight, FirstWrong}}, Verdict.{verdict_of, verdict_word, Says}, Entry.{verdict_on, check_table, check_call}}
+use Rattle.audit.specs.{Verdict.{Verdict, verdict_of, verdict_word, Says}, Entry.{verdict_on, check_table, check_call}}
 use Rattle.audit.proofs.Said.{verdict_says, empty_right}
 
 -- thresholds as set-up mends them are in order
@@ -15,22 +17,22 @@ mended enter exit f e = rw e (enter_below_exit enter exit f)
 -- ---- the number tells the verdict: no place of a log has that of "all right"
 
 abbrev pub Placed : Verdict → Type 0
-Placed AllRight = Unit
-Placed (FirstWrong k) = k < 0xffff_ffff
+Placed None = Unit
+Placed (Some k) = k < 0xffff_ffff
 
 same_number : (v w : Verdict) → Placed v → Placed w → verdict_word v ≡ verdict_word w → v ≡ w
-same_number AllRight AllRight p q e = refl
-same_number AllRight (FirstWrong k) p q e = absurd (omega arith)
-same_number (FirstWrong k) AllRight p q e = absurd (omega arith)
-same_number (FirstWrong j) (FirstWrong k) p q e = ap FirstWrong e
+same_number None None p q e = refl
+same_number None (Some k) p q e = absurd (omega arith)
+same_number (Some k) None p q e = absurd (omega arith)
+same_number (Some j) (Some k) p q e = ap (λ (i : ℕ). Some i) e
 
 placed : (profile : Profile) (enter exit : Float) (rs : List (List ℕ)) → length rs ≤ most_records → (v : Verdict) → Says profile enter exit rs v → Placed v
-placed profile enter exit rs h AllRight s = tt
-placed profile enter exit rs h (FirstWrong k) s = omega (arith, s.0)
+placed profile enter exit rs h None s = tt
+placed profile enter exit rs h (Some k) s = omega (arith, s.0)
 
 one_word : (v : Verdict) → Placed v → verdict_word v < 4294967296
-one_word AllRight p = lit< tt
-one_word (FirstWrong k) p = omega arith
+one_word None p = lit< tt
+one_word (Some k) p = omega arith
 
 module _ (log : List ℕ) (profile : ℕ) (enter exit : Float) (into : List ℕ) (h : length into ≡ 4) (l : is_log log ≡ true) (p : is_profile profile ≡ true) where
   -- a log with a profile gets its verdict
@@ -63,13 +65,13 @@ module _ (log : List ℕ) (profile : ℕ) (enter exit : Float) (into : List ℕ)
       (λ e. (says v).0 (same_number mine v own q (sym is ∙ e)), λ s. is ∙ ap verdict_word ((says v).1 s))
 
 -- "Refusals: 8 as in Two, then 10": a verdict's length that is not 4 comes before both
-pub eight_before_ten : (log : List ℕ) (profile : ℕ) (enter exit : Float) (into : List ℕ) → length into ≡ 4 → is_log log ≡ false → check_call log profile enter exit into ≡ left BrokenLog into
+pub eight_before_ten : (log : List ℕ) (profile : ℕ) (enter exit : Float) (into : List ℕ) → length into ≡ 4 → is_log log ≡ false → check_call log profile enter exit into ≡ left (Err BrokenLog) into
 unfolding check_call
 eight_before_ten log profile enter exit into h l = rw (h, l)
 
 -- 11 is "at set-up alone" (request Twelve)
-pub no_check_gives_eleven : (log : List ℕ) (profile n : ℕ) → ¬ (first_of (check_table log profile n) ≡ PassThrough)
-no_check_gives_eleven log profile n = never_given PassThrough refl (check_table log profile n) refl
+pub no_check_gives_eleven : (log : List ℕ) (profile n : ℕ) → ¬ (first_of (check_table log profile n) ≡ Err PassThrough)
+no_check_gives_eleven log profile n = never_given PassThrough (check_table log profile n) refl
 
 no_records : records empty_log ≡ []
 unfolding records is_log from_end

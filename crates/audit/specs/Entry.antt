@@ -3,12 +3,11 @@ use Rattle.std.specs.Prelude.{ℕ, not, List, [], ◌∷◌, Float, length}
 use Rattle.words.specs.Words.{bytes_of}
 use Rattle.relay_geo.specs.Shield.{mend_thresholds}
 use Rattle.joint_tick.specs.Profile.{is_profile, profile_of}
-use Rattle.outcome.specs.declared.Outcome.TheVariants.{InputLength, BrokenLog, BadProfile}
+use Rattle.outcome.specs.declared.Refusal.TheVariants.{InputLength, BrokenLog, BadProfile}
 use Rattle.outcome.specs.Outcomes.{Table, first_of, differs, left_unless, Filled}
 use Rattle.flight_log.specs.Form.{is_log}
 use Rattle.flight_log.specs.Records.{records}
-use Rattle.audit.specs.declared.Verdict.{Verdict}
-use Rattle.audit.specs.Verdict.{verdict_from, verdict_of, verdict_word}
+use Rattle.audit.specs.Verdict.{Verdict, verdict_from, verdict_of, verdict_word}
 
 -- "enter and exit (mended as at set-up)"
 unfoldable pub verdict_on : List ℕ → ℕ → Float → Float → Verdict

@@ -1,8 +1,7 @@
 -- Logs that go on: the records before a seam, and those of the log behind it, each by the verdict alone. Definitions only.
-use Rattle.std.specs.Prelude.{ℕ, ◌≡◌, true, false, cond, List, [], ◌∷◌, ◌++◌, eqb, Float}
+use Rattle.std.specs.Prelude.{ℕ, ◌≡◌, true, false, cond, None, List, [], ◌∷◌, ◌++◌, eqb, Float}
 use Rattle.latch.specs.Latch.{releases}
 use Rattle.joint_tick.specs.declared.profile.Profile.{Profile}
-use Rattle.audit.specs.declared.Verdict.TheVariants.{AllRight}
 use Rattle.audit.specs.Right.{flag_word, margin_in, right}
 use Rattle.audit.specs.Verdict.{verdict_of}
 
@@ -27,4 +26,4 @@ joined (p ∷ ps) = p ++ joined ps
 
 abbrev pub PiecesRight : Profile → Float → Float → List ℕ → ℕ → List (List (List ℕ)) → Type 0
 PiecesRight profile enter exit release before [] = Unit
-PiecesRight profile enter exit release before (p ∷ ps) = (verdict_of profile enter exit (behind release before p) ≡ AllRight) × PiecesRight profile enter exit release (last_flag before p) ps
+PiecesRight profile enter exit release before (p ∷ ps) = (verdict_of profile enter exit (behind release before p) ≡ None) × PiecesRight profile enter exit release (last_flag before p) ps

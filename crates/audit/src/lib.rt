@@ -16,7 +16,7 @@ use flight_log::{RECORD_BYTES, TRAILER_BYTES, is_log};
 use image::{AGILE, INPUT_WORDS};
 use joint_tick::{Profile, is_profile, profile_of};
 use latch::latch;
-use outcome::Outcome;
+use outcome::{Outcome, Refusal};
 use relay_geo::mend;
 use relay_math::is_finite;
 use words::{float_at, float_of, put_word, word_at};
@@ -28,20 +28,11 @@ const FLAG: usize = INPUT_WORDS + image::FLAG;
 
 const MARGIN: usize = INPUT_WORDS + image::MARGIN;
 
-// What is said of a log: the place of a wrong record is counted from 0.
-#[derive(Clone, Copy)]
-pub enum Verdict {
-    AllRight,
-    FirstWrong(u32),
-}
-
-fn verdict_word(verdict: Verdict) -> u32
+// A verdict is the place of the first wrong record, counted from 0, if there is one.
+fn verdict_word(verdict: Option<u32>) -> u32
     ensures { result ≡ verdict_word verdict }
 {
-    match verdict {
-        Verdict::AllRight => 0xffff_ffff,
-        Verdict::FirstWrong(place) => place,
-    }
+    verdict.unwrap_or(0xffff_ffff)
 }
 
 fn passed_on(w: u32) -> u32
@@ -51,6 +42,7 @@ fn passed_on(w: u32) -> u32
 }
 
 // The command's word on an axis is the planner's, in bits: as numbers -0.0 would do for 0.0.
+#[tactic(auto, unfolding(crate::specs::Right::passes))]
 fn passes(bytes: &[u8], axis: usize) -> bool
     requires { (length bytes.now ≡ record_bytes) × (axis < 3) }
     ensures { result ≡ passes bytes.now axis }
@@ -58,6 +50,7 @@ fn passes(bytes: &[u8], axis: usize) -> bool
     word_at(bytes, COMMAND + axis) == passed_on(word_at(bytes, AGILE + axis))
 }
 
+#[tactic(auto, unfolding(crate::specs::Right::passes_third))]
 fn passes_third(bytes: &[u8], profile: Profile) -> bool
     requires { length bytes.now ≡ record_bytes }
     ensures { result ≡ passes_third profile bytes.now }
@@ -68,19 +61,15 @@ fn passes_third(bytes: &[u8], profile: Profile) -> bool
     }
 }
 
+#[tactic(auto, unfolding(crate::specs::Right::planners))]
 fn planners(bytes: &[u8], profile: Profile) -> bool
     requires { length bytes.now ≡ record_bytes }
     ensures { result ≡ planners profile bytes.now }
 {
-    if !passes(bytes, 0) {
-        return false;
-    }
-    if !passes(bytes, 1) {
-        return false;
-    }
-    passes_third(bytes, profile)
+    passes(bytes, 0) && passes(bytes, 1) && passes_third(bytes, profile)
 }
 
+#[tactic(auto, unfolding(crate::specs::Right::finite_on, words::specs::Words::float))]
 fn finite_on(bytes: &[u8], axis: usize) -> bool
     requires { (length bytes.now ≡ record_bytes) × (axis < 3) }
     ensures { result ≡ finite_on bytes.now axis }
@@ -88,56 +77,42 @@ fn finite_on(bytes: &[u8], axis: usize) -> bool
     is_finite(float_at(bytes, COMMAND + axis))
 }
 
+#[tactic(auto, unfolding(crate::specs::Right::finites))]
 fn finites(bytes: &[u8]) -> bool
     requires { length bytes.now ≡ record_bytes }
     ensures { result ≡ finites bytes.now }
 {
-    if !finite_on(bytes, 0) {
-        return false;
-    }
-    if !finite_on(bytes, 1) {
-        return false;
-    }
-    finite_on(bytes, 2)
+    finite_on(bytes, 0) && finite_on(bytes, 1) && finite_on(bytes, 2)
 }
 
 // By the flag that is demanded of it.
+#[tactic(auto, unfolding(crate::specs::Right::right))]
 fn right(bytes: &[u8], profile: Profile, engaged: bool) -> bool
     requires { length bytes.now ≡ record_bytes }
     ensures { result ≡ right profile engaged bytes.now }
 {
     let flag = word_at(bytes, FLAG);
     if engaged {
-        if flag != 1 {
-            return false;
-        }
-        return finites(bytes);
+        flag == 1 && finites(bytes)
+    } else {
+        flag == 0 && planners(bytes, profile)
     }
-    if flag != 0 {
-        return false;
-    }
-    planners(bytes, profile)
 }
 
 // The flag that is demanded is carried along, by the margins alone.
-fn judged(log: &[u8], profile: Profile, enter: f32, exit: f32) -> Verdict
+fn judged(log: &[u8], profile: Profile, enter: f32, exit: f32) -> Option<u32>
     requires { (is_log log.now ≡ true) × (lt enter exit ≡ true) }
     ensures { result ≡ verdict_of profile enter exit (records log.now) }
 {
-    let count = (log.len() - TRAILER_BYTES) / RECORD_BYTES;
+    let records = &log[..log.len() - TRAILER_BYTES];
     let mut engaged = true;
-    let mut i = 0;
-    while i < count {
-        let from = RECORD_BYTES * i;
-        let to = from + RECORD_BYTES;
-        let record = &log[from..to];
+    for (i, record) in records.chunks_exact(RECORD_BYTES).enumerate() {
         engaged = latch(enter, exit, engaged, float_at(record, MARGIN));
         if !right(record, profile, engaged) {
-            return Verdict::FirstWrong(i as u32);
+            return Some(i as u32);
         }
-        i += 1;
     }
-    Verdict::AllRight
+    None
 }
 
 // The verdict on a log as a word. Nothing is asked of the caller; a refused call changes no byte.
@@ -145,16 +120,16 @@ pub fn check_into(log: &[u8], profile: u32, enter: f32, exit: f32, into: &mut [u
     ensures { left result into.new ≡ check_call log.now profile enter exit into.old }
 {
     if into.len() != 4 {
-        return Outcome::InputLength;
+        return Err(Refusal::InputLength);
     }
     if !is_log(log) {
-        return Outcome::BrokenLog;
+        return Err(Refusal::BrokenLog);
     }
     if !is_profile(profile) {
-        return Outcome::BadProfile;
+        return Err(Refusal::BadProfile);
     }
     let t = mend(enter, exit);
     let v = judged(log, profile_of(profile), t.enter, t.exit);
     put_word(into, 0, verdict_word(v));
-    Outcome::Done
+    Ok(())
 }

@@ -1,12 +1,13 @@
 -- What bytes that are a log have, and what an append that is not refused has. Assumes nothing.
-use Rattle.laws.proofs.Prelude.{◌≡◌, refl, sym, ◌∙◌, Bool, true, ◌&&◌, List, ◌++◌, ℕ, ◌+◌, ◌-◌, ◌*◌, ◌/◌, ◌≤◌, ◌<◌, arith, ltb-true, ltb-false, eqb-true, eqb-false, not-false, eqb, leb}
+use Rattle.std.specs.Prelude.{Ok}
+use Rattle.laws.proofs.Prelude.{◌≡◌, sym, ◌∙◌, true, List, ◌++◌, ℕ, ◌+◌, ◌-◌, ◌*◌, ◌/◌, ◌≤◌, ◌<◌, arith, ltb-true, ltb-false, eqb-false, not-false}
 use Rattle.laws.proofs.Prelude.{ltb, length, take, drop, length-append, length-drop, sets, length-take-le, both}
-use borrow.Author.Tests.{leb-true}
+use Rattle.std.proofs.lemmas.Grind.{common_steps}
 use Rattle.words.{specs.Words.Put, proofs.Written.sets_append}
 use Rattle.image.specs.Layout.{input_bytes, answer_bytes}
-use Rattle.outcome.{specs.{declared.Outcome.{Outcome, TheVariants.Done}, Outcomes.{is_done, left}}, proofs.Tables.{done_none, same, accepted}}
-use Rattle.flight_log.specs.{Form.{record_bytes, log_trailer_bytes, most_records, trailer_words, trailer, from_end, record_count, is_log}, Records.{has_record, record_at}}
-use Rattle.flight_log.specs.Entry.{append_table, append_refusal, with_record, append_call, record_call}
+use Rattle.outcome.{specs.Outcomes.{Outcome, Done, is_done, left}, proofs.Tables.{done_none, same, accepted}}
+use Rattle.flight_log.specs.{Form.{record_bytes, log_trailer_bytes, most_records, trailer_words, trailer, record_count, is_log}, Records.{has_record, record_at}}
+use Rattle.flight_log.specs.Entry.{append_table, append_refusal, with_record, append_call}
 
 pub record Log (b : List ℕ) : Type 0 where
   pub trailer : log_trailer_bytes ≤ length b
@@ -15,16 +16,7 @@ pub record Log (b : List ℕ) : Type 0 where
 
 pub is_a_log : (b : List ℕ) → is_log b ≡ true → Log b
 unfolding is_log
-is_a_log b e =
-    let n = record_count b in let long = leb log_trailer_bytes (length b) in let size = eqb (from_end b 4) record_bytes in
-    let few = leb n most_records in let back = eqb (from_end b 8) (record_bytes * n) in
-    let w = both (long && size && few && back) (eqb (length b) (record_bytes * n + log_trailer_bytes)) e in
-    let f = both (long && size) few (both (long && size && few) back w.0).0 in
-    record {
-      trailer = leb-true log_trailer_bytes (length b) (both long size f.0).0;
-      few = leb-true n most_records f.1;
-      whole = eqb-true (length b) (record_bytes * n + log_trailer_bytes) w.1;
-    }
+is_a_log b e = record { trailer = grind (arith, common_steps); few = grind (arith, common_steps); whole = grind (arith, common_steps) }
 
 -- and what a place has at which there is a record
 pub record There (b : List ℕ) (i : ℕ) : Type 0 where
@@ -51,7 +43,7 @@ pub taken : (buffer : List ℕ) (len inputLen answerLen : ℕ) → is_done (appe
 unfolding append_refusal
 taken buffer len inputLen answerLen e =
     let log = take len buffer in let n = record_count log in
-    let t = done_none (append_table buffer len inputLen answerLen) refl e in
+    let t = done_none (append_table buffer len inputLen answerLen) e in
     let h = ltb-false (length buffer) len (t 2) in let is = not-false (is_log log) (t 3) in let l = is_a_log log is in
     let m = eqb-false n most_records (t 5) in
     let e : len ≡ record_bytes * n + log_trailer_bytes = sym (length-take-le len buffer h) ∙ l.whole in
@@ -68,13 +60,16 @@ taken buffer len inputLen answerLen e =
     below : (n : ℕ) → n ≤ most_records → (n ≡ most_records → ⊥) → n < most_records
     below n h m = omega (arith, m)
 
--- what an append leaves that asked a function, which said o, and was not refused (t is whether o is done)
-pub written : (buffer : List ℕ) (len : ℕ) (input answer : List ℕ) {o : Outcome} {t : Bool} → o ≡ append_refusal buffer len (length input) (length answer) → t ≡ is_done o → t ≡ true
+-- of an append that asked a function, which said o, and was not refused: what it has, and what it leaves
+pub let_through : {buffer : List ℕ} {len inputLen answerLen : ℕ} {o : Outcome} {u : Unit} → o ≡ append_refusal buffer len inputLen answerLen → o ≡ Ok u → Taken buffer len inputLen answerLen
+let_through e d = taken _ _ _ _ (accepted e d)
+
+pub written : (buffer : List ℕ) (len : ℕ) (input answer : List ℕ) {o : Outcome} {u : Unit} → o ≡ append_refusal buffer len (length input) (length answer) → o ≡ Ok u
     → {n : ℕ} {later : List ℕ} → n ≡ record_count (take len buffer) → later ≡ with_record buffer (record_bytes * n) (n + 1) input answer → left Done later ≡ append_call buffer len input answer
 unfolding append_call
-written buffer len input answer {o} {t} e d f c p =
-    let at : len - log_trailer_bytes ≡ record_bytes * record_count (take len buffer) = omega (arith, (taken buffer len (length input) (length answer) (accepted e d f)).len_is) in
-    rw (← e, ← d, f, at, p, c)
+written buffer len input answer {o} e d c p =
+    let at : len - log_trailer_bytes ≡ record_bytes * record_count (take len buffer) = omega (arith, (let_through e d).len_is) in
+    rw (← e, d, at, p, c)
 
 -- ---- the input, the answer and the trailer, written one after another, are one run
 
@@ -94,8 +89,3 @@ unfolding record_at
 record_length b i e =
     let h : record_bytes ≤ length (drop (record_bytes * i) b) = omega (arith, length-drop (record_bytes * i) b, (there b i e).within) in
     rw e (length-take-le record_bytes (drop (record_bytes * i) b) h)
-
-pub handed : (log : List ℕ) (i : ℕ) (into : List ℕ) {later : List ℕ} → length into ≡ record_bytes → is_log log ≡ true → has_record log i ≡ true → later ≡ record_at log i
-    → left Done later ≡ record_call log i into
-unfolding record_call
-handed log i into h l r e = rw (h, l, r, e)

@@ -1,10 +1,11 @@
 -- What is refused, by append and by the reader alike; and what a call leaves as it was. Assumes nothing.
-use Rattle.laws.proofs.Prelude.{◌≡◌, refl, sym, ap, ◌⊎◌, inl, inr, ◌↔◌, Bool, true, false, not, List, [], ◌∷◌, ◌++◌, ℕ, ◌+◌, ◌-◌, ◌≤◌, ◌<◌, arith, ltb-true, lt-ltb, ltb, eqb, length, take, get_or}
+use Rattle.std.specs.Prelude.{Err}
+use Rattle.laws.proofs.Prelude.{◌≡◌, refl, sym, ◌⊎◌, inl, inr, ◌↔◌, Bool, true, false, not, List, [], ◌∷◌, ◌++◌, ℕ, ◌+◌, ◌-◌, ◌≤◌, ◌<◌, arith, ltb-true, lt-ltb, ltb, eqb, length, take, get_or}
 use Rattle.laws.proofs.Prelude.{length-append, no}
 use lib.Seq.{take-length}
 use Rattle.words.{specs.Words.bytes_of, proofs.Written.sets_other}
 use Rattle.image.specs.Layout.{input_bytes, answer_bytes}
-use Rattle.outcome.specs.{declared.Outcome.{Outcome, TheVariants.{BrokenLog, NoRoom, PassThrough}}, Outcomes.{number, is_done, first_of, left, Filled}}
+use Rattle.outcome.specs.{declared.Refusal.TheVariants.{BrokenLog, NoRoom, PassThrough}, Outcomes.{Outcome, is_done, first_of, left, Filled}}
 use Rattle.outcome.proofs.Tables.{never_given, refused_keeps, either}
 use Rattle.flight_log.specs.Form.{record_bytes, log_trailer_bytes, most_records, trailer, empty_log, from_end, record_count, is_log}
 use Rattle.flight_log.specs.Entry.{append_table, append_refusal, append_call, count_table, record_table}
@@ -15,14 +16,14 @@ use Rattle.flight_log.proofs.LogForm.{Taken, taken}
 abbrev eight : Bool → Bool → Bool → Bool → Outcome
 eight u v x y = first_of ((u, BrokenLog) ∷ (not v, BrokenLog) ∷ (x, NoRoom) ∷ (y, NoRoom) ∷ [])
 
-broken : (u v x y : Bool) → eight u v x y ≡ BrokenLog → (u ≡ true) ⊎ (v ≡ false)
+broken : (u v x y : Bool) → eight u v x y ≡ Err BrokenLog → (u ≡ true) ⊎ (v ≡ false)
 broken true v x y e = inl refl
 broken false false x y e = inr refl
-broken false true true y e = absurd (omega (arith, ap number e))
-broken false true false true e = absurd (omega (arith, ap number e))
-broken false true false false e = absurd (omega (arith, ap number e))
+broken false true true y e = cc
+broken false true false true e = cc
+broken false true false false e = cc
 
-breaks : (u v x y : Bool) → (u ≡ true) ⊎ (v ≡ false) → eight u v x y ≡ BrokenLog
+breaks : (u v x y : Bool) → (u ≡ true) ⊎ (v ≡ false) → eight u v x y ≡ Err BrokenLog
 breaks true v x y h = refl
 breaks false false x y h = refl
 breaks false true x y (inl e) = no e
@@ -30,7 +31,7 @@ breaks false true x y (inr e) = no (sym e)
 
 -- append gives 8 exactly if the length exceeds the buffer or the bytes of that length are no log, for which the reader gives it (`count_table`, `record_table`)
 pub same_refusal : (buffer : List ℕ) (len : ℕ) (input answer : List ℕ) → length input ≡ input_bytes → length answer ≡ answer_bytes
-    → (append_refusal buffer len (length input) (length answer) ≡ BrokenLog) ↔ ((length buffer < len) ⊎ (is_log (take len buffer) ≡ false))
+    → (append_refusal buffer len (length input) (length answer) ≡ Err BrokenLog) ↔ ((length buffer < len) ⊎ (is_log (take len buffer) ≡ false))
 unfolding append_refusal
 same_refusal buffer len input answer h k =
     let log = take len buffer in let u = ltb (length buffer) len in let x = ltb (length buffer - len) record_bytes in
@@ -42,7 +43,7 @@ same_refusal buffer len input answer h k =
 
 -- so on a whole slice they give it for the same bytes
 pub same_on_a_whole_slice : (log input answer : List ℕ) → length input ≡ input_bytes → length answer ≡ answer_bytes
-    → (append_refusal log (length log) (length input) (length answer) ≡ BrokenLog) ↔ (is_log log ≡ false)
+    → (append_refusal log (length log) (length input) (length answer) ≡ Err BrokenLog) ↔ (is_log log ≡ false)
 same_on_a_whole_slice log input answer h k =
     let s = same_refusal log (length log) input answer h k in (λ e. elim (s.0 e) [ inl l ↦ absurd (omega (arith, l)) | inr r ↦ rw take-length at r ], λ r. s.1 (inr (rw take-length r)))
 
@@ -85,9 +86,9 @@ module _ (buffer : List ℕ) (len : ℕ) (input answer : List ℕ) where
 
 -- ---- "11 .. at set-up alone" (request Twelve)
 
-pub no_append_gives_eleven : (buffer : List ℕ) (len inputLen answerLen : ℕ) → ¬ (append_refusal buffer len inputLen answerLen ≡ PassThrough)
+pub no_append_gives_eleven : (buffer : List ℕ) (len inputLen answerLen : ℕ) → ¬ (append_refusal buffer len inputLen answerLen ≡ Err PassThrough)
 unfolding append_refusal
-no_append_gives_eleven buffer len inputLen answerLen = never_given PassThrough refl (append_table buffer len inputLen answerLen) refl
+no_append_gives_eleven buffer len inputLen answerLen = never_given PassThrough (append_table buffer len inputLen answerLen) refl
 
-pub no_reading_gives_eleven : (log : List ℕ) (place n : ℕ) → ¬ (first_of (count_table log n) ≡ PassThrough) × ¬ (first_of (record_table log place n) ≡ PassThrough)
-no_reading_gives_eleven log place n = (never_given PassThrough refl (count_table log n) refl, never_given PassThrough refl (record_table log place n) refl)
+pub no_reading_gives_eleven : (log : List ℕ) (place n : ℕ) → ¬ (first_of (count_table log n) ≡ Err PassThrough) × ¬ (first_of (record_table log place n) ≡ Err PassThrough)
+no_reading_gives_eleven log place n = (never_given PassThrough (count_table log n) refl, never_given PassThrough (record_table log place n) refl)

@@ -3,8 +3,8 @@ use Rattle.std.specs.Prelude.{ℕ, ◌+◌, ◌-◌, not, List, [], ◌∷◌, �
 use Rattle.std.proofs.lemmas.List.Edits.{sets}
 use Rattle.words.specs.Words.{bytes_of}
 use Rattle.image.specs.Layout.{input_bytes, answer_bytes}
-use Rattle.outcome.specs.declared.Outcome.{Outcome}
-use Rattle.outcome.specs.declared.Outcome.TheVariants.{InputLength, AnswerLength, BrokenLog, NoRoom, NoRecord, RecordLength}
+use Rattle.outcome.specs.Outcomes.{Outcome}
+use Rattle.outcome.specs.declared.Refusal.TheVariants.{InputLength, AnswerLength, BrokenLog, NoRoom, NoRecord, RecordLength}
 use Rattle.outcome.specs.Outcomes.{Table, first_of, differs, left_unless, Filled}
 use Rattle.flight_log.specs.Form.{record_bytes, log_trailer_bytes, most_records, trailer, record_count, is_log}
 use Rattle.flight_log.specs.Records.{has_record, record_at}

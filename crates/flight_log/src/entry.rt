@@ -9,33 +9,28 @@ ghost use Rattle.flight_log.specs.Entry.{append_refusal, with_record, append_cal
 
 use super::form::{MOST_RECORDS, RECORD_BYTES, is_log, record_count};
 use image::{ANSWER_BYTES, INPUT_BYTES};
-use outcome::{Outcome, is_done};
+use outcome::{Outcome, Refusal};
 use words::{put_bytes, put_word};
 
 // What an append would be refused for.
+#[tactic(auto, using(crate::proofs::LogForm::is_a_log), unfolding(crate::specs::Entry::append_refusal))]
 fn append_refusal(buffer: &[u8], log_len: usize, input_len: usize, answer_len: usize) -> Outcome
     ensures { result ≡ append_refusal buffer.now log_len input_len answer_len }
 {
     if input_len != INPUT_BYTES {
-        return Outcome::InputLength;
+        return Err(Refusal::InputLength);
     }
     if answer_len != ANSWER_BYTES {
-        return Outcome::AnswerLength;
+        return Err(Refusal::AnswerLength);
     }
-    if log_len > buffer.len() {
-        return Outcome::BrokenLog;
-    }
-    let log = &buffer[..log_len];
+    let log = buffer.get(..log_len).ok_or(Refusal::BrokenLog)?;
     if !is_log(log) {
-        return Outcome::BrokenLog;
+        return Err(Refusal::BrokenLog);
     }
-    if buffer.len() - log_len < RECORD_BYTES {
-        return Outcome::NoRoom;
+    if buffer.len() - log_len < RECORD_BYTES || record_count(log) == MOST_RECORDS {
+        return Err(Refusal::NoRoom);
     }
-    if record_count(log) == MOST_RECORDS {
-        return Outcome::NoRoom;
-    }
-    Outcome::Done
+    Ok(())
 }
 
 // The trailer of so many records, from word k on.
@@ -61,14 +56,12 @@ fn put_record(buffer: &mut [u8], count: usize, input: &[u8], answer: &[u8])
 }
 
 // The record takes the place of the old trailer.
+#[tactic(auto, unfolding(crate::specs::Entry::append_call))]
 pub fn append(buffer: &mut [u8], log_len: usize, input: &[u8], answer: &[u8]) -> Outcome
     ensures { left result buffer.new ≡ append_call buffer.old log_len input.now answer.now }
 {
-    let refusal = append_refusal(buffer, log_len, input.len(), answer.len());
-    if !is_done(refusal) {
-        return refusal;
-    }
+    append_refusal(buffer, log_len, input.len(), answer.len())?;
     let count = record_count(&buffer[..log_len]);
     put_record(buffer, count, input, answer);
-    Outcome::Done
+    Ok(())
 }

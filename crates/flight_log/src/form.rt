@@ -13,6 +13,7 @@ pub const TRAILER_BYTES: usize = 12;
 pub const MOST_RECORDS: usize = 65535;
 
 // The word that starts so many bytes before the end.
+#[tactic(auto, unfolding(crate::specs::Form::from_end))]
 fn from_end(log: &[u8], back: usize) -> usize
     requires { (4 ≤ back) × (back ≤ length log.now) }
     ensures { result ≡ from_end log.now back }
@@ -28,22 +29,13 @@ pub(crate) fn record_count(log: &[u8]) -> usize
 }
 
 // The count is tested before it is multiplied: 108 times 2^30 is 0 in 32 bits.
+#[tactic(auto, unfolding(crate::specs::Form::is_log))]
 pub fn is_log(log: &[u8]) -> bool
     ensures { result ≡ is_log log.now }
 {
-    let length = log.len();
-    if length < TRAILER_BYTES {
-        return false;
-    }
-    if from_end(log, 4) != RECORD_BYTES {
-        return false;
-    }
-    let count = record_count(log);
-    if count > MOST_RECORDS {
-        return false;
-    }
-    if from_end(log, 8) != RECORD_BYTES * count {
-        return false;
-    }
-    length == RECORD_BYTES * count + TRAILER_BYTES
+    log.len() >= TRAILER_BYTES
+        && from_end(log, 4) == RECORD_BYTES
+        && record_count(log) <= MOST_RECORDS
+        && from_end(log, 8) == RECORD_BYTES * record_count(log)
+        && log.len() == RECORD_BYTES * record_count(log) + TRAILER_BYTES
 }

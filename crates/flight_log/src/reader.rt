@@ -11,19 +11,19 @@ pub struct Reader<'a> {
 }
 
 // The next record, as a part of the lent log, or no byte where there is none.
+#[tactic(auto, unfolding(crate::specs::Records::record_at))]
 pub fn next<'a>(reader: Reader<'a>) -> &'a [u8]
     ensures { result.now ≡ record_at reader.entry.log.now reader.entry.place }
 {
-    record_at(reader.log, reader.place)
+    record_at(reader.log, reader.place).unwrap_or(&[])
 }
 
 // The reader past that record.
 pub fn moved<'a>(reader: Reader<'a>) -> Reader<'a>
     ensures { (result.log ≡ reader.entry.log) × (result.place ≡ place_after reader.entry.log.now reader.entry.place) }
 {
-    let place = place_after(reader.log, reader.place);
     Reader {
-        log: reader.log,
-        place,
+        place: place_after(reader.log, reader.place),
+        ..reader
     }
 }

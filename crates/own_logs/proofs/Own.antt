@@ -1,16 +1,17 @@
 -- Completeness of request Ten: every log of one run of ours is all right. Assumes nothing.
 use Rattle.laws.proofs.Prelude.{◌≡◌, refl, sym, ap, subst, ◌∙◌, Bool, true, false, List, [], ◌∷◌, ◌++◌, ℕ, Float, length}
+use Rattle.std.proofs.Common.{None}
 use Rattle.words.specs.Words.{word, float, bytes_of}
 use Rattle.latch.specs.Latch.{after}
 use Rattle.relay_geo.specs.{declared.shield.SimplexShield.SimplexShield, Shield.{mend_thresholds, new_shield}}
 use Rattle.joint_tick.specs.{declared.state.State.State, Profile.{is_profile, profile_of}, SetUp.set_up}
 use Rattle.image.{specs.{Layout.{setup_enter, setup_exit, setup_profile}, Image.fixed_at, Inputs.setup_at}, proofs.Decoded.decode_encode}
-use Rattle.outcome.specs.{declared.Outcome.TheVariants.Done, Outcomes.{is_done, left}}
+use Rattle.outcome.specs.{Outcomes.{Done, is_done, left}}
 use Rattle.lent_tick.{specs.Steps.shield_at, proofs.NeverRefused.set_up_fits}
 use Rattle.flight_log.{specs.{Form.is_log, Records.records, Runs.{ToAppend, NoneRefused, records_of, at_first}}, proofs.Reading.{kept_all, records_kept, never_refused}}
 use Rattle.runs.specs.{Runs.{Call, Ticks, Exchanges, tick_of, left_by, margins_by, start, image_after}, DemandThree.{enter_of, exit_of}}
 use Rattle.runs.proofs.Induction.{call_steps, start_engaged, thresholds_in_order, thresholds_kept, ran}
-use Rattle.audit.{specs.{declared.Verdict.TheVariants.AllRight, Verdict.verdict_of, Entry.{verdict_on, check_call}}, proofs.{Carried.{Carried, carried_right}, VerdictCall.taken}}
+use Rattle.audit.{specs.{Verdict.verdict_of, Entry.{verdict_on, check_call}}, proofs.{Carried.{Carried, carried_right}, VerdictCall.taken}}
 use Rattle.own_logs.specs.Own.{keeps_of, keeps_along, ticks_kept, own_log}
 use Rattle.own_logs.proofs.RecordRight.{margin_kept, right_kept}
 
@@ -79,7 +80,7 @@ module _ (setup : List ℕ) (p : is_profile (word setup setup_profile) ≡ true)
   -- "Any log of every tick of one run from our own set-up, given with that set-up's enter, exit and profile, is accepted": plain and route ticks in any order, with
   -- exchanges and refused calls between, in both profiles. Any bytes whose records are these, however they came to be: grown in one buffer, moved to a longer one, copied.
   module _ (log : List ℕ) (calls : List Call) (e : records log ≡ ticks_kept (start setup) calls) where
-    pub any_log_right : verdict_on log (word setup setup_profile) (float setup setup_enter) (float setup setup_exit) ≡ AllRight
+    pub any_log_right : verdict_on log (word setup setup_profile) (float setup setup_enter) (float setup setup_exit) ≡ None
     unfolding verdict_on image_after
     any_log_right =
         let by = profile_of (word setup setup_profile) in

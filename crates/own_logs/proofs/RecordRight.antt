@@ -1,6 +1,6 @@
 -- The record of one accepted tick of a run is right by the flag that the shield then has. Assumes nothing.
-use Rattle.laws.proofs.Prelude.{◌≡◌, refl, sym, ap, subst, ◌∙◌, Bool, true, false, not, cond, List, [], ◌∷◌, ◌++◌, map, ℕ, zero, suc, ◌+◌, ◌*◌, ◌<◌, ◌≤◌, arith, eqb, binary32, length, get_or}
-use Rattle.laws.proofs.Prelude.{List·getD-append, no, both}
+use Rattle.laws.proofs.Prelude.{◌≡◌, refl, sym, ap, subst, ◌∙◌, Bool, true, false, cond, List, [], ◌∷◌, ◌++◌, map, ℕ, zero, suc, ◌+◌, ◌*◌, ◌<◌, ◌≤◌, arith, eqb, binary32, length, get_or}
+use Rattle.laws.proofs.Prelude.{List·getD-append}
 use lib.Ieee.Bits.{is_true, of_bits-to_bits}
 use Rattle.relay_math.specs.{declared.Vec3.Vec3, F32.is_finite}
 use Rattle.words.{specs.Words.{word, float, float_of, bits, flag}, proofs.WordsBack.four_after}
@@ -9,7 +9,7 @@ use Rattle.relay_geo.{specs.Vectors.Finite3, proofs.Sanitised.sanitise3_finite}
 use Rattle.joint_tick.{specs.{declared.profile.Profile.{Profile, TheVariants.{Whole, LostRotor}}, Profile.{is_profile, profile_of}, Tick.guidance}, proofs.Shielding.tick_fallback}
 use Rattle.image.specs.{Layout.{input_words, input_bytes, answer_bytes, AGILE, COMMAND, FLAG, MARGIN, PROFILE, setup_profile}, Image.state_at, Inputs.input_at, Passed.{passed_on, planner_word}}
 use Rattle.image.{specs.Fits.FitsVec, proofs.{AnswerWords.command_words_lem, AnswerFits.command_fits}}
-use Rattle.outcome.{specs.{declared.Outcome.TheVariants.Done, Outcomes.{is_done, Table, first_of, Called}}, proofs.Tables.{refuses, done_none, done_exactly, same, either}}
+use Rattle.outcome.{specs.Outcomes.{is_done, first_of, Called}, proofs.Tables.{done_is, done_none, done_exactly, same, either}}
 use Rattle.lent_tick.{specs.{Unbroken.Unbroken, Tick.{tick_table, tick_from}, Steps.shield_at}, proofs.TickLeaves.taken_unbroken}
 use Rattle.route.specs.{Form.{form_table, form_refusal}, Entry.route_refusal}
 use Rattle.runs.specs.{Runs.{Course, Segment, Route, Tick, Call, tick_of, source_on, guided, start, image_after, RightCourse, Right}, DemandThree.{enter_of, exit_of, command_words, Shows}}
@@ -30,18 +30,13 @@ word_behind a b n k h = let e : 4 * (n + k) ≡ length a + 4 * k = omega arith i
 
 -- ---- an accepted tick was given what it should be
 
-done_is : (rows : Table) → refuses rows ≡ true → is_done (first_of rows) ≡ true → first_of rows ≡ Done
-done_is [] r e = refl
-done_is ((true, o) ∷ rows) r e = no (sym (done_none ((true, o) ∷ rows) r e 0))
-done_is ((false, o) ∷ rows) r e = done_is rows (both (not (is_done o)) (refuses rows) r).1 e
-
 given_right : (c : Course) (image : List ℕ) (inputLen answerLen : ℕ) → is_done (refusal_on c image inputLen answerLen) ≡ true
     → (inputLen ≡ input_bytes) × (answerLen ≡ answer_bytes) × RightCourse c
 unfolding route_refusal form_refusal
 given_right Segment image inputLen answerLen e = let t = taken_unbroken image inputLen answerLen e in (t.1, t.2, tt)
 given_right (Route route) image inputLen answerLen e =
-    let n = done_none (tick_table image inputLen answerLen ++ form_table route) refl e in
-    (same inputLen input_bytes (n 1), same answerLen answer_bytes (n 2), done_is (form_table route) refl ((done_exactly (form_table route) refl).1 (λ k. n (suc (suc (suc (suc k)))))))
+    let n = done_none (tick_table image inputLen answerLen ++ form_table route) e in
+    (same inputLen input_bytes (n 1), same answerLen answer_bytes (n 2), done_is (first_of (form_table route)) ((done_exactly (form_table route)).1 (λ k. n (suc (suc (suc (suc k)))))))
 
 pub accepted_right : (image : List ℕ) (t : Tick) → is_done (tick_of image t).outcome ≡ true → Right t
 unfolding tick_from

@@ -4,7 +4,7 @@ use Rattle.laws.proofs.Prelude.{no}
 use Rattle.words.specs.Words.{word, float, bytes_of}
 use Rattle.joint_tick.specs.{Profile.is_profile, Tick.ticked}
 use Rattle.image.{specs.{Layout.{input_bytes, answer_bytes, setup_enter, setup_exit, setup_profile}, Image.state_at, Inputs.input_at}, proofs.AnswerWords.answer_length}
-use Rattle.outcome.{specs.{declared.Outcome.TheVariants.Done, Outcomes.{is_done, left, Filled, Called}}, proofs.Tables.either}
+use Rattle.outcome.{specs.{Outcomes.{Done, is_done, left, Filled, Called}}, proofs.Tables.either}
 use Rattle.lent_tick.specs.Tick.{tick_from}
 use Rattle.flight_log.specs.{Form.{record_bytes, most_records, empty_log, record_count, is_log}, Records.records, Entry.{append_refusal, append_call}}
 use Rattle.flight_log.specs.Runs.{LogBuffer, log_in, ToAppend, appended, after_one, after_all, kept_along, NoneRefused, records_of, at_first}

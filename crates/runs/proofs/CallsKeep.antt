@@ -10,7 +10,7 @@ use Rattle.joint_tick.specs.{declared.{profile.Profile.TheVariants.LostRotor, st
 use Rattle.joint_tick.{specs.{SetUp.{set_up, exchange}, Tick.{prepare, follow, pick, guide_pick_follow, ticked, state_after}}, proofs.{TickKeeps.tick_keeps as gains-kept, LostRotor.third_stands}}
 use Rattle.image.specs.{Layout.{image_bytes, COUNT, GOVERNOR, PROFILE, image_words, setup_profile}, Parts.{leg_at, profile_at, floats_of_adrc_gains, floats_of_axis}}
 use Rattle.image.{specs.{Image.{fixed_at, state_at, words_of_state, image_of}, Inputs.{setup_at, input_at}}, proofs.Decoded.{profile_written, decode_encode}}
-use Rattle.outcome.{specs.Outcomes.{number, is_done, Filled, Called}, proofs.Tables.{done_none, same, either}}
+use Rattle.outcome.{specs.Outcomes.{number, is_done, Filled, Called}, proofs.Tables.{done_none, done_is_zero, same, either}}
 use Rattle.lent_tick.{specs.{Unbroken.{unbroken, Unbroken}, Tick.{tick_table, tick_from}}, proofs.{RowFour.{profile_of_word, own_words}, NeverRefused.set_up_fits, TickLeaves.taken_unbroken}}
 use Rattle.lent_tick.proofs.TickSteps.{image_runs, tick_clock}
 use Rattle.calls.specs.Entry.{exchange_refusal, exchange_call}
@@ -100,7 +100,7 @@ taken_on : (c : Course) (image : List ℕ) (inputLen answerLen : ℕ) → is_don
 unfolding route_refusal
 taken_on Segment image inputLen answerLen e = (taken_unbroken image inputLen answerLen e).0
 taken_on (Route route) image inputLen answerLen e =
-    let t = done_none (tick_table image inputLen answerLen ++ form_table route) refl e in
+    let t = done_none (tick_table image inputLen answerLen ++ form_table route) e in
     record { whole = same (length image) image_bytes (t 0); row_four_lem = not-false (unbroken image) (t 3) }
 
 -- what an accepted tick of either kind leaves, so far as these words go
@@ -115,7 +115,7 @@ module _ (image : List ℕ) (t : Tick) (done : number (tick_of image t).outcome 
       subst (λ (c : Called). number c.outcome ≡ 0 → SameWords these image c.later.image) (sym (flying_is t.course image t.input t.answer))
       (either (λ (c : Called). number c.outcome ≡ 0 → SameWords these image c.later.image) o
       (λ e z. kept (taken_on t.course image _ _ e))
-      (λ e z. no (sym e ∙ ap (λ (x : ℕ). eqb x 0) z))) done
+      (λ e z. no (sym e ∙ done_is_zero o ∙ ap (λ (x : ℕ). eqb x 0) z))) done
 
   -- "words 0 to 14 and 17 to 40 are kept", and ADRC's gains, the filters' coefficients, the profile and the peaks: each is the word before, a NaN made 7fc00000
   pub words_kept : SameWords kept_by_ticks image (tick_of image t).later.image

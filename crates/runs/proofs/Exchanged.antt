@@ -6,7 +6,7 @@ use Rattle.relay_math.specs.F32.{0·0}
 use Rattle.relay_geo.specs.declared.shield.SimplexShield.{SimplexShield}
 use Rattle.relay_traj.proofs.GovernorClock.{starts_at_zero}
 use Rattle.joint_tick.specs.SetUp.{segment_of, set_up, exchange}
-use Rattle.outcome.specs.{declared.Outcome.TheVariants.Done, Outcomes.{left, Filled}}
+use Rattle.outcome.specs.{Outcomes.{Done, left, Filled}}
 use Rattle.image.specs.{Layout.{ENGAGED, GOVERNOR, SEGMENT, PEAKS, leg_bytes, setup_leg}, Parts.{segment_at, leg_at}, Image.{state_at, image_of, peaks_of}, Inputs.setup_at}
 use Rattle.image.proofs.Decoded.{image_is, segment_written, state_fits}
 use Rattle.lent_tick.{specs.Unbroken.Unbroken, proofs.{RowFour.unbroken_has, NeverRefused.{set_up_fits, exchange_fits}}}

@@ -1,11 +1,12 @@
 -- Request Twelve on bytes: what is refused with 11, what stays of images that were set up before, and that what set-up takes is filtered. Assumes nothing.
+use Rattle.std.specs.Prelude.{Err}
 use Rattle.laws.proofs.Prelude.{◌≡◌, refl, sym, ap, ◌∙◌, subst, Bool, true, false, ◌&&◌, cond, List, [], ◌∷◌, ◌++◌, ℕ, ◌+◌, ◌<◌, lit<, lt, of_bits, length, no}
 use Rattle.words.specs.Words.{word, float, float_of}
 use Rattle.latch.specs.Latch.{Flies}
 use Rattle.relay_math.specs.F32.{0·0}
 use Rattle.relay_adrc.{specs.{declared.biquad.Biquad.Biquad, Biquad.{lowpass_at, lowpass, gyro_new}}, proofs.Lowpass.filters}
 use Rattle.joint_tick.specs.{declared.state.State.State, Profile.is_profile, SetUp.set_up}
-use Rattle.outcome.specs.{declared.Outcome.{Outcome, TheVariants.{Done, BadProfile, PassThrough}}, Outcomes.{is_done, Table, left, left_unless, Filled}}
+use Rattle.outcome.specs.{declared.Refusal.TheVariants.{BadProfile, PassThrough}, Outcomes.{Outcome, Done, is_done, Table, left, left_unless, Filled}}
 use Rattle.outcome.proofs.Tables.{done_none, never_given, in_turn, either}
 use Rattle.image.{specs.{Layout.{LPF, biquad_words, image_words, image_bytes, setup_profile, setup_bytes}, Parts.{biquad_at, lpf_at}, Image.moving_at, Inputs.setup_at}, proofs.Decoded.decode_encode}
 use Rattle.lent_tick.{specs.{Unbroken.Unbroken, Tick.{tick_table, tick_refusal}}, proofs.NeverRefused.set_up_fits}
@@ -19,34 +20,34 @@ use Rattle.runs.proofs.{Induction.start_unbroken, DemandThree.demand_three, Call
 
 -- "11, after 10": exactly where the routine's own condition holds
 pub eleven_exactly : (setup : List ℕ) → length setup ≡ setup_bytes → is_profile (word setup setup_profile) ≡ true
-    → set_up_refusal image_bytes setup ≡ cond (unfiltered setup) PassThrough Done
-eleven_exactly setup e p = ten_exactly setup e ∙ ap (λ (b : Bool). cond b (cond (unfiltered setup) PassThrough Done) BadProfile) p
+    → set_up_refusal image_bytes setup ≡ cond (unfiltered setup) (Err PassThrough) Done
+eleven_exactly setup e p = ten_exactly setup e ∙ ap (λ (b : Bool). cond b (cond (unfiltered setup) (Err PassThrough) Done) (Err BadProfile)) p
 
 -- "at set-up alone"
-pub no_tick_gives_eleven : (image : List ℕ) (inputLen answerLen : ℕ) → ¬ (tick_refusal image inputLen answerLen ≡ PassThrough)
+pub no_tick_gives_eleven : (image : List ℕ) (inputLen answerLen : ℕ) → ¬ (tick_refusal image inputLen answerLen ≡ Err PassThrough)
 unfolding tick_refusal
-no_tick_gives_eleven image inputLen answerLen = never_given PassThrough refl (tick_table image inputLen answerLen) refl
+no_tick_gives_eleven image inputLen answerLen = never_given PassThrough (tick_table image inputLen answerLen) refl
 
-pub no_route_tick_gives_eleven : (image route : List ℕ) (inputLen answerLen : ℕ) → ¬ (route_refusal image inputLen answerLen route ≡ PassThrough)
+pub no_route_tick_gives_eleven : (image route : List ℕ) (inputLen answerLen : ℕ) → ¬ (route_refusal image inputLen answerLen route ≡ Err PassThrough)
 unfolding route_refusal
-no_route_tick_gives_eleven image route inputLen answerLen = never_given PassThrough refl (tick_table image inputLen answerLen ++ form_table route) refl
+no_route_tick_gives_eleven image route inputLen answerLen = never_given PassThrough (tick_table image inputLen answerLen ++ form_table route) refl
 
-pub no_exchange_gives_eleven : (image : List ℕ) (segmentLen : ℕ) → ¬ (exchange_refusal image segmentLen ≡ PassThrough)
+pub no_exchange_gives_eleven : (image : List ℕ) (segmentLen : ℕ) → ¬ (exchange_refusal image segmentLen ≡ Err PassThrough)
 unfolding exchange_refusal
-no_exchange_gives_eleven image segmentLen = never_given PassThrough refl (exchange_table image segmentLen) refl
+no_exchange_gives_eleven image segmentLen = never_given PassThrough (exchange_table image segmentLen) refl
 
 -- ---- set-up and the one of the release before differ in this alone: the number, and every byte of the image
 
 pub as_before_but_eleven : (image setup : List ℕ)
-    → set_up_call image setup ≡ cond (is_done (refusal_before (length image) setup) && unfiltered setup) (left PassThrough image) (set_up_before image setup)
+    → set_up_call image setup ≡ cond (is_done (refusal_before (length image) setup) && unfiltered setup) (left (Err PassThrough) image) (set_up_before image setup)
 unfolding set_up_call set_up_refusal set_up_before refusal_before start
 as_before_but_eleven image setup =
     let more : Table = (unfiltered setup, PassThrough) ∷ [] in
-    ap (λ (o : Outcome). left_unless o (start setup) image) (in_turn (table_before (length image) setup) more refl)
+    ap (λ (o : Outcome). left_unless o (start setup) image) (in_turn (table_before (length image) setup) more)
     ∙ by (refusal_before (length image) setup) (is_done (refusal_before (length image) setup)) (unfiltered setup) refl
   where
     by : (o : Outcome) (t u : Bool) → is_done o ≡ t
-        → left_unless (cond t (cond u PassThrough Done) o) (start setup) image ≡ cond (t && u) (left PassThrough image) (left_unless o (start setup) image)
+        → left_unless (cond t (cond u (Err PassThrough) Done) o) (start setup) image ≡ cond (t && u) (left (Err PassThrough) image) (left_unless o (start setup) image)
     by o true true e = refl
     by o true false e = rw e
     by o false u e = refl
@@ -82,7 +83,7 @@ module _ (image setup : List ℕ) (e : (set_up_before image setup).outcome ≡ D
 module _ (setup : List ℕ) (taken : SetsUp setup) where
   is_filtered : unfiltered setup ≡ false
   unfolding set_up_refusal
-  is_filtered = done_none (set_up_table image_bytes setup) refl (ap is_done taken) 3
+  is_filtered = done_none (set_up_table image_bytes setup) (ap is_done taken) 3
 
   -- of its filter b0 and b2 are one number, where a pass-through has 1 and 0
   alike : (f : Biquad) → f ≡ lowpass (setup_at setup).fc (setup_at setup).fs → f.b0 ≡ f.b2

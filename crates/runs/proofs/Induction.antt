@@ -4,7 +4,7 @@ use Rattle.words.specs.Words.{float}
 use Rattle.latch.specs.Latch.{latch, after, engaged_after}
 use Rattle.relay_geo.{specs.declared.shield.SimplexShield.SimplexShield, proofs.SetUp.starts_engaged}
 use Rattle.joint_tick.{specs.{declared.state.State.State, SetUp.set_up}, proofs.Shielding.tick_latch}
-use Rattle.outcome.specs.{declared.Outcome.TheVariants.Done, Outcomes.{left, Called}}
+use Rattle.outcome.specs.{Outcomes.{Done, left, Called}}
 use Rattle.image.{specs.{Layout.{ENTER, EXIT, image_bytes}, Image.{fixed_at, state_at}, Inputs.{setup_at, input_at}}, proofs.Decoded.decode_encode}
 use Rattle.lent_tick.{specs.{Unbroken.Unbroken, Steps.{margins_if, shield_at, stepped, Steps}}, proofs.{RowFour.unbroken_has, NeverRefused.{set_up_fits, set_up_never_refused}, TickSteps.tick_steps}}
 use Rattle.calls.{specs.Entry.{SetsUp, set_up_call}, proofs.ExchangeSteps.exchange_steps}

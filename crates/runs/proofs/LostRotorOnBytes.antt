@@ -1,4 +1,5 @@
 -- Request Six on bytes: ticks of either kind on an image whose profile's word is 1, and what is refused. Assumes nothing.
+use Rattle.std.specs.Prelude.{Err}
 use Rattle.laws.proofs.Prelude.{◌≡◌, refl, sym, ap, ◌∙◌, Bool, true, false, not, cond, and-false, List, ℕ, ◌+◌, ne_eqb, Float, of_bits, to_bits, length}
 use lib.Ieee.Bits.{of_bits-fits}
 use Rattle.words.specs.Words.{word, float, vec, flag, bits}
@@ -6,7 +7,7 @@ use Rattle.relay_math.specs.F32.{0·0}
 use Rattle.relay_adrc.specs.Biquad.{passes_through}
 use Rattle.joint_tick.specs.{declared.{state.{State.State, TickInput.TickInput}, stages.Ticked.Ticked}, Profile.is_profile, SetUp.set_up, Tick.{reference_at, ticked, state_after}}
 use Rattle.joint_tick.proofs.LostRotor.{headed, heading_unread, third_stands, third_command_zero}
-use Rattle.outcome.specs.{declared.Outcome.{Outcome, TheVariants.{Done, ImageLength, BrokenImage, BadProfile, PassThrough}}, Outcomes.{left_unless, lent, Called}}
+use Rattle.outcome.specs.{declared.Refusal.TheVariants.{ImageLength, BrokenImage, BadProfile, PassThrough}, Outcomes.{Outcome, Done, left_unless, lent, Called}}
 use Rattle.image.specs.{Layout.{COUNT, PROFILE, image_words, image_bytes, setup_fc, setup_fs, setup_profile, setup_bytes, YAW, yaw_rate_word, input_bytes, TORQUE, COMMAND, answer_bytes}, Parts.quat_at}
 use Rattle.image.{specs.{Image.{state_at, image_of}, Inputs.{setup_at, input_at, answer_of}, Fits.F32}, proofs.{Decoded.decode_encode, AnswerWords.{third_torque_word, command_words_lem}}}
 use Rattle.image.proofs.AnswerFits.{command_fits}
@@ -75,24 +76,24 @@ planner_flies_unheaded yaw =
 
 -- "10 set-up word 51 not 0 or 1, after 2", and before 11, which proofs/Gyro.antt is about
 pub ten_exactly : (input : List ℕ) → length input ≡ setup_bytes
-    → set_up_refusal image_bytes input ≡ cond (is_profile (word input setup_profile)) (cond (passes_through (float input setup_fc) (float input setup_fs)) PassThrough Done) BadProfile
+    → set_up_refusal image_bytes input ≡ cond (is_profile (word input setup_profile)) (cond (passes_through (float input setup_fc) (float input setup_fs)) (Err PassThrough) Done) (Err BadProfile)
 unfolding set_up_refusal
-ten_exactly input e = rw e (by (is_profile (word input setup_profile)) (cond (passes_through (float input setup_fc) (float input setup_fs)) PassThrough Done))
+ten_exactly input e = rw e (by (is_profile (word input setup_profile)) (cond (passes_through (float input setup_fc) (float input setup_fs)) (Err PassThrough) Done))
   where
-    by : (b : Bool) (o : Outcome) → cond (not b) BadProfile o ≡ cond b o BadProfile
+    by : (b : Bool) (o : Outcome) → cond (not b) (Err BadProfile) o ≡ cond b o (Err BadProfile)
     by true o = refl
     by false o = refl
 
 -- "Old images get 1", and 4 in the new length: by any other length and any other count
-pub other_length_refused : (image : List ℕ) (inputLen answerLen : ℕ) → ¬ (length image ≡ image_bytes) → tick_refusal image inputLen answerLen ≡ ImageLength
+pub other_length_refused : (image : List ℕ) (inputLen answerLen : ℕ) → ¬ (length image ≡ image_bytes) → tick_refusal image inputLen answerLen ≡ Err ImageLength
 unfolding tick_refusal
 other_length_refused image inputLen answerLen d = rw (ne_eqb (length image) image_bytes d)
 
-pub other_count_refused : (image : List ℕ) → length image ≡ image_bytes → ¬ (word image COUNT ≡ image_words) → tick_refusal image input_bytes answer_bytes ≡ BrokenImage
+pub other_count_refused : (image : List ℕ) → length image ≡ image_bytes → ¬ (word image COUNT ≡ image_words) → tick_refusal image input_bytes answer_bytes ≡ Err BrokenImage
 unfolding tick_refusal unbroken
 other_count_refused image e d = rw (e, ne_eqb (word image COUNT) image_words d)
 
 -- "a tick finds a bad word 95 under 4"
-pub bad_profile_refused : (image : List ℕ) → length image ≡ image_bytes → is_profile (word image PROFILE) ≡ false → tick_refusal image input_bytes answer_bytes ≡ BrokenImage
+pub bad_profile_refused : (image : List ℕ) → length image ≡ image_bytes → is_profile (word image PROFILE) ≡ false → tick_refusal image input_bytes answer_bytes ≡ Err BrokenImage
 unfolding tick_refusal unbroken
 bad_profile_refused image e p = simp (e, p, and-false)

@@ -1,15 +1,16 @@
 -- What the joint tick's theorems say of an answer, on its bytes: no desired attitude, no thrust axis, and which numbers are finite. Assumes nothing.
+use Rattle.std.specs.Prelude.{None}
 use Rattle.laws.proofs.Prelude.{◌≡◌, refl, sym, ap, ◌∙◌, not, List, [], ◌∷◌, ℕ, T, Float, is_nan, fits, of_bits, to_bits, length}
 use Rattle.words.specs.Words.{word, float, vec, flag, bits}
 use Rattle.relay_math.specs.Exact.{in_range}
 use Rattle.relay_traj.specs.{declared.segment.Segment3.Segment3, Governor.Running}
-use Rattle.relay_geo.specs.{declared.vectors.Direction.TheVariants.Refused, Vectors.Finite3, Attitude.thrust_axis_ned, Set.minus_infinity}
+use Rattle.relay_geo.specs.{Vectors.Finite3, Attitude.thrust_axis_ned, Set.minus_infinity}
 use Rattle.joint_tick.specs.declared.{profile.Profile.TheVariants.Whole, state.{Answer.Answer, State.State, TickInput.TickInput}, stages.Reference.Reference}
 use Rattle.joint_tick.specs.Tick.{reference_at, cleaned, pick, guide_pick_follow, ticked}
 use Rattle.joint_tick.proofs.{Shielding.{wanted_at, tick_margin}, TickNoAttitude.{Damped, bad_heading_tick, no_axis_tick}, AnswerFinite.answer_finite, TickClock.{tick_time, time_never_back}}
 use Rattle.image.specs.{Layout.{PROFILE, YAW, TORQUE, COMMAND, TIME, PSI, MARGIN}, Parts.profile_at, Image.{fixed_at, state_at}, Inputs.input_at, Fits.F32}
 use Rattle.image.proofs.{AnswerFits.{margin_fits, command_fits, torque_fits}, AnswerWords.{torque_answered, command_answered, command_words_lem, time_answered, psi_word, margin_answered, margin_word}}
-use Rattle.outcome.specs.declared.Outcome.TheVariants.{Done}
+use Rattle.outcome.specs.Outcomes.{Done}
 use Rattle.lent_tick.{specs.{Unbroken.Unbroken, Tick.tick_from}, proofs.RowFour.unbroken_has}
 use Rattle.route.{specs.{Form.form_refusal, Entry.{sample_byte_count, sample_call, on_route, reference_told}}, proofs.{Sampled.{sampled_done, told_on_route}, OneLeg.one_leg}}
 use Rattle.runs.specs.{Runs.{Course, Segment, Route, Tick, tick_of, source_on, RightCourse, Right, Flies}, DemandThree.{flag_of, command_words}}
@@ -60,7 +61,7 @@ module _ (image : List ℕ) (t : Tick) (a : Unbroken image) (r : Right t) where
   bad_heading_on_bytes p far = unheld (bad_heading_tick source s i (whole image p) far)
 
   -- in profile 1 the same where the thrust axis refuses
-  pub no_axis_on_bytes : word image PROFILE ≡ 1 → thrust_axis_ned (cleaned (wanted_at source s i)).acc ≡ Refused → Unheld image t
+  pub no_axis_on_bytes : word image PROFILE ≡ 1 → thrust_axis_ned (cleaned (wanted_at source s i)).acc ≡ None → Unheld image t
   no_axis_on_bytes p e = unheld (no_axis_tick source s i (lost image p) e)
 
   -- ---- "Torque and command are finite whatever comes in; the time and the margin are never NaN; only the psi word can be."

@@ -7,7 +7,7 @@ use Rattle.joint_tick.specs.declared.{profile.Profile.{Profile, TheVariants.{Who
 use Rattle.joint_tick.{specs.Tick.{planner_of, guidance, ticked, state_after}, proofs.Shielding.{tick_margin, tick_planner, tick_fallback, planner_is}}
 use Rattle.image.specs.{Layout.{PROFILE, FLAG, MARGIN, input_bytes, answer_bytes}, Parts.profile_at, Image.{fixed_at, state_at, image_of}, Inputs.{input_at, answer_of}, Passed.{passed_on, planner_word}}
 use Rattle.image.{specs.Fits.F32, proofs.{AnswerWords.{flag_answered, margin_answered, margin_word, command_words_lem}, AnswerFits.{margin_fits, command_fits}}}
-use Rattle.outcome.specs.{declared.Outcome.{Outcome, TheVariants.Done}, Outcomes.{left, lent}}
+use Rattle.outcome.specs.{Outcomes.{Outcome, Done, left, lent}}
 use Rattle.lent_tick.{specs.{Unbroken.Unbroken, Tick.{tick_refusal, tick_from}}, proofs.TickLeaves.unbroken_taken}
 use Rattle.calls.specs.Entry.{tick_call}
 use Rattle.route.{specs.Entry.{route_refusal, route_call}, proofs.FormRefusals.in_their_turn}

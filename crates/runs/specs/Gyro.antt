@@ -4,8 +4,8 @@ use Rattle.words.specs.Words.{word, float}
 use Rattle.relay_adrc.specs.Biquad.{passes_through}
 use Rattle.joint_tick.specs.Profile.{is_profile}
 use Rattle.image.specs.Layout.{LPF, biquad_words, image_bytes, setup_fc, setup_fs, setup_profile, setup_bytes}
-use Rattle.outcome.specs.declared.Outcome.{Outcome}
-use Rattle.outcome.specs.declared.Outcome.TheVariants.{ImageLength, InputLength, BadProfile}
+use Rattle.outcome.specs.Outcomes.{Outcome}
+use Rattle.outcome.specs.declared.Refusal.TheVariants.{ImageLength, InputLength, BadProfile}
 use Rattle.outcome.specs.Outcomes.{Table, first_of, differs, left_unless, Filled}
 use Rattle.runs.specs.Runs.{start}
 

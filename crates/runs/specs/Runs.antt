@@ -7,7 +7,7 @@ use Rattle.joint_tick.specs.Tick.{guidance}
 use Rattle.image.specs.Layout.{input_bytes, answer_bytes}
 use Rattle.image.specs.Image.{fixed_at, state_at, image_of}
 use Rattle.image.specs.Inputs.{setup_at, input_at}
-use Rattle.outcome.specs.declared.Outcome.TheVariants.{Done}
+use Rattle.outcome.specs.Outcomes.{Done}
 use Rattle.outcome.specs.Outcomes.{Called}
 use Rattle.lent_tick.specs.Steps.{margins_if}
 use Rattle.calls.specs.Entry.{exchange_call, on_segment, tick_call}

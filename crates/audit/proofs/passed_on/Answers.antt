@@ -4,7 +4,7 @@ use Rattle.image.proofs.Passed.{finite_itself, other_zero}
 use Rattle.audit.proofs.passed_on.Goals as goal
 
 pub returns-then-is_finite : goal.returns-then-is_finite
-returns-then-is_finite c = let f = c.before in sym (finite_itself _ f.well_formed.0.1 f.float_of.ensures (sym f.is_finite.ensures ∙ c.if-is_finite.true))
+returns-then-is_finite c = sym (finite_itself _ c.well_formed.0.1 c.float_of.ensures (sym c.is_finite.ensures ∙ c.if-is_finite.true))
 
 pub returns-else-is_finite : goal.returns-else-is_finite
-returns-else-is_finite c = let f = c.before in sym (other_zero _ f.float_of.ensures (sym f.is_finite.ensures ∙ c.if-is_finite.false))
+returns-else-is_finite c = sym (other_zero _ c.float_of.ensures (sym c.is_finite.ensures ∙ c.if-is_finite.false))

@@ -1,16 +1,18 @@
 -- What a desk tick leaves by what its calls gave, on either course. Of the core it takes the promises and two laws: it is done unless `core_refusal` refuses,
 -- and then changes nothing. Assumes nothing.
-use Rattle.laws.proofs.Prelude.{◌≡◌, refl, sym, ap, ◌∙◌, Bool, true, false, List, [], ◌∷◌, ℕ, suc, ◌*◌, Float, length, length-sets}
+use Rattle.laws.proofs.Prelude.{◌≡◌, refl, sym, ap, ◌∙◌, Bool, true, false, cond, List, [], ◌∷◌, ℕ, suc, ◌*◌, Float, length, length-sets, no}
 use Rattle.words.{specs.Words.{word, bits, bytes_of, Put}, proofs.{Written.{then, put_over}, Standing.{Bytes, word_stands}}}
-use Rattle.image.specs.Layout.{YAW, input_bytes}
-use Rattle.outcome.specs.{declared.Outcome.{Outcome, TheVariants.Done}, Outcomes.{is_done, Left, left, lent, Called}}
-use Rattle.lent_tick.{specs.Tick.{tick_refusal, tick_from}, proofs.TickLeaves.taken_unbroken}
+use Rattle.image.specs.Layout.{YAW}
+use Rattle.std.specs.Prelude.{Ok, Err}
+use Rattle.outcome.{specs.Outcomes.{Outcome, Done, is_done, first_of, differs, Left, left, lent, Called}, proofs.Tables.done_is}
+use Rattle.lent_tick.{specs.Tick.{lengths_table, tick_refusal, tick_from}, proofs.TickLeaves.wrong_length}
 use Rattle.calls.specs.Entry.{tick_call}
 use Rattle.calls.proofs.Asked
 use Rattle.route.specs.Entry.{route_call}
 use Rattle.route.proofs.FormRefusals
-use Rattle.desk.specs.{declared.{filters.Desk.Desk, entry.DeskOutcome.{DeskOutcome, TheVariants.Core}}, Filters.{desk_bytes, sticks_bytes}, Inner.Ends}
-use Rattle.desk.specs.Entry.{with_heading, moved, flown_input, LentToDesk, lent_to_desk, DeskCourse, OnSegment, OnRoute, core_refusal, core_call, tick_refusal_at, desk_tick_call}
+use Rattle.desk.specs.{declared.entry.DeskRefusal.TheVariants.{DeskLength, SticksLength}, Filters.{desk_bytes, sticks_bytes, desk_of}, Inner.{after_core, lengths_refusal, TicksBy}}
+use Rattle.desk.specs.Entry.{DeskOutcome, DeskDone, of_core, desk_done, desk_refusal, desk_left, with_heading, moved, flown_input, LentToDesk, lent_to_desk}
+use Rattle.desk.specs.Entry.{DeskCourse, OnSegment, OnRoute, core_refusal, core_call, tick_refusal_at, desk_tick_call}
 
 -- the lent input keeps its length
 pub flown_length : (desk sticks input : List ℕ) → length (flown_input desk sticks input) ≡ length input
@@ -54,52 +56,87 @@ unfolding with_heading
 restored input x y h g p q b =
     (put_over {b = input} {u = bits x ∷ bits y ∷ []} record { is = g } b refl).is ∙ rw (p, q) (sym (then (word_stands input YAW h) (word_stands input (suc YAW) h) refl).is)
 
-module _ (course : DeskCourse) (desk sticks image input answer : List ℕ) (p : length desk ≡ desk_bytes) (q : length sticks ≡ sticks_bytes) where
-  abbrev refusal : Outcome
-  refusal = core_refusal course image (length input) (length answer)
+-- ---- the desk tick, on either course
 
-  abbrev called : Left DeskOutcome LentToDesk
-  called = desk_tick_call course desk sticks image input answer
+pub done_of_core : (o : Outcome) → desk_done (of_core o) ≡ is_done o
+done_of_core (Ok u) = refl
+done_of_core (Err x) = refl
 
-  refused : is_done refusal ≡ false → left (Core refusal) (lent_to_desk desk image input answer) ≡ called
-  unfolding desk_tick_call tick_refusal_at
-  refused n = rw (p, q, n)
+module _ (desk sticks image input answer : List ℕ) where
+  abbrev lengths : Outcome
+  lengths = first_of (lengths_table (length image) (length input) (length answer))
 
-  -- an input of another length, by what a tick says of that
-  pub no_input : {o : Outcome} → o ≡ tick_refusal image (length input) (length answer) → (length input ≡ input_bytes → ⊥) → left (Core o) (lent_to_desk desk image input answer) ≡ called
-  no_input {o} e n = go (is_done (tick_refusal image (length input) (length answer))) refl
+  -- the desk and the core were asked of the lengths
+  pub lengths_right : {o : DeskOutcome} {u : Unit} {k : Outcome} {v : Unit} → o ≡ desk_refusal (length desk) (length sticks) sticks_bytes DeskDone → o ≡ Ok u → k ≡ lengths → k ≡ Ok v
+      → desk_done (lengths_refusal desk sticks image input answer) ≡ true
+  lengths_right {o} {u} e n f m = go (differs (length desk) desk_bytes) (differs (length sticks) sticks_bytes) (sym e ∙ n)
     where
-      go : (t : Bool) → is_done (tick_refusal image (length input) (length answer)) ≡ t → left (Core o) (lent_to_desk desk image input answer) ≡ called
-      go true d = absurd (n (taken_unbroken image (length input) (length answer) d).1)
-      go false d = let s = as_a_tick course image (length input) (length answer) d in rw (e ∙ sym s) (refused (ap is_done s ∙ d))
+      go : (a b : Bool) → cond a (Err DeskLength) (cond b (Err SticksLength) DeskDone) ≡ Ok u → desk_done (cond a (Err DeskLength) (cond b (Err SticksLength) (of_core lengths))) ≡ true
+      go true b x = no (ap desk_done x)
+      go false true x = no (ap desk_done x)
+      go false false x = rw (← f, m)
 
-  -- the core's tick of the input that the desk writes, and what the desk made of how that ended
-  module _ {m : Desk} {v w : ℕ} {given later answered written back : List ℕ} {o : Outcome} {r : DeskOutcome} (h : Bytes input) (x : v ≡ word input YAW) (y : w ≡ word input (suc YAW))
-      (a : (m ≡ moved desk sticks input) × (given ≡ flown_input desk sticks input)) (c : left o (lent later answered) ≡ core_call course image given answer)
-      (e : Ends m v w o desk given r written back) where
-    size : core_refusal course image (length given) (length answer) ≡ refusal
-    size = rw (a.1, flown_length desk sticks input)
+  -- then the core, which left c
+  pub goes : (Gives : List ℕ → List ℕ → List ℕ → Called → Type 0) → desk_done (lengths_refusal desk sticks image input answer) ≡ true
+      → {l : Left DeskOutcome LentToDesk} (c : Called) → Gives image (flown_input desk sticks input) answer c → l ≡ after_core c desk sticks input
+      → TicksBy Gives desk sticks image input answer l
+  goes Gives d c g e = record { refused = λ n. no (sym n ∙ d); taken = λ t. (c, g, e) }
 
-    abbrev Leaves : Type 0
-    Leaves = left r (lent_to_desk written later back answered) ≡ called
+  module _ (course : DeskCourse) where
+    abbrev refusal : Outcome
+    refusal = core_refusal course image (length input) (length answer)
 
-    flies : is_done refusal ≡ true → o ≡ Done → Leaves
-    unfolding desk_tick_call tick_refusal_at
-    flies d f =
-        let i : later ≡ (core_call course image given answer).later.image = ap (λ (k : Called). k.later.image) c in
-        let s : answered ≡ (core_call course image given answer).later.answer = ap (λ (k : Called). k.later.answer) c in
-        rw (e.outcome, e.desk, e.input, f, p, q, d, i, s, a.0, a.1)
+    abbrev asked : DeskOutcome
+    asked = tick_refusal_at course (length desk) (length sticks) image (length input) (length answer)
 
-    stays : is_done refusal ≡ false → left o (lent later answered) ≡ left refusal (lent image answer) → Leaves
-    unfolding flown_input
-    stays d k =
-        let f : o ≡ refusal = ap (λ (l : Called). l.outcome) k in
-        let b : back ≡ input = restored input _ _ h a.1 x y record { is = e.input ∙ rw (f, d) } in
-        rw (e.outcome, e.desk, f, d, b, ap (λ (l : Called). l.later.image) k, ap (λ (l : Called). l.later.answer) k) (refused d)
+    abbrev called : Left DeskOutcome LentToDesk
+    called = desk_tick_call course desk sticks image input answer
 
-    pub leaves : Leaves
-    leaves = go (is_done refusal) refl
+    -- what the lengths are refused for, the desk tick is refused for
+    wrong_lengths : desk_done (lengths_refusal desk sticks image input answer) ≡ false → asked ≡ lengths_refusal desk sticks image input answer
+    unfolding tick_refusal_at
+    wrong_lengths = go (differs (length desk) desk_bytes) (differs (length sticks) sticks_bytes) lengths refl
       where
-        go : (t : Bool) → is_done refusal ≡ t → Leaves
-        go true d = flies d (ap (λ (k : Called). k.outcome) c ∙ core_done course image given answer (ap is_done size ∙ d))
-        go false d = stays d (c ∙ core_keeps course image given answer (ap is_done size ∙ d) ∙ rw size)
+        go : (a b : Bool) (o : Outcome) → lengths ≡ o → desk_done (cond a (Err DeskLength) (cond b (Err SticksLength) (of_core o))) ≡ false
+            → cond a (Err DeskLength) (cond b (Err SticksLength) (of_core refusal)) ≡ cond a (Err DeskLength) (cond b (Err SticksLength) (of_core o))
+        go true b o n e = refl
+        go false true o n e = refl
+        go false false (Ok u) n e = no (sym e)
+        go false false (Err x) n e =
+            let w = wrong_length image (length input) (length answer) refl n in ap of_core (as_a_tick course image (length input) (length answer) (ap is_done w) ∙ w)
+
+    right_lengths : desk_done (lengths_refusal desk sticks image input answer) ≡ true → asked ≡ of_core refusal
+    unfolding tick_refusal_at
+    right_lengths = go (differs (length desk) desk_bytes) (differs (length sticks) sticks_bytes)
+      where
+        go : (a b : Bool) → desk_done (cond a (Err DeskLength) (cond b (Err SticksLength) (of_core lengths))) ≡ true
+            → cond a (Err DeskLength) (cond b (Err SticksLength) (of_core refusal)) ≡ of_core refusal
+        go true b e = no e
+        go false true e = no e
+        go false false e = refl
+
+    flies : asked ≡ of_core refusal → after_core (core_call course image (flown_input desk sticks input) answer) desk sticks input ≡ called
+    unfolding desk_tick_call
+    flies k = rw k (go (is_done refusal) refl)
+      where
+        flown : List ℕ
+        flown = flown_input desk sticks input
+
+        size : core_refusal course image (length flown) (length answer) ≡ refusal
+        size = rw (flown_length desk sticks input)
+
+        go : (t : Bool) → is_done refusal ≡ t → after_core (core_call course image flown answer) desk sticks input
+            ≡ (let core = (core_call course image flown answer).later in
+            desk_left (of_core refusal) (lent_to_desk (desk_of (moved desk sticks input)) core.image flown core.answer) (lent_to_desk desk image input answer))
+        go true d = rw (core_done course image flown answer (ap is_done size ∙ d), done_is refusal d)
+        go false d = rw (core_keeps course image flown answer (ap is_done size ∙ d), size, done_of_core refusal, d)
+
+    -- so of a core's tick that leaves what the course's does
+    pub ticked_by : (Gives : List ℕ → List ℕ → List ℕ → Called → Type 0) {l : Left DeskOutcome LentToDesk} → TicksBy Gives desk sticks image input answer l
+        → ((c : Called) → Gives image (flown_input desk sticks input) answer c → c ≡ core_call course image (flown_input desk sticks input) answer) → l ≡ called
+    unfolding desk_tick_call
+    ticked_by Gives {l} t g = go (desk_done (lengths_refusal desk sticks image input answer)) refl
+      where
+        go : (b : Bool) → desk_done (lengths_refusal desk sticks image input answer) ≡ b → l ≡ called
+        go true e = let (c, x, y) = t.taken e in y ∙ ap (λ (k : Called). after_core k desk sticks input) (g c x) ∙ flies (right_lengths e)
+        go false e = t.refused e ∙ rw (wrong_lengths e, e)

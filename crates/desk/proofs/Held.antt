@@ -4,8 +4,8 @@ use Rattle.words.specs.Words.{float, vec}
 use Rattle.image.specs.Layout.{DT}
 use Rattle.outcome.{specs.Outcomes.Left, proofs.Tables.by_test_lem}
 use Rattle.relay_adrc.{specs.{declared.filter.CommandFilter.CommandFilter, Filter.{Event, Step, Reset, filter_new, after_event, after_events}}, proofs.FilterLimits.{Limit, Held, fresh_held}}
-use Rattle.desk.specs.{declared.{filters.Desk.Desk, entry.DeskOutcome.DeskOutcome}, Filters.{desk_bytes, desk_at, new_at, desk_set_up, desk_step, desk_centre}}
-use Rattle.desk.specs.Entry.{desk_done, LentToDesk, moved, tick_refusal_at, desk_tick_call}
+use Rattle.desk.specs.{declared.filters.Desk.Desk, Filters.{desk_bytes, desk_at, new_at, desk_set_up, desk_step, desk_centre}}
+use Rattle.desk.specs.Entry.{DeskOutcome, desk_done, LentToDesk, moved, tick_refusal_at, desk_tick_call}
 use Rattle.desk.specs.Runs.{Stick, Heading, Turn, Zoom, place, filter_of, omega_given, mag_limit, rate_limit, DeskCall, Ticks, Centres, desk_by, desk_after, desk_start, events_by, events_along}
 use Rattle.desk.proofs.{Read.{set_up_fits, stepped_fits, centred_fits, desk_length, read_again}, DeskCalls.centred}
 

@@ -6,7 +6,7 @@ use Rattle.outcome.{specs.Outcomes.Left, proofs.Tables.by_test_lem}
 use Rattle.relay_math.specs.F32.{Within}
 use Rattle.relay_adrc.{specs.{declared.filter.CommandFilter.CommandFilter, Filter.{Step, filter_new, after_event, after_events}}, proofs.FilterLimits.{Limit, limits_kept, value_within, fresh_within}}
 use Rattle.lent_tick.proofs.TickLeaves.{taken_unbroken}
-use Rattle.desk.specs.{declared.entry.DeskOutcome.DeskOutcome, Filters.desk_at, Entry.{desk_done, LentToDesk, moved, tick_refusal_at, desk_tick_call}}
+use Rattle.desk.specs.{Filters.desk_at, Entry.{DeskOutcome, desk_done, LentToDesk, moved, tick_refusal_at, desk_tick_call}}
 use Rattle.desk.specs.Runs.{Stick, Heading, Turn, place, filter_of, omega_given, mag_limit, rate_limit, DeskTick, DeskCall, desk_after, desk_start, events_along}
 use Rattle.desk.proofs.{DeskTickLeaves.also_a_tick, DeskCalls.done_asked, Held.{stick_runs, start_length, fresh, stepped_by}, HeadingWritten.flown_heading}
 

@@ -1,36 +1,51 @@
 -- The calls on a desk: what is refused, and what each call leaves. Of the core they name a tick's and a route tick's refusal and call. Definitions only.
-use Rattle.std.specs.Prelude.{ℕ, ◌*◌, ◌≡◌, Bool, cond, List, [], ◌∷◌, eqb, Float, length}
+use Rattle.std.specs.Prelude.{ℕ, ◌*◌, ◌≡◌, Bool, true, false, cond, List, [], ◌∷◌, Float, length, Result, Ok, Err}
 use Rattle.std.proofs.lemmas.List.Edits.{sets}
 use Rattle.words.specs.Words.{float, vec, bits, bytes_of}
 use Rattle.image.specs.Layout.{YAW, DT}
-use Rattle.outcome.specs.declared.Outcome.{Outcome}
-use Rattle.outcome.specs.declared.Outcome.TheVariants.{Done}
-use Rattle.outcome.specs.Outcomes.{number, differs, Left, left, Called}
+use Rattle.outcome.specs.Outcomes.{refusal_number, Outcome, Done, differs, Left, left, Called}
 use Rattle.lent_tick.specs.Tick.{tick_refusal}
 use Rattle.calls.specs.Entry.{tick_call}
 use Rattle.route.specs.Form.{form_refusal}
 use Rattle.route.specs.Entry.{route_refusal, route_call}
 use Rattle.desk.specs.declared.filters.Desk.{Desk}
-use Rattle.desk.specs.declared.entry.DeskOutcome.{DeskOutcome}
-use Rattle.desk.specs.declared.entry.DeskOutcome.TheVariants.{DeskLength, SticksLength, Core}
+use Rattle.desk.specs.declared.entry.DeskRefusal.{DeskRefusal}
+use Rattle.desk.specs.declared.entry.DeskRefusal.TheVariants.{DeskLength, SticksLength, Core}
 use Rattle.desk.specs.Filters.{desk_bytes, desk_setup_bytes, sticks_bytes, desk_at, desk_of, desk_set_up, desk_step, desk_centre}
 
+abbrev pub desk_refusal_number : DeskRefusal → ℕ
+desk_refusal_number DeskLength = 15
+desk_refusal_number SticksLength = 16
+desk_refusal_number (Core refusal) = refusal_number refusal
+
+abbrev pub DeskOutcome : Type 0
+DeskOutcome = Result Unit DeskRefusal
+
+-- the call was not refused
+abbrev pub DeskDone : DeskOutcome
+DeskDone = Ok tt
+
+-- the core's outcome, handed on
+abbrev pub of_core : Outcome → DeskOutcome
+of_core (Ok u) = DeskDone
+of_core (Err refusal) = Err (Core refusal)
+
 abbrev pub desk_number : DeskOutcome → ℕ
-desk_number DeskLength = 15
-desk_number SticksLength = 16
-desk_number (Core o) = number o
+desk_number (Ok u) = 0
+desk_number (Err refusal) = desk_refusal_number refusal
 
 abbrev pub desk_done : DeskOutcome → Bool
-desk_done o = eqb (desk_number o) 0
+desk_done (Ok u) = true
+desk_done (Err refusal) = false
 
 -- ---- what is refused: the desk's length, then what is said of the sticks, then what the core refuses
 
 abbrev pub desk_refusal : ℕ → ℕ → ℕ → DeskOutcome → DeskOutcome
-desk_refusal deskLen sticksLen right core = cond (differs deskLen desk_bytes) DeskLength (cond (differs sticksLen right) SticksLength core)
+desk_refusal deskLen sticksLen right core = cond (differs deskLen desk_bytes) (Err DeskLength) (cond (differs sticksLen right) (Err SticksLength) core)
 
 -- what an accepted call writes, unless it is refused: then every byte stays
 abbrev pub desk_left : {B : Type 0} → DeskOutcome → B → B → Left DeskOutcome B
-desk_left o written kept = cond (desk_done o) (left (Core Done) written) (left o kept)
+desk_left o written kept = cond (desk_done o) (left DeskDone written) (left o kept)
 
 -- the same as C sees it, the outcome by its number
 abbrev pub desk_numbered : {B : Type 0} → Left DeskOutcome B → Left ℕ B
@@ -40,11 +55,11 @@ desk_numbered l = left (desk_number l.outcome) l.later
 
 unfoldable pub desk_set_up_call : List ℕ → List ℕ → Left DeskOutcome (List ℕ)
 unfolding desk_set_up desk_of
-desk_set_up_call desk input = desk_left (desk_refusal (length desk) (length input) desk_setup_bytes (Core Done)) (desk_of (desk_set_up input)) desk
+desk_set_up_call desk input = desk_left (desk_refusal (length desk) (length input) desk_setup_bytes DeskDone) (desk_of (desk_set_up input)) desk
 
 unfoldable pub centre_call : List ℕ → Left DeskOutcome (List ℕ)
 unfolding desk_at desk_of
-centre_call desk = desk_left (cond (differs (length desk) desk_bytes) DeskLength (Core Done)) (desk_of (desk_centre (desk_at desk))) desk
+centre_call desk = desk_left (cond (differs (length desk) desk_bytes) (Err DeskLength) DeskDone) (desk_of (desk_centre (desk_at desk))) desk
 
 -- ---- the desk tick
 
@@ -88,7 +103,7 @@ core_call OnSegment image input answer = tick_call image input answer
 core_call (OnRoute route) image input answer = route_call image input route answer
 
 unfoldable pub tick_refusal_at : DeskCourse → ℕ → ℕ → List ℕ → ℕ → ℕ → DeskOutcome
-tick_refusal_at course deskLen sticksLen image inputLen answerLen = desk_refusal deskLen sticksLen sticks_bytes (Core (core_refusal course image inputLen answerLen))
+tick_refusal_at course deskLen sticksLen image inputLen answerLen = desk_refusal deskLen sticksLen sticks_bytes (of_core (core_refusal course image inputLen answerLen))
 
 unfoldable pub desk_tick_call : DeskCourse → List ℕ → List ℕ → List ℕ → List ℕ → List ℕ → Left DeskOutcome LentToDesk
 unfolding tick_refusal_at flown_input moved desk_of

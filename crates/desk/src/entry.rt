@@ -3,49 +3,82 @@ ghost use Rattle.std.specs.Prelude.{◌≡◌, ◌∷◌, [], length};
 ghost use Rattle.words.specs.Words.{Put};
 ghost use Rattle.image.specs.Layout.{YAW as yaw_word, input_bytes};
 ghost use Rattle.outcome.specs.Outcomes.{left};
+ghost use Rattle.desk.specs.declared.entry.DeskRefusal.TheVariants.{Core};
 ghost use Rattle.desk.specs.Filters.{desk_bytes, sticks_bytes};
-ghost use Rattle.desk.specs.Entry.{desk_number, desk_set_up_call, centre_call, with_heading, moved, flown_input, lent_to_desk, OnSegment, OnRoute, desk_tick_call};
-ghost use Rattle.desk.specs.Inner.{Ends};
+ghost use Rattle.desk.specs.Entry.{DeskDone, desk_refusal_number, desk_number, desk_refusal, desk_set_up_call, centre_call};
+ghost use Rattle.desk.specs.Entry.{with_heading, moved, flown_input, lent_to_desk, OnSegment, OnRoute, desk_tick_call};
+ghost use Rattle.desk.specs.Inner.{CoreGives, TicksBy};
 
 use crate::filters::{
     DESK_BYTES, DESK_SETUP_BYTES, Desk, STICKS_BYTES, centred, desk_at, put_desk, set_up, step,
 };
-use calls::tick_refusal;
-use image::{DT, INPUT_BYTES, YAW, YAW_RATE};
-use outcome::{Outcome, is_done};
+use image::{DT, YAW, YAW_RATE};
+use lent_tick::right_lengths;
+use outcome::{Outcome, Refusal};
 use words::{float_at, put_float, put_word, vec_at, word_at};
 
-// How a call on a desk ends. The core's outcome is handed on as it is; the two of the desk's own come before it.
-#[derive(Clone, Copy)]
-pub enum DeskOutcome {
+// What a call on a desk is refused for. The core's refusals are handed on as they are; the two of the desk's own come before them.
+#[derive(Clone, Copy, PartialEq, Eq)]
+pub enum DeskRefusal {
     DeskLength, // the desk's state
     SticksLength, // what is said of the sticks: their set-up, or where they stand
-    Core(Outcome),
+    Core(Refusal),
 }
 
-// The number of an outcome: the core's own, and 15 and 16, which are ours, since no document gives one.
+// `Ok` where the call was not refused.
+pub type DeskOutcome = Result<(), DeskRefusal>;
+
+impl From<Refusal> for DeskRefusal {
+    ghost from_gives = { λ refusal r. r ≡ Core refusal };
+
+    fn from(refusal: Refusal) -> DeskRefusal {
+        DeskRefusal::Core(refusal)
+    }
+}
+
+// The core's own numbers, and 15 and 16, which are ours, since no document gives one.
+impl From<DeskRefusal> for u32 {
+    ghost from_gives = { λ refusal n. n ≡ desk_refusal_number refusal };
+
+    fn from(refusal: DeskRefusal) -> u32 {
+        match refusal {
+            DeskRefusal::DeskLength => 15,
+            DeskRefusal::SticksLength => 16,
+            DeskRefusal::Core(core) => u32::from(core),
+        }
+    }
+}
+
+// 0 where the call was not refused.
 pub fn desk_number(outcome: DeskOutcome) -> u32
     ensures { result ≡ desk_number outcome }
 {
     match outcome {
-        DeskOutcome::DeskLength => 15,
-        DeskOutcome::SticksLength => 16,
-        DeskOutcome::Core(o) => outcome::number(o),
+        Ok(()) => 0,
+        Err(refusal) => u32::from(refusal),
     }
+}
+
+// The desk's length, and the length of what is said of the sticks.
+fn desk_lengths(desk_len: usize, sticks_len: usize, right: usize) -> DeskOutcome
+    ensures { result ≡ desk_refusal desk_len sticks_len right DeskDone }
+{
+    if desk_len != DESK_BYTES {
+        return Err(DeskRefusal::DeskLength);
+    }
+    if sticks_len != right {
+        return Err(DeskRefusal::SticksLength);
+    }
+    Ok(())
 }
 
 // A fresh desk from 9 words. What it held before is not read.
 pub fn setup(desk: &mut [u8], input: &[u8]) -> DeskOutcome
     ensures { left result desk.new ≡ desk_set_up_call desk.old input.now }
 {
-    if desk.len() != DESK_BYTES {
-        return DeskOutcome::DeskLength;
-    }
-    if input.len() != DESK_SETUP_BYTES {
-        return DeskOutcome::SticksLength;
-    }
+    desk_lengths(desk.len(), input.len(), DESK_SETUP_BYTES)?;
     put_desk(desk, set_up(input));
-    DeskOutcome::Core(Outcome::Done)
+    Ok(())
 }
 
 // The centre button: it resets the filters and steps none.
@@ -53,10 +86,10 @@ pub fn centre(desk: &mut [u8]) -> DeskOutcome
     ensures { left result desk.new ≡ centre_call desk.old }
 {
     if desk.len() != DESK_BYTES {
-        return DeskOutcome::DeskLength;
+        return Err(DeskRefusal::DeskLength);
     }
     put_desk(desk, centred(desk_at(desk)));
-    DeskOutcome::Core(Outcome::Done)
+    Ok(())
 }
 
 fn put_heading(input: &mut [u8], heading: f32, turn: f32)
@@ -82,34 +115,41 @@ fn step_into(desk: &[u8], sticks: &[u8], input: &mut [u8]) -> Desk
     ensures { (result ≡ moved desk.now sticks.now input.old) × (input.new ≡ flown_input desk.now sticks.now input.old) }
 {
     let moved = step(desk_at(desk), vec_at(sticks, 0), float_at(input, DT));
-    let heading = moved.heading;
-    let turn = moved.turn;
-    put_heading(input, heading.y, turn.y);
+    put_heading(input, moved.heading.y, moved.turn.y);
     moved
 }
 
-// As the core's tick ended: the desk is kept, or the input's two words are put back.
-fn end(
+// A desk tick, whichever tick of the core it flies. The core is not asked beforehand whether it would refuse: that would judge every image twice (docs/SPEED.md says what it costs). Where it refuses,
+// the two words of the input that were written for it are put back, and nothing else was written.
+fn tick_by<F: FnOnce(&mut [u8], &[u8], &mut [u8]) -> Outcome>(
     desk: &mut [u8],
+    sticks: &[u8],
+    image: &mut [u8],
     input: &mut [u8],
-    moved: Desk,
-    yaw: u32,
-    yaw_rate: u32,
-    ended: Outcome,
+    answer: &mut [u8],
+    core: F,
 ) -> DeskOutcome
-    requires { (length desk.old ≡ desk_bytes) × (length input.old ≡ input_bytes) }
-    ensures { Ends moved yaw yaw_rate ended desk.old input.old result desk.new input.new }
+    requires { F.IsAlwaysCallable core }
+    ensures { TicksBy (CoreGives F.FnOnce core) desk.old sticks.now image.old input.old answer.old (left result (lent_to_desk desk.new image.new input.new answer.new)) }
 {
-    if !is_done(ended) {
-        put_back(input, yaw, yaw_rate);
-        return DeskOutcome::Core(ended);
+    desk_lengths(desk.len(), sticks.len(), STICKS_BYTES)?;
+    right_lengths(image.len(), input.len(), answer.len())?;
+    let yaw = word_at(input, YAW);
+    let yaw_rate = word_at(input, YAW_RATE);
+    let moved = step_into(desk, sticks, input);
+    match core(image, input, answer) {
+        Ok(()) => {
+            put_desk(desk, moved);
+            Ok(())
+        }
+        Err(refusal) => {
+            put_back(input, yaw, yaw_rate);
+            Err(DeskRefusal::Core(refusal))
+        }
     }
-    put_desk(desk, moved);
-    DeskOutcome::Core(ended)
 }
 
-// A desk tick on the image's segment. The core is not asked beforehand whether it would refuse: that would judge every image twice (docs/SPEED.md says what it costs). Where it refuses,
-// the two words of the input that were written for it are put back, and nothing else was written.
+// A desk tick on the image's segment.
 pub fn tick(
     desk: &mut [u8],
     sticks: &[u8],
@@ -119,23 +159,12 @@ pub fn tick(
 ) -> DeskOutcome
     ensures { left result (lent_to_desk desk.new image.new input.new answer.new) ≡ desk_tick_call OnSegment desk.old sticks.now image.old input.old answer.old }
 {
-    if desk.len() != DESK_BYTES {
-        return DeskOutcome::DeskLength;
-    }
-    if sticks.len() != STICKS_BYTES {
-        return DeskOutcome::SticksLength;
-    }
-    if input.len() != INPUT_BYTES {
-        return DeskOutcome::Core(tick_refusal(image, input.len(), answer.len()));
-    }
-    let yaw = word_at(input, YAW);
-    let yaw_rate = word_at(input, YAW_RATE);
-    let moved = step_into(desk, sticks, input);
-    let ended = calls::tick(image, input, answer);
-    end(desk, input, moved, yaw, yaw_rate, ended)
+    tick_by(desk, sticks, image, input, answer, |image, input, answer| {
+        calls::tick(image, input, answer)
+    })
 }
 
-// A desk tick on a route. An input of another length is refused before the route is looked at, so a tick's refusal says it here too.
+// A desk tick on a route.
 pub fn route_tick(
     desk: &mut [u8],
     sticks: &[u8],
@@ -146,18 +175,7 @@ pub fn route_tick(
 ) -> DeskOutcome
     ensures { left result (lent_to_desk desk.new image.new input.new answer.new) ≡ desk_tick_call (OnRoute route.now) desk.old sticks.now image.old input.old answer.old }
 {
-    if desk.len() != DESK_BYTES {
-        return DeskOutcome::DeskLength;
-    }
-    if sticks.len() != STICKS_BYTES {
-        return DeskOutcome::SticksLength;
-    }
-    if input.len() != INPUT_BYTES {
-        return DeskOutcome::Core(tick_refusal(image, input.len(), answer.len()));
-    }
-    let yaw = word_at(input, YAW);
-    let yaw_rate = word_at(input, YAW_RATE);
-    let moved = step_into(desk, sticks, input);
-    let ended = route::route_tick(image, input, route, answer);
-    end(desk, input, moved, yaw, yaw_rate, ended)
+    tick_by(desk, sticks, image, input, answer, |image, input, answer| {
+        route::route_tick(image, input, route, answer)
+    })
 }

@@ -45,7 +45,7 @@ pub(crate) fn desk_at(desk: &[u8]) -> Desk
     Desk {
         heading: filter_at(desk, 0),
         turn: filter_at(desk, FILTER_WORDS),
-        zoom: filter_at(desk, FILTER_WORDS + FILTER_WORDS),
+        zoom: filter_at(desk, 2 * FILTER_WORDS),
     }
 }
 
@@ -64,7 +64,7 @@ pub(crate) fn put_desk(bytes: &mut [u8], d: Desk)
 {
     put_filter(bytes, 0, d.heading);
     put_filter(bytes, FILTER_WORDS, d.turn);
-    put_filter(bytes, FILTER_WORDS + FILTER_WORDS, d.zoom);
+    put_filter(bytes, 2 * FILTER_WORDS, d.zoom);
 }
 
 // A filter of a stick's three numbers, mended as the Rust's `new` mends them.
@@ -86,7 +86,7 @@ pub(crate) fn set_up(input: &[u8]) -> Desk
     Desk {
         heading: new_at(input, 0),
         turn: new_at(input, NEW_WORDS),
-        zoom: new_at(input, NEW_WORDS + NEW_WORDS),
+        zoom: new_at(input, 2 * NEW_WORDS),
     }
 }
 
@@ -94,16 +94,10 @@ pub(crate) fn set_up(input: &[u8]) -> Desk
 pub(crate) fn step(d: Desk, sticks: Vec3, dt: f32) -> Desk
     ensures { result ≡ desk_step d sticks dt }
 {
-    let heading = d.heading.step(sticks.0, dt);
-    let turn = d.turn.step(sticks.1, dt);
-    let zoom = d.zoom.step(sticks.2, dt);
-    let heading = heading.filter;
-    let turn = turn.filter;
-    let zoom = zoom.filter;
     Desk {
-        heading,
-        turn,
-        zoom,
+        heading: d.heading.step(sticks.0, dt).filter,
+        turn: d.turn.step(sticks.1, dt).filter,
+        zoom: d.zoom.step(sticks.2, dt).filter,
     }
 }
 

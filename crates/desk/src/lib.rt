@@ -5,4 +5,4 @@
 mod entry; // entry.rt: set-up, the centre button and the desk ticks on lent bytes
 mod filters; // filters.rt: the three filters, and their words
 
-pub use entry::{DeskOutcome, centre, desk_number, route_tick, setup, tick};
+pub use entry::{DeskOutcome, DeskRefusal, centre, desk_number, route_tick, setup, tick};

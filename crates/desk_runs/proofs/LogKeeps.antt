@@ -1,8 +1,8 @@
 -- "so that a log keeps what was flown". Assumes nothing.
 use Rattle.laws.proofs.Prelude.{◌≡◌, ◌∙◌, true, List, [], ◌∷◌, ◌++◌, ℕ}
-use Rattle.outcome.specs.{declared.Outcome.TheVariants.Done, Outcomes.{is_done, Left, left, lent}}
+use Rattle.outcome.specs.{Outcomes.{Done, is_done, Left, left, lent}}
 use Rattle.flight_log.{specs.{Form.is_log, Records.records, Runs.{LogBuffer, ToAppend, log_in, appended, after_one, after_all, kept_along}}, proofs.Reading.after_appends}
-use Rattle.desk.{specs.{declared.entry.DeskOutcome.DeskOutcome, Entry.{desk_done, LentToDesk, DeskCourse, core_call, desk_tick_call}}, proofs.DeskCalls.is_core_tick}
+use Rattle.desk.{specs.Entry.{DeskOutcome, desk_done, LentToDesk, DeskCourse, core_call, desk_tick_call}, proofs.DeskCalls.is_core_tick}
 
 module _ (course : DeskCourse) (desk sticks image input answer : List ℕ) where
   abbrev call : Left DeskOutcome LentToDesk

@@ -3,7 +3,7 @@ use Rattle.laws.proofs.Prelude.{◌≡◌, refl, sym, ap, ◌∙◌, Bool, true,
 use Rattle.words.specs.Words.{word, float, bytes_of}
 use Rattle.image.specs.Layout.{setup_enter, setup_exit, setup_profile}
 use Rattle.joint_tick.specs.Profile.{is_profile}
-use Rattle.outcome.specs.{declared.Outcome.TheVariants.Done, Outcomes.{left, Called}}
+use Rattle.outcome.specs.{Outcomes.{Done, left, Called}}
 use Rattle.flight_log.specs.{Form.is_log, Records.records, Runs.records_of}
 use Rattle.runs.specs.Runs.{Call, flying, left_by, start, Ticks as CoreTicks}
 use Rattle.audit.specs.Entry.{check_call}

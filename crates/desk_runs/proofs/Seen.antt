@@ -1,6 +1,6 @@
 -- A run with a desk is, for the core, a run of its own calls, and for the desk one of the desk's. Assumes nothing.
 use Rattle.laws.proofs.Prelude.{◌≡◌, refl, sym, ap, ◌∙◌, Bool, true, false, cond, List, [], ◌∷◌, ◌++◌, ℕ, length, neg}
-use Rattle.outcome.specs.{declared.Outcome.TheVariants.Done, Outcomes.{left, lent, Called}}
+use Rattle.outcome.specs.{Outcomes.{Done, left, lent, Called}}
 use Rattle.runs.specs.Runs.{Course, Segment, Route, Call, flying, tick_of, left_by, image_after, Ticks as CoreTicks}
 use Rattle.relay_math.specs.F32.{Within as Between}
 use Rattle.relay_adrc.proofs.FilterLimits.{Limit, Held as Within}

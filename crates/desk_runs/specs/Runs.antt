@@ -5,8 +5,7 @@ use Rattle.runs.specs.Runs.{Course, Segment, Route, Tick, Call, left_by}
 use Rattle.runs.specs.Runs.{Ticks as CoreTicks}
 use Rattle.flight_log.specs.Runs.{records_of}
 use Rattle.own_logs.specs.Own.{keeps_of}
-use Rattle.desk.specs.declared.entry.DeskOutcome.{DeskOutcome}
-use Rattle.desk.specs.Entry.{desk_done, centre_call, LentToDesk, DeskCourse, OnSegment, OnRoute, desk_tick_call}
+use Rattle.desk.specs.Entry.{DeskOutcome, desk_done, centre_call, LentToDesk, DeskCourse, OnSegment, OnRoute, desk_tick_call}
 use Rattle.desk.specs.Runs.{DeskCall, Ticks, Centres}
 
 pub record DeskAndImage : Type 0 where

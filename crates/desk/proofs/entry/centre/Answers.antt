@@ -9,4 +9,4 @@ returns-then-desk-ne-DESK_BYTES c = simp (ne_eqb _ _ c.if-desk-ne-DESK_BYTES.tru
 
 pub returns : goal.returns
 unfolding centre_call
-returns c = let p = c.before.before in let d = p.before in simp (p.put_desk.ensures, d.centred.ensures, d.desk_at.ensures, eq-eqb _ _ d.if-desk-ne-DESK_BYTES.false)
+returns c = simp (c.put_desk.ensures, c.centred.ensures, c.desk_at.ensures, eq-eqb _ _ c.if-desk-ne-DESK_BYTES.false)

@@ -4,9 +4,7 @@ use Rattle.desk.proofs.entry.step_into.Goals as goal
 
 pub returns : goal.returns
 unfolding moved flown_input
-returns c =
-    let h = c.before.before in let s = h.before.before.before.before in
-    let v = s.before.before.before in (
-      simp (s.step-moved.ensures, s.float_at.ensures, v.vec_at.ensures, v.desk_at.ensures),
-      simp (h.put_heading.ensures, s.step-moved.ensures, s.float_at.ensures, v.vec_at.ensures, v.desk_at.ensures),
-    )
+returns c = (
+  simp (c.step-moved.ensures, c.float_at.ensures, c.vec_at.ensures, c.desk_at.ensures),
+  simp (c.put_heading.ensures, c.step-moved.ensures, c.float_at.ensures, c.vec_at.ensures, c.desk_at.ensures),
+)

@@ -3,4 +3,4 @@ use Rattle.desk.proofs.filters.step.Goals as goal
 
 pub returns : goal.returns
 unfolding desk_step
-returns c = simp (c.step-zoom.ensures, c.step-turn.ensures, c.step-heading.ensures)
+returns c = simp (c.step-3.ensures, c.step-2.ensures, c.step.ensures)

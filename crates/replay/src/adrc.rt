@@ -11,18 +11,13 @@ use relay_adrc::{
 use words::{float_at, put_float, put_vec, vec_at};
 
 pub(crate) fn answer(n: u32, i: &Row, o: &mut Row) {
-    if n < 205 {
-        gains(n, i, o)
-    } else if n < 211 {
-        axes(n, i, o)
-    } else if n < 216 {
-        lowpasses(n, i, o)
-    } else if n < 222 {
-        rates(n, i, o)
-    } else if n < 228 {
-        filters(n, i, o)
-    } else {
-        three_filters(n, i, o)
+    match n {
+        200..=204 => gains(n, i, o),
+        205..=210 => axes(n, i, o),
+        211..=215 => lowpasses(n, i, o),
+        216..=221 => rates(n, i, o),
+        222..=227 => filters(n, i, o),
+        _ => three_filters(n, i, o),
     }
 }
 

@@ -3,20 +3,16 @@ use super::parts::{
     Row, body_rate_at, gains_at, mat_at, put_gains, put_mat, put_set, put_shield, put_yes, quat_at,
     set_at, shield_at,
 };
-use relay_geo::{
-    Attitude, Direction, Feedforward, GeoAtt, GeoGains, RecoverableSet, Shielded, SimplexShield,
-};
+use relay_geo::{GeoAtt, GeoGains, Mat3, RecoverableSet, Shielded, SimplexShield};
+use relay_math::{BodyRate, Vec3};
 use words::{float_at, put_float, put_vec, vec_at};
 
 pub(crate) fn answer(n: u32, i: &Row, o: &mut Row) {
-    if n < 10 {
-        vectors(n, i, o)
-    } else if n < 16 {
-        attitudes(n, i, o)
-    } else if n < 25 {
-        controls(n, i, o)
-    } else {
-        shields(n, i, o)
+    match n {
+        0..=9 => vectors(n, i, o),
+        10..=15 => attitudes(n, i, o),
+        16..=24 => controls(n, i, o),
+        _ => shields(n, i, o),
     }
 }
 
@@ -134,22 +130,19 @@ fn put_shielded(o: &mut Row, x: Shielded) {
 }
 
 // An answer that may be a refusal: a yes and its words, or zeros.
-fn put_direction(o: &mut Row, d: Direction) {
-    if let Direction::Axis(v) = d {
+fn put_direction(o: &mut Row, d: Option<Vec3>) {
+    if let Some(v) = d {
         put_yes(o, 0, true);
         put_vec(o, 1, v);
     }
 }
 
-fn put_ahead(o: &mut Row, f: Feedforward) {
-    if let Feedforward::Rate(w) = f {
-        put_yes(o, 0, true);
-        put_vec(o, 1, w.0);
-    }
+fn put_ahead(o: &mut Row, f: Option<BodyRate>) {
+    put_direction(o, f.map(|w| w.0));
 }
 
-fn put_attitude(o: &mut Row, a: Attitude) {
-    if let Attitude::Matrix(m) = a {
+fn put_attitude(o: &mut Row, a: Option<Mat3>) {
+    if let Some(m) = a {
         put_yes(o, 0, true);
         put_mat(o, 1, m);
     }

@@ -3,92 +3,43 @@
 #![tactic(auto)]
 
 mod adrc; // adrc.rt: 002
+mod buffer; // buffer.rt: what a call is lent
 mod desks; // desks.rt: the desk's calls
 mod geo; // geo.rt: 000
 mod lent; // lent.rt: the calls on lent bytes
+mod list; // list.rt: what the list is read by
 mod numbers; // numbers.rt: 003 and 004
 mod parts; // parts.rt: a row, and the structs that the image has no place for
 mod traj; // traj.rt: 001
 
+use list::{Stop, fill, read_up_to};
 use parts::Row;
+use std::fmt;
 use std::io::{self, Read};
-use std::num::wrapping_add_u64;
 use words::word_at;
 
 // The word that a list begins with: ANSW.
 const MAGIC: u32 = 0x5753_4e41;
 
-#[derive(Clone, Copy)]
-enum Verdict {
-    Same,
-    Differs,
-    Cut,
-}
-
-fn judged(same: bool) -> Verdict {
-    if same {
-        Verdict::Same
-    } else {
-        Verdict::Differs
-    }
-}
-
-fn say(rt: &impl Print, text: &[u8]) -> io::Result<()> {
-    rt.write_all(text)
-}
-
-// Whether the list had enough bytes left for this buffer. What it had is in the buffer either way, so `read_exact` does not serve.
-fn filled(reader: &mut impl Read, bytes: &mut [u8]) -> io::Result<bool> {
-    let mut done = 0;
-    while done < bytes.len() {
-        let n = reader.read(&mut bytes[done..])?;
-        if n == 0 {
-            return Ok(false);
-        }
-        done += n;
-    }
-    Ok(true)
-}
-
-// The same for the first n words of it.
-fn filled_to(reader: &mut impl Read, bytes: &mut [u8], n: usize) -> io::Result<bool> {
-    if n > bytes.len() / 4 {
-        return Ok(false);
-    }
-    filled(reader, &mut bytes[..4 * n])
-}
-
 // ---- an answer of a routine
 
 fn answer(n: u32, i: &Row, o: &mut Row) {
-    if n < 100 {
-        geo::answer(n, i, o)
-    } else if n < 200 {
-        traj::answer(n, i, o)
-    } else if n < 300 {
-        adrc::answer(n, i, o)
-    } else {
-        numbers::answer(n, i, o)
+    match n {
+        0..=99 => geo::answer(n, i, o),
+        100..=199 => traj::answer(n, i, o),
+        200..=299 => adrc::answer(n, i, o),
+        _ => numbers::answer(n, i, o),
     }
 }
 
-fn same(a: &Row, b: &Row) -> bool {
-    a == b
-}
-
-// All 36 words are compared, so that an answer of more words than are stored is seen.
-fn routine(reader: &mut impl Read, n: u32, given: usize, answered: usize) -> io::Result<Verdict> {
-    let mut i = [0u8; 144];
-    let mut o = [0u8; 144];
-    let mut stored = [0u8; 144];
-    if !filled_to(reader, &mut i, given)? {
-        return Ok(Verdict::Cut);
-    }
-    if !filled_to(reader, &mut stored, answered)? {
-        return Ok(Verdict::Cut);
-    }
-    answer(n, &i, &mut o);
-    Ok(judged(same(&o, &stored)))
+// The next row of the list, with so many words.
+fn row(reader: &mut impl Read, words: u32) -> Result<Row, Stop> {
+    let mut row = [0u8; 144];
+    let Some(stored) = row.get_mut(..4 * words as usize) else {
+        return Err(Stop::Cut);
+    };
+    fill(reader, stored)?;
+    Ok(row)
 }
 
 // ---- sections
@@ -97,136 +48,132 @@ fn routine(reader: &mut impl Read, n: u32, given: usize, answered: usize) -> io:
 #[derive(Clone, Copy)]
 struct Head {
     number: u32,
-    given: usize,
-    answered: usize,
+    given: u32,
+    answered: u32,
     rows: u32,
 }
 
-fn one(reader: &mut impl Read, h: Head) -> io::Result<Verdict> {
-    if h.number < 500 {
-        routine(reader, h.number, h.given, h.answered)
-    } else if h.number < 512 {
-        lent::call(reader, h.number)
-    } else {
-        desks::call(reader, h.number)
+impl From<[u8; 16]> for Head {
+    fn from(four: [u8; 16]) -> Head {
+        Head {
+            number: word_at(&four, 0),
+            given: word_at(&four, 1),
+            answered: word_at(&four, 2),
+            rows: word_at(&four, 3),
+        }
     }
 }
 
-#[derive(Clone, Copy)]
+impl Head {
+    // Whether a routine answers as the next row says. All 36 words are compared, so that an answer of more words than are stored is seen.
+    fn is_answer(self, reader: &mut impl Read) -> Result<bool, Stop> {
+        let given = row(reader, self.given)?;
+        let stored = row(reader, self.answered)?;
+        let mut answered = [0u8; 144];
+        answer(self.number, &given, &mut answered);
+        Ok(answered == stored)
+    }
+
+    fn is_same(self, reader: &mut impl Read) -> Result<bool, Stop> {
+        match self.number {
+            0..=499 => self.is_answer(reader),
+            500..=511 => lent::is_same(reader, self.number),
+            _ => desks::is_same(reader, self.number),
+        }
+    }
+}
+
+#[derive(Clone, Copy, Default)]
 struct Tally {
     compared: u64,
     differ: u64,
-    whole: bool,
 }
 
-const NOTHING: Tally = Tally {
-    compared: 0,
-    differ: 0,
-    whole: true,
-};
-
-// With so many more. (No list has 2^64 answers; so that nothing need be proved of it, the counts may wrap.)
-fn with(t: Tally, compared: u64, differ: u64, whole: bool) -> Tally {
-    Tally {
-        compared: wrapping_add_u64(t.compared, compared),
-        differ: wrapping_add_u64(t.differ, differ),
-        whole: whole,
+impl Tally {
+    // No list has 2^64 answers; so that nothing need be proved of it, the counts may wrap.
+    fn add(&mut self, more: Tally) {
+        self.compared = self.compared.wrapping_add(more.compared);
+        self.differ = self.differ.wrapping_add(more.differ);
     }
 }
 
-fn print_row(rt: &impl Print, row: u64) -> io::Result<()> {
-    println!(rt; "row {row} differs")
+impl fmt::Display for Tally {
+    fn fmt<W: fmt::Write>(&self, f: &mut fmt::Formatter<W>) -> fmt::Result {
+        write!(f, "{} compared, {} differ", self.compared, self.differ)
+    }
 }
 
-// One more answer. A row that differs is named.
-fn counted(rt: &impl Print, t: Tally, v: Verdict) -> io::Result<Tally> {
-    match v {
-        Verdict::Same => Ok(with(t, 1, 0, true)),
-        Verdict::Differs => {
-            print_row(rt, t.compared)?;
-            Ok(with(t, 1, 1, true))
+// A row that differs is named.
+fn section(
+    rt: &impl Print,
+    reader: &mut impl Read,
+    head: Head,
+    tally: &mut Tally,
+) -> Result<(), Stop> {
+    for row in 0..head.rows {
+        let same = head.is_same(reader)?;
+        if !same {
+            println!(rt; "row {row} differs")?;
         }
-        Verdict::Cut => Ok(with(t, 0, 0, false)),
+        tally.add(Tally {
+            compared: 1,
+            differ: u64::from(!same),
+        });
     }
-}
-
-fn section(rt: &impl Print, reader: &mut impl Read, h: Head) -> io::Result<Tally> {
-    let mut t = NOTHING;
-    for row in 0..h.rows {
-        if !t.whole {
-            return Ok(t);
-        }
-        t = counted(rt, t, one(reader, h)?)?;
-    }
-    Ok(t)
-}
-
-fn head_at(four: &[u8; 16]) -> Head {
-    Head {
-        number: word_at(four, 0),
-        given: word_at(four, 1) as usize,
-        answered: word_at(four, 2) as usize,
-        rows: word_at(four, 3),
-    }
-}
-
-fn print_counts(rt: &impl Print, name: &[u8], t: Tally) -> io::Result<()> {
-    say(rt, name)?;
-    println!(rt; "{} compared, {} differ", t.compared, t.differ)
+    Ok(())
 }
 
 // The head of a section is four words and a name.
-fn next_section(rt: &impl Print, reader: &mut impl Read) -> io::Result<Tally> {
+fn next_section(rt: &impl Print, reader: &mut impl Read, all: &mut Tally) -> Result<(), Stop> {
     let mut four = [0u8; 16];
     let mut name = [0u8; 48];
-    filled(reader, &mut four)?;
-    if !filled(reader, &mut name)? {
-        return Ok(with(NOTHING, 0, 0, false));
+    fill(reader, &mut four)?;
+    fill(reader, &mut name)?;
+    let mut tally = Tally::default();
+    let read = section(rt, reader, Head::from(four), &mut tally);
+    if let Err(Stop::Io(_)) = read {
+        return read;
     }
-    let t = section(rt, reader, head_at(&four))?;
-    print_counts(rt, &name, t)?;
-    Ok(t)
+    rt.write_all(&name)?;
+    println!(rt; "{tally}")?;
+    all.add(tally);
+    read
 }
 
-fn all(rt: &impl Print, reader: &mut impl Read, sections: u32) -> io::Result<Tally> {
-    let mut t = NOTHING;
-    for s in 0..sections {
-        if !t.whole {
-            return Ok(t);
-        }
-        let next = next_section(rt, reader)?;
-        t = with(t, next.compared, next.differ, next.whole);
+fn sections(
+    rt: &impl Print,
+    reader: &mut impl Read,
+    count: u32,
+    all: &mut Tally,
+) -> Result<(), Stop> {
+    for _ in 0..count {
+        next_section(rt, reader, all)?;
     }
-    Ok(t)
+    Ok(())
 }
 
-// Whether the list is of another form or length than its head says.
-fn amiss(reader: &mut impl Read, t: Tally, answers: u32) -> io::Result<bool> {
-    if !t.whole {
-        return Ok(true);
-    }
-    if t.compared != answers as u64 {
-        return Ok(true);
-    }
-    let mut more = [0u8; 1];
-    filled(reader, &mut more)
-}
-
-fn list(rt: &impl Print, reader: &mut impl Read, sections: u32, answers: u32) -> io::Result<()> {
-    let t = all(rt, reader, sections)?;
-    print_counts(rt, b"all                                             ", t)?;
-    if amiss(reader, t, answers)? {
+fn compare(rt: &impl Print, reader: &mut impl Read, count: u32, answers: u32) -> io::Result<()> {
+    let mut all = Tally::default();
+    let whole = match sections(rt, reader, count, &mut all) {
+        Ok(()) => all.compared == u64::from(answers),
+        Err(Stop::Cut) => false,
+        Err(Stop::Io(error)) => return Err(error),
+    };
+    println!(rt; "{:48}{all}", "all")?;
+    // the list may be of another form or length than its head says
+    if !whole || read_up_to(reader, &mut [0u8; 1])? > 0 {
         println!(rt; "the list is cut, too long, or not of this form")?;
     }
     Ok(())
 }
 
+// Of a head that is cut, what there is counts, so `fill` does not serve.
 fn main(rt: HostRuntime) -> io::Result<()> {
     let mut reader = rt.stdin();
     let mut head = [0u8; 12];
-    filled(&mut reader, &mut head)?;
+    read_up_to(&mut reader, &mut head)?;
     if word_at(&head, 0) == MAGIC {
-        list(&rt, &mut reader, word_at(&head, 1), word_at(&head, 2))
+        compare(&rt, &mut reader, word_at(&head, 1), word_at(&head, 2))
     } else {
         println!(rt; "not a list of answers")
     }

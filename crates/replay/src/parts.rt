@@ -2,13 +2,13 @@
 // are laid over a blank image where the struct has its place, and the image is read; or the struct is written into a blank image, and its words are taken.
 ghost use Rattle.std.specs.Prelude.{◌+◌, ◌≤◌};
 
-use image::{GAINS, GOVERNOR, LPF, RATE, SEGMENT, SET, put_state, state_at};
-use joint_tick::{Fixed, Moving, State};
+use image::{GAINS, GOVERNOR, IMAGE_BYTES, LPF, RATE, SEGMENT, SET, put_state, state_at};
+use joint_tick::State;
 use relay_adrc::{AdrcAxis, AdrcGains, AdrcRate, Biquad, CommandFilter, CommandFilter3, GyroLpf};
 use relay_geo::{GeoGains, Mat3, Quat, RecoverableSet, SimplexShield};
 use relay_math::BodyRate;
 use relay_traj::{Quintic, RefGovernor, Segment3};
-use words::{float_at, put_bytes, put_float, put_three, put_vec, vec_at};
+use words::{float_at, put_float, put_three, put_vec, vec_at};
 
 // A routine's words, given or answered: 36, more than any takes or gives, zeros after them.
 pub(crate) type Row = [u8; 144];
@@ -19,23 +19,21 @@ pub(crate) type Row = [u8; 144];
 fn laid(i: &Row, from: usize, n: usize, k: usize) -> State
     requires { (from + n ≤ 36) × (k + n ≤ 99) }
 {
-    let mut image = [0u8; 396];
-    let row = &i[..];
-    put_bytes(&mut image, 4 * k, &row[4 * from..4 * from + 4 * n]);
+    let mut image = [0u8; IMAGE_BYTES];
+    image[4 * k..4 * k + 4 * n].copy_from_slice(&i[4 * from..4 * from + 4 * n]);
     state_at(&image)
 }
 
-fn blank() -> State {
-    state_at(&[0u8; 396])
-}
-
-// The n words from number k on of a state's image.
-fn put_taken(o: &mut Row, f: Fixed, m: Moving, n: usize, k: usize)
-    requires { (n ≤ 36) × (k + n ≤ 99) }
+// The n words from number k on of a blank state's image, with one part of the state set.
+fn put_part<F: FnOnce(&mut State)>(o: &mut Row, n: usize, k: usize, set: F)
+    requires words { (n ≤ 36) × (k + n ≤ 99) }
+    requires part { F.IsAlwaysCallable set }
 {
-    let mut image = [0u8; 396];
-    put_state(&mut image, f, m.engaged, m.governor, m.rate, m.lpf);
-    put_bytes(o, 0, &image[4 * k..4 * k + 4 * n]);
+    let mut state = state_at(&[0u8; IMAGE_BYTES]);
+    set(&mut state);
+    let mut image = [0u8; IMAGE_BYTES];
+    put_state(&mut image, state);
+    o[..4 * n].copy_from_slice(&image[4 * k..4 * k + 4 * n]);
 }
 
 pub(crate) fn gains_at(i: &Row) -> GeoGains {
@@ -81,101 +79,43 @@ pub(crate) fn lpf_at(i: &Row) -> GyroLpf {
 }
 
 pub(crate) fn put_gains(o: &mut Row, x: GeoGains) {
-    let s = blank();
-    let mut f = s.fixed;
-    f.gains = x;
-    put_taken(o, f, s.moving, 9, GAINS);
+    put_part(o, 9, GAINS, |s| s.fixed.gains = x);
 }
 
 pub(crate) fn put_set(o: &mut Row, x: RecoverableSet) {
-    let s = blank();
-    let mut f = s.fixed;
-    f.set = x;
-    put_taken(o, f, s.moving, 3, SET);
+    put_part(o, 3, SET, |s| s.fixed.set = x);
 }
 
 pub(crate) fn put_governor(o: &mut Row, x: RefGovernor) {
-    let s = blank();
-    let mut m = s.moving;
-    m.governor = x;
-    put_taken(o, s.fixed, m, 4, GOVERNOR);
-}
-
-// The first n words of a segment.
-fn put_of_segment(o: &mut Row, x: Segment3, n: usize)
-    requires { n ≤ 21 }
-{
-    let s = blank();
-    let mut f = s.fixed;
-    f.segment = x;
-    put_taken(o, f, s.moving, n, SEGMENT);
-}
-
-// n words of the rate controller, from number k on.
-fn put_of_rate(o: &mut Row, x: AdrcRate, n: usize, k: usize)
-    requires { k + n ≤ 27 }
-{
-    let s = blank();
-    let mut m = s.moving;
-    m.rate = x;
-    put_taken(o, s.fixed, m, n, RATE + k);
-}
-
-// The first n words of the gyro's filter.
-fn put_of_lpf(o: &mut Row, x: GyroLpf, n: usize)
-    requires { n ≤ 27 }
-{
-    let s = blank();
-    let mut m = s.moving;
-    m.lpf = x;
-    put_taken(o, s.fixed, m, n, LPF);
-}
-
-// What stands on three axes is written three times, and the first is taken.
-fn three_axes(a: AdrcAxis) -> AdrcRate {
-    AdrcRate {
-        roll: a,
-        pitch: a,
-        yaw: a,
-    }
+    put_part(o, 4, GOVERNOR, |s| s.moving.governor = x);
 }
 
 pub(crate) fn put_quintic(o: &mut Row, x: Quintic) {
-    put_of_segment(o, Segment3(x, x, x), 7);
+    put_part(o, 7, SEGMENT, |s| s.fixed.segment.0 = x);
 }
 
 pub(crate) fn put_segment(o: &mut Row, x: Segment3) {
-    put_of_segment(o, x, 21);
+    put_part(o, 21, SEGMENT, |s| s.fixed.segment = x);
 }
 
 pub(crate) fn put_adrc_gains(o: &mut Row, x: AdrcGains) {
-    let mut a = blank().moving.rate.roll;
-    a.g = x;
-    put_of_rate(o, three_axes(a), 4, 5);
+    put_part(o, 4, RATE + 5, |s| s.moving.rate.roll.g = x);
 }
 
 pub(crate) fn put_axis(o: &mut Row, x: AdrcAxis) {
-    put_of_rate(o, three_axes(x), 9, 0);
+    put_part(o, 9, RATE, |s| s.moving.rate.roll = x);
 }
 
 pub(crate) fn put_rate(o: &mut Row, x: AdrcRate) {
-    put_of_rate(o, x, 27, 0);
+    put_part(o, 27, RATE, |s| s.moving.rate = x);
 }
 
 pub(crate) fn put_biquad(o: &mut Row, x: Biquad) {
-    put_of_lpf(
-        o,
-        GyroLpf {
-            roll: x,
-            pitch: x,
-            yaw: x,
-        },
-        9,
-    );
+    put_part(o, 9, LPF, |s| s.moving.lpf.roll = x);
 }
 
 pub(crate) fn put_lpf(o: &mut Row, x: GyroLpf) {
-    put_of_lpf(o, x, 27);
+    put_part(o, 27, LPF, |s| s.moving.lpf = x);
 }
 
 // ---- what it has no place for, from word k on
@@ -244,7 +184,7 @@ pub(crate) fn put_mat(o: &mut Row, k: usize, m: Mat3)
 pub(crate) fn put_yes(o: &mut Row, k: usize, yes: bool)
     requires { k + 1 ≤ 36 }
 {
-    put_float(o, k, if yes { 1.0 } else { 0.0 });
+    put_float(o, k, f32::from(yes));
 }
 
 pub(crate) fn put_shield(o: &mut Row, s: SimplexShield) {

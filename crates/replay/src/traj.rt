@@ -7,12 +7,10 @@ use relay_traj::{Advanced, JerkCoeffs, Quintic, RefGovernor, Sample, Sample3, Se
 use words::{float_at, put_float, put_three, put_vec, vec_at};
 
 pub(crate) fn answer(n: u32, i: &Row, o: &mut Row) {
-    if n < 106 {
-        quintics(n, i, o)
-    } else if n < 111 {
-        segments(n, i, o)
-    } else {
-        governors(n, i, o)
+    match n {
+        100..=105 => quintics(n, i, o),
+        106..=110 => segments(n, i, o),
+        _ => governors(n, i, o),
     }
 }
 

@@ -6,16 +6,18 @@ use relay_geo::{RecoverableSet, SimplexShield};
 use relay_math::{BodyRate, Vec3};
 use std::io;
 
-fn flag(fallback: bool) -> u64 {
-    if fallback { 1 } else { 0 }
-}
-
-fn line(rt: &impl Print, step: u64, bits: u32, shield: SimplexShield) -> io::Result<SimplexShield> {
-    let rest = BodyRate(Vec3(0.0, 0.0, 0.0));
-    let stepped = shield.step(words::float_of(bits), rest, rest);
-    println!(rt; "{step} {bits:08x} {}", flag(stepped.fallback))?;
-    Ok(stepped.shield)
-}
+// The bits of the nine margins.
+const MARGINS: [u32; 9] = [
+    0x3f80_0000,
+    0x3fc0_0000,
+    0x3f40_0000,
+    0x3f00_0000,
+    0x3e80_0000,
+    0x3f40_0000,
+    0x3fc0_0000,
+    0x7fc0_0000,
+    0x7f80_0000,
+];
 
 fn refusal(rt: &impl Print) -> io::Result<()> {
     let mut image = [0u8; image::IMAGE_BYTES]; // 396 zero bytes
@@ -27,15 +29,12 @@ fn refusal(rt: &impl Print) -> io::Result<()> {
 
 fn main(rt: HostRuntime) -> io::Result<()> {
     refusal(&rt)?;
-    let shield = SimplexShield::new(RecoverableSet::new(1.0, 1.0, 1.75), 0.5, 1.0);
-    let shield = line(&rt, 1, 0x3f80_0000, shield)?;
-    let shield = line(&rt, 2, 0x3fc0_0000, shield)?;
-    let shield = line(&rt, 3, 0x3f40_0000, shield)?;
-    let shield = line(&rt, 4, 0x3f00_0000, shield)?;
-    let shield = line(&rt, 5, 0x3e80_0000, shield)?;
-    let shield = line(&rt, 6, 0x3f40_0000, shield)?;
-    let shield = line(&rt, 7, 0x3fc0_0000, shield)?;
-    let shield = line(&rt, 8, 0x7fc0_0000, shield)?;
-    line(&rt, 9, 0x7f80_0000, shield)?;
+    let rest = BodyRate(Vec3(0.0, 0.0, 0.0));
+    let mut shield = SimplexShield::new(RecoverableSet::new(1.0, 1.0, 1.75), 0.5, 1.0);
+    for (step, bits) in (1..).zip(MARGINS) {
+        let stepped = shield.step(words::float_of(bits), rest, rest);
+        println!(rt; "{step} {bits:08x} {}", u32::from(stepped.fallback))?;
+        shield = stepped.shield;
+    }
     Ok(())
 }

@@ -69,8 +69,9 @@ fn in_file(krate: &str, file: &str, module: &str, text: &str, found: &mut Vec<Fu
             continue;
         }
         let comment = std::mem::take(&mut comment).join(" ");
-        if let Some(rest) = line.strip_prefix("impl ") {
-            owner = format!("{}::", rest.split([' ', '{']).next().unwrap_or_default());
+        // `impl Words {`, and `impl<'a> Words<'a> {`
+        if let Some(rest) = line.strip_prefix("impl ").or_else(|| line.strip_prefix("impl<")?.split_once("> ").map(|(_, rest)| rest)) {
+            owner = format!("{}::", rest.split([' ', '{', '<']).next().unwrap_or_default());
         } else if line.starts_with('}') {
             owner.clear();
         }
@@ -89,6 +90,8 @@ fn in_file(krate: &str, file: &str, module: &str, text: &str, found: &mut Vec<Fu
         let end = format!("{}}}", &line[..line.len() - item.len()]);
         let body: Vec<&str> = lines.by_ref().take_while(|line| **line != end).map(str::trim).collect();
         let (name, rest) = head.split_once(['(', '<']).ok_or(format!("{krate}: no parameters: {item}"))?;
+        // the parameters stand behind those of types, if there are any
+        let rest = if head[name.len()..].starts_with('<') { rest.split_once(">(").map_or(rest, |(_, rest)| rest) } else { rest };
         let (given, contract) = rest.split_once(')').ok_or(format!("{krate}: no parameters: {item}"))?;
         let given = given.rsplit('(').next().unwrap_or_default().split(',').map(str::trim).filter(|one| !one.is_empty());
         let parameters = given.map(|one| match one.split_once(": ") {

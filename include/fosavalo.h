@@ -4,8 +4,8 @@
  * be NULL: it is then one of a wrong length, as any other.
  *
  * The archives are one proved module, compiled for each target. In it a length is 64 bits wide, so it is on every target: size_t would be 32 where addresses are.
- * From outside an archive wants memset on x86-64 and aarch64; memset and memcpy on riscv64; on 32-bit Arm __aeabi_memset and __aeabi_memclr8, which a C library
- * or compiler-rt has, and __aeabi_uldivmod and __aeabi_ul2f, which libgcc and compiler-rt have; on wasm32 nothing. This header wants no C library. */
+ * From outside an archive wants memset on x86-64 and aarch64; memset and memcpy on riscv64; on 32-bit Arm __aeabi_memclr4, __aeabi_memclr8, __aeabi_memcpy and
+ * __aeabi_memcpy4, which a C library has, and __aeabi_uldivmod and __aeabi_ul2f, which libgcc and compiler-rt have; on wasm32 nothing. This header wants no C library. */
 #ifndef FOSAVALO_H
 #define FOSAVALO_H
 

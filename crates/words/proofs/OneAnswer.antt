@@ -1,9 +1,11 @@
 -- Of each public function here: no second answer fits its promise. Assumes nothing.
 use Rattle.laws.proofs.Prelude.{refl}
 use contract.Lifetimes.{Lfts}
-use denote.{Triple.{Entry.{Args, Res}, Clauses.{Ended, Lasts, at_exit}}}
-use Rattle.laws.proofs.Prelude.{◌≡◌, List, ℕ, Bool}
-use Rattle.laws.proofs.Determined.{Promise, OneAnswer, no_second, both}
+use denote.{Signature.named_lft, Struct.Cover.Cover-one}
+use Rattle.laws.proofs.Prelude.{◌≡◌}
+use Rattle.laws.proofs.Determined.{OneAnswer, no_second, both}
+use Rattle.words.specs.declared.view.Words.{Words}
+use Rattle.words.specs.contracts.view.Words as lent
 use Rattle.words.specs.contracts as promised
 use Rattle.words.proofs.read
 use Rattle.words.proofs.view
@@ -63,18 +65,13 @@ make_canonical_once κs a x y v w p q = (refl, both (no_second p q) refl)
 pub put_bytes_once : OneAnswer promised.write.put_bytes.ended write.put_bytes.Reads.Post
 put_bytes_once κs a x y v w p q = (refl, both (no_second p q) refl)
 
--- ---- answers that hold the lent bytes: what they hold and whether they are plain is fixed; where they lie no promise says
+-- ---- answers that hold the lent bytes and a fact about them: two of them are the same where the bytes lie at one place and both are plain or neither is
 
-module _ (T : Ended) {X : Type 0} (seen : (κs : Lfts T.signature.lifetimes) → Res T.signature κs → X) where
-  abbrev OneSeen : Promise T → Type 0
-  OneSeen promise =
-      (κs : Lfts T.signature.lifetimes) (a : Args T.signature κs) (x y : Res T.signature κs) (v w : Lasts T κs a)
-      → promise κs a x (at_exit T κs a v)
-      → promise κs a y (at_exit T κs a w)
-      → (seen κs x ≡ seen κs y) × (v ≡ w)
+same_words : (κs : Lfts 1) {x y : Words} → x.bytes ≡ y.bytes → x.plain ≡ y.plain → x ≡ y
+same_words κs {x} {y} b p = let T = lent.the_type (named_lft 1 0 tt κs) in Cover-one T.cover T.propositions x y (both b (both p refl))
 
-pub new_once : OneSeen promised.view.Words.new.ended {X = List ℕ × Bool} (λ κs r. (r.bytes.now, r.plain)) view.Words.new.Reads.Post
-new_once κs a x y v w p q = (both (no_second p.0 q.0) (no_second p.1 q.1), refl)
+pub new_once : OneAnswer promised.view.Words.new.ended view.Words.new.Reads.Post
+new_once κs a x y v w p q = (same_words κs (no_second p.0 q.0) (no_second p.1 q.1), refl)
 
-pub scanned_once : OneSeen promised.view.Words.scanned.ended {X = List ℕ × Bool} (λ κs r. (r.bytes.now, r.plain)) view.Words.scanned.Reads.Post
-scanned_once κs a x y v w p q = (both (no_second p.0 q.0) (no_second p.1 q.1), refl)
+pub scanned_once : OneAnswer promised.view.Words.scanned.ended view.Words.scanned.Reads.Post
+scanned_once κs a x y v w p q = (same_words κs (no_second p.0 q.0) (no_second p.1 q.1), refl)

@@ -17,7 +17,7 @@ pub struct Words<'a> {
 impl<'a> Words<'a> {
     // Not looked through.
     pub fn new(bytes: &'a [u8]) -> Self
-        ensures bytes { result.bytes.now ≡ bytes.now }
+        ensures lent { result.bytes ≡ bytes.entry }
         ensures plain { result.plain ≡ false }
     {
         Words {
@@ -29,7 +29,7 @@ impl<'a> Words<'a> {
     // Looked through, all of their words.
     pub fn scanned(bytes: &'a [u8], count: usize) -> Self
         requires { length bytes.now ≡ 4 * count }
-        ensures bytes { result.bytes.now ≡ bytes.now }
+        ensures bytes { result.bytes ≡ bytes.entry }
         ensures plain { result.plain ≡ all_plain bytes.now count }
     {
         Words {

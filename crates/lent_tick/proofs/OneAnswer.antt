@@ -1,5 +1,7 @@
 -- Of each public function here: no second answer fits its promise. Assumes nothing.
-use Rattle.laws.proofs.Prelude.{◌≡◌, refl, sym, ◌∙◌, Bool, true, false, List, ℕ, length}
+use denote.{RattleType.RattleType, Param.Laws.Laws}
+use mir.Syntax.{Dict}
+use Rattle.laws.proofs.Prelude.{◌≡◌, refl, sym, ◌∙◌, ap, Bool, true, false, List, ℕ, length}
 use Rattle.std.specs.Prelude.{Result}
 use Rattle.laws.proofs.Determined.{OneAnswer, no_second, both}
 use Rattle.joint_tick.specs.declared.stages.Reference.{Reference}
@@ -22,11 +24,19 @@ put_state_and_answer_once κs a x y v w p q = (refl, both (no_second p.image q.i
 pub right_lengths_once : OneAnswer promised.tick.right_lengths.ended tick.right_lengths.Reads.Post
 right_lengths_once κs a x y v w p q = (no_second p q, refl)
 
--- What `tick_toward` promises is fixed where its source gives one reference, or one refusal: as the two sources that there are do.
-pub tick_toward_once : (Gives : Result Reference Refusal → Type 0) (image input answer : List ℕ) {l m : Called} → ((v w : Result Reference Refusal) → Gives v → Gives w → v ≡ w)
+-- What `tick_toward` leaves is fixed where its source gives one reference, or one refusal.
+pub toward_once : (Gives : Result Reference Refusal → Type 0) (image input answer : List ℕ) {l m : Called} → ((v w : Result Reference Refusal) → Gives v → Gives w → v ≡ w)
     → Toward Gives image input answer l → Toward Gives image input answer m → l ≡ m
-tick_toward_once Gives image input answer {l} {m} one p q = go (is_done (tick_refusal image (length input) (length answer))) refl
+toward_once Gives image input answer {l} {m} one p q = go (is_done (tick_refusal image (length input) (length answer))) refl
   where
     go : (b : Bool) → is_done (tick_refusal image (length input) (length answer)) ≡ b → l ≡ m
     go false d = p.refused d ∙ sym (q.refused d)
     go true d = let (v, g, e) = p.taken d in let (w, h, f) = q.taken d in e ∙ rw (one v w g h) (sym f)
+
+-- So no second answer fits its promise, whatever the source is, if none fits the source's own.
+module _ (F : RattleType) (laws : Laws F) (source : promised.tick.tick_toward.F-FnOnce.Ghosts F) (d e : Dict) where
+  pub tick_toward_once : ((f : _) (given : _) (v w : Result Reference Refusal) → source.post f given v → source.post f given w → v ≡ w)
+      → OneAnswer (promised.tick.tick_toward.ended F source d e) (tick.tick_toward.Reads.Post F laws source d e)
+  tick_toward_once one κs a x y v w p q =
+      let same = toward_once _ _ _ _ (one _ _) p q in
+      (ap (λ (l : Called). l.outcome) same, both (ap (λ (l : Called). l.later.image) same) (both refl (both (ap (λ (l : Called). l.later.answer) same) refl)))

@@ -1,5 +1,7 @@
 // Set-up, tick and exchange on lent bytes. Nothing is asked of the caller; a refused call changes no byte of any buffer.
-ghost use Rattle.std.specs.Prelude.{◌≡◌};
+ghost use Rattle.std.specs.Prelude.{◌≡◌, length};
+ghost use Rattle.joint_tick.specs.SetUp.{exchange};
+ghost use Rattle.image.specs.{Layout.{image_bytes, leg_bytes}, Parts.{leg_at}, Image.{state_at, image_of}};
 ghost use Rattle.outcome.specs.Outcomes.{left, lent};
 ghost use Rattle.lent_tick.specs.Tick.{tick_refusal};
 ghost use Rattle.calls.specs.Entry.{set_up_call, exchange_call, tick_call};
@@ -45,8 +47,18 @@ pub fn setup(image: &mut [u8], input: &[u8]) -> Outcome
         return Err(Refusal::PassThrough);
     }
     let state = joint_tick::set_up(setup_at(input));
-    put_state(image, state);
+    put_state(image, state.fixed, state.moving);
     Ok(())
+}
+
+// By itself, since the compiler clears room for a state first: an exchange that is refused would wait for it.
+#[inline(never)]
+fn put_exchanged(image: &mut [u8], segment: &[u8])
+    requires { (length image.old ≡ image_bytes) × (length segment.now ≡ leg_bytes) }
+    ensures { image.new ≡ image_of (exchange (state_at image.old) (leg_at segment.now 0)) }
+{
+    let state = joint_tick::exchange(state_at(image), leg_at(segment, 0));
+    put_state(image, state.fixed, state.moving);
 }
 
 // Another segment in flight, from a leg's 19 words (request Seven). What else the image holds goes on, so a broken one is refused and not repaired.
@@ -63,8 +75,7 @@ pub fn exchange(image: &mut [u8], segment: &[u8]) -> Outcome
     if !unread_unbroken(image) {
         return Err(Refusal::BrokenImage);
     }
-    let state = joint_tick::exchange(state_at(image), leg_at(segment, 0));
-    put_state(image, state);
+    put_exchanged(image, segment);
     Ok(())
 }
 

@@ -73,12 +73,10 @@ fn put_shield(image: &mut [u8], set: RecoverableSet, enter: f32, exit: f32, enga
 }
 
 // All but the peaks.
-fn put_before_peaks(image: &mut [u8], state: State)
+fn put_before_peaks(image: &mut [u8], fixed: Fixed, moving: Moving)
     requires { length image.old ≡ image_bytes }
-    ensures { Put image.old 0 (take peaks_word (words_of_state state)) image.new }
+    ensures { Put image.old 0 (take peaks_word (words_of_state record { fixed = fixed; moving = moving })) image.new }
 {
-    let fixed = state.fixed;
-    let moving = state.moving;
     put_word(image, COUNT, IMAGE_WORDS as u32);
     put_gains(image, GAINS, fixed.gains);
     put_shield(image, fixed.set, fixed.enter, fixed.exit, moving.engaged);
@@ -89,13 +87,14 @@ fn put_before_peaks(image: &mut [u8], state: State)
     put_profile(image, PROFILE, fixed.profile);
 }
 
-// The peaks are worked out here, of the segment that is written: they are no part of the state, so that the two cannot come apart.
-pub fn put_state(image: &mut [u8], state: State)
+// The peaks are worked out here, of the segment that is written: they are no part of the state, so that the two cannot come apart. The state's two parts are
+// taken apart: a whole state that is passed on is laid out in memory first, and on x86-64 an exchange then calls `memset` for it.
+pub fn put_state(image: &mut [u8], fixed: Fixed, moving: Moving)
     requires { length image.old ≡ image_bytes }
-    ensures { image.new ≡ image_of state }
+    ensures { image.new ≡ image_of record { fixed = fixed; moving = moving } }
 {
-    let peaks = state.fixed.segment.peak_abs_jerk();
-    put_before_peaks(image, state);
+    let peaks = fixed.segment.peak_abs_jerk();
+    put_before_peaks(image, fixed, moving);
     put_vec(image, PEAKS, peaks);
 }
 

@@ -14,6 +14,12 @@ pub same_lent : {O : Type 0} {l m : Left O LentToDesk} → l ≡ m
     → (l.outcome ≡ m.outcome) × (l.later.desk ≡ m.later.desk) × (l.later.image ≡ m.later.image) × (l.later.input ≡ m.later.input) × (l.later.answer ≡ m.later.answer)
 same_lent e = rw e (refl, refl, refl, refl, refl)
 
+pub refusal_of_core_once : OneAnswer promised.entry.DeskRefusalFromRefusal.from.ended entry.DeskRefusalFromRefusal.from.Reads.Post
+refusal_of_core_once κs a x y v w p q = (no_second p q, refl)
+
+pub desk_refusal_to_number_once : OneAnswer promised.entry.U32FromDeskRefusal.from.ended entry.U32FromDeskRefusal.from.Reads.Post
+desk_refusal_to_number_once κs a x y v w p q = (no_second p q, refl)
+
 pub desk_number_once : OneAnswer promised.entry.desk_number.ended entry.desk_number.Reads.Post
 desk_number_once κs a x y v w p q = (no_second p q, refl)
 

@@ -1,7 +1,7 @@
 // A buffer that a call is lent. It is stored with more than the right length, so that a call can be lent too little or too much of it; what was not lent has to
 // stay too.
-use super::list::{self, Stop, fill};
-use std::io::Read;
+use super::list::read_up_to;
+use std::io::{self, Read};
 use words::word_at;
 
 // Stored where a call would be lent more of a buffer than there is, and so is none: no document has this number.
@@ -31,17 +31,17 @@ impl Default for Buffer {
 
 impl Buffer {
     // The next of the list: how many words are stored, how many bytes are lent, and the words. Where more words are said to come than there is room for, none is
-    // read.
-    pub(crate) fn read(&mut self, reader: &mut impl Read) -> Result<(), Stop> {
+    // read. What a list has too few of counts as zeros: that it is cut is seen at what is stored last.
+    pub(crate) fn read(&mut self, reader: &mut impl Read) -> io::Result<()> {
         let mut head = [0u8; 8];
-        fill(reader, &mut head)?;
+        read_up_to(reader, &mut head)?;
         self.stored = 4 * word_at(&head, 0) as usize;
         self.lent = word_at(&head, 1) as usize;
         let stored = self.stored;
-        match self.bytes.get_mut(..stored) {
-            Some(room) => fill(reader, room),
-            None => Ok(()),
+        if let Some(room) = self.bytes.get_mut(..stored) {
+            read_up_to(reader, room)?;
         }
+        Ok(())
     }
 
     pub(crate) fn lent(&self) -> Option<&[u8]> {
@@ -53,18 +53,24 @@ impl Buffer {
         self.bytes.get_mut(..lent)
     }
 
-    // Whether what is stored next is what a call left in it.
-    pub(crate) fn is_left(&self, reader: &mut impl Read) -> Result<bool, Stop> {
+    // Whether what is stored next is what a call left in it; none where the list is cut.
+    pub(crate) fn is_left(&self, reader: &mut impl Read) -> io::Result<Option<bool>> {
         let mut left = [0u8; ROOM];
         let Some(room) = left.get_mut(..self.stored) else {
-            return Err(Stop::Cut);
+            return Ok(None);
         };
-        fill(reader, room)?;
-        Ok(self.bytes == left)
+        if read_up_to(reader, room)? < self.stored {
+            return Ok(None);
+        }
+        Ok(Some(self.bytes == left))
     }
 }
 
-// Whether the number that is stored next is a call's.
-pub(crate) fn is_number(reader: &mut impl Read, number: Option<u32>) -> Result<bool, Stop> {
-    Ok(list::word(reader)? == number.unwrap_or(NO_NUMBER))
+// Whether the number that is stored next is a call's; none where the list is cut.
+pub(crate) fn is_number(reader: &mut impl Read, number: Option<u32>) -> io::Result<Option<bool>> {
+    let mut stored = [0u8; 4];
+    if read_up_to(reader, &mut stored)? < 4 {
+        return Ok(None);
+    }
+    Ok(Some(u32::from_le_bytes(stored) == number.unwrap_or(NO_NUMBER)))
 }

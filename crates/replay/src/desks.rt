@@ -1,7 +1,7 @@
 // The calls on a desk: tick, number 512, route tick, 513, set-up, 514, and the centre button, 515.
 use super::buffer::{Buffer, is_number};
 use super::list::Stop;
-use std::io::Read;
+use std::io::{self, Read};
 
 // A call takes those of the six buffers that it has; set-up's words are lent as the sticks.
 #[derive(Default, Drop)]
@@ -15,7 +15,7 @@ struct Lent {
 }
 
 impl Lent {
-    fn read(&mut self, reader: &mut impl Read) -> Result<(), Stop> {
+    fn read(&mut self, reader: &mut impl Read) -> io::Result<()> {
         self.desk.read(reader)?;
         self.sticks.read(reader)?;
         self.image.read(reader)?;
@@ -41,7 +41,7 @@ impl Lent {
     }
 }
 
-// Stored: the six buffers; then the number, and the four that a call may change.
+// Stored: the six buffers; then the number, and the four that a call may change. All are read before a list is told to be cut.
 pub(crate) fn is_same(reader: &mut impl Read, n: u32) -> Result<bool, Stop> {
     let mut lent = Lent::default();
     lent.read(reader)?;
@@ -51,5 +51,10 @@ pub(crate) fn is_same(reader: &mut impl Read, n: u32) -> Result<bool, Stop> {
     let image_is = lent.image.is_left(reader)?;
     let input_is = lent.input.is_left(reader)?;
     let answer_is = lent.answer.is_left(reader)?;
+    let (Some(number_is), Some(desk_is), Some(image_is), Some(input_is), Some(answer_is)) = (
+        number_is, desk_is, image_is, input_is, answer_is,
+    ) else {
+        return Err(Stop::Cut);
+    };
     Ok(number_is && desk_is && image_is && input_is && answer_is)
 }

@@ -1,9 +1,9 @@
 // The calls on lent bytes: set-up, number 500, tick, 501, and route tick, 502; append to a log, 503, its count, 504, and a record of it, 505; exchange, 506;
 // flags, 507; the sample of a route, 508; the refusal of a tick, 509; the check of a log, 510; a pattern, 511.
 use super::buffer::{Buffer, is_number};
-use super::list::{self, Stop};
+use super::list::{Stop, read_up_to};
 use outcome::{Outcome, Refusal};
-use std::io::Read;
+use std::io::{self, Read};
 use words::{float_at, word_at};
 
 // A call takes those of the four buffers that it has, and `at`, a log's length or a place in it.
@@ -45,12 +45,14 @@ fn called_on_words(n: u32, b: &[u8], c: &mut [u8], d: &[u8]) -> Option<Outcome> 
 }
 
 impl Lent {
-    fn read(&mut self, reader: &mut impl Read) -> Result<(), Stop> {
+    fn read(&mut self, reader: &mut impl Read) -> io::Result<()> {
+        let mut at = [0u8; 4];
         self.a.read(reader)?;
         self.b.read(reader)?;
         self.c.read(reader)?;
         self.d.read(reader)?;
-        self.at = list::word(reader)? as usize;
+        read_up_to(reader, &mut at)?;
+        self.at = u32::from_le_bytes(at) as usize;
         Ok(())
     }
 
@@ -75,7 +77,7 @@ impl Lent {
     }
 }
 
-// Stored: the four buffers and `at`; then the number, and the two buffers that a call may change.
+// Stored: the four buffers and `at`; then the number, and the two buffers that a call may change. All are read before a list is told to be cut.
 pub(crate) fn is_same(reader: &mut impl Read, n: u32) -> Result<bool, Stop> {
     let mut lent = Lent::default();
     lent.read(reader)?;
@@ -83,5 +85,8 @@ pub(crate) fn is_same(reader: &mut impl Read, n: u32) -> Result<bool, Stop> {
     let number_is = is_number(reader, number)?;
     let a_is = lent.a.is_left(reader)?;
     let c_is = lent.c.is_left(reader)?;
+    let (Some(number_is), Some(a_is), Some(c_is)) = (number_is, a_is, c_is) else {
+        return Err(Stop::Cut);
+    };
     Ok(number_is && a_is && c_is)
 }

@@ -33,9 +33,3 @@ pub(crate) fn fill(reader: &mut impl Read, bytes: &mut [u8]) -> Result<(), Stop>
     }
     Ok(())
 }
-
-pub(crate) fn word(reader: &mut impl Read) -> Result<u32, Stop> {
-    let mut bytes = [0u8; 4];
-    fill(reader, &mut bytes)?;
-    Ok(u32::from_le_bytes(bytes))
-}

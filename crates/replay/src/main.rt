@@ -32,14 +32,12 @@ fn answer(n: u32, i: &Row, o: &mut Row) {
     }
 }
 
-// The next row of the list, with so many words.
-fn row(reader: &mut impl Read, words: u32) -> Result<Row, Stop> {
-    let mut row = [0u8; 144];
+// The next row of the list, with so many words, into a blank one: an answer of this size would be copied.
+fn fill_row(reader: &mut impl Read, words: u32, row: &mut Row) -> Result<(), Stop> {
     let Some(stored) = row.get_mut(..4 * words as usize) else {
         return Err(Stop::Cut);
     };
-    fill(reader, stored)?;
-    Ok(row)
+    fill(reader, stored)
 }
 
 // ---- sections
@@ -67,9 +65,11 @@ impl From<[u8; 16]> for Head {
 impl Head {
     // Whether a routine answers as the next row says. All 36 words are compared, so that an answer of more words than are stored is seen.
     fn is_answer(self, reader: &mut impl Read) -> Result<bool, Stop> {
-        let given = row(reader, self.given)?;
-        let stored = row(reader, self.answered)?;
+        let mut given = [0u8; 144];
+        let mut stored = [0u8; 144];
         let mut answered = [0u8; 144];
+        fill_row(reader, self.given, &mut given)?;
+        fill_row(reader, self.answered, &mut stored)?;
         answer(self.number, &given, &mut answered);
         Ok(answered == stored)
     }
@@ -123,19 +123,23 @@ fn section(
     Ok(())
 }
 
-// The head of a section is four words and a name.
+fn print_counts(rt: &impl Print, name: &[u8; 48], tally: Tally) -> io::Result<()> {
+    rt.write_all(name)?;
+    println!(rt; "{tally}")
+}
+
+// The head of a section is four words and a name. A list that ends within the words ends before the name.
 fn next_section(rt: &impl Print, reader: &mut impl Read, all: &mut Tally) -> Result<(), Stop> {
     let mut four = [0u8; 16];
     let mut name = [0u8; 48];
-    fill(reader, &mut four)?;
+    read_up_to(reader, &mut four)?;
     fill(reader, &mut name)?;
     let mut tally = Tally::default();
     let read = section(rt, reader, Head::from(four), &mut tally);
     if let Err(Stop::Io(_)) = read {
         return read;
     }
-    rt.write_all(&name)?;
-    println!(rt; "{tally}")?;
+    print_counts(rt, &name, tally)?;
     all.add(tally);
     read
 }
@@ -159,7 +163,7 @@ fn compare(rt: &impl Print, reader: &mut impl Read, count: u32, answers: u32) ->
         Err(Stop::Cut) => false,
         Err(Stop::Io(error)) => return Err(error),
     };
-    println!(rt; "{:48}{all}", "all")?;
+    print_counts(rt, b"all                                             ", all)?;
     // the list may be of another form or length than its head says
     if !whole || read_up_to(reader, &mut [0u8; 1])? > 0 {
         println!(rt; "the list is cut, too long, or not of this form")?;

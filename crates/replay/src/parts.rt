@@ -32,7 +32,7 @@ fn put_part<F: FnOnce(&mut State)>(o: &mut Row, n: usize, k: usize, set: F)
     let mut state = state_at(&[0u8; IMAGE_BYTES]);
     set(&mut state);
     let mut image = [0u8; IMAGE_BYTES];
-    put_state(&mut image, state);
+    put_state(&mut image, state.fixed, state.moving);
     o[..4 * n].copy_from_slice(&image[4 * k..4 * k + 4 * n]);
 }
 

@@ -45,19 +45,40 @@ pub fn all() -> Result<Vec<Function>, String> {
     let mut found = Vec::new();
     for (krate, _) in crates()? {
         let folder = format!("crates/{krate}/src");
-        for file in entries(&folder)? {
+        let files = entries(&folder)?;
+        let library = !files.iter().any(|file| file == "main.rt");
+        for file in files {
             let module = file.trim_end_matches(".rt");
             let module = if module == "lib" || module == "main" { String::new() } else { format!("{module}::") };
             let file = format!("{folder}/{file}");
-            in_file(&krate, &file, &module, &text(&file)?, &mut found)?;
+            in_file(&krate, &file, &module, &text(&file)?, library, &mut found)?;
         }
     }
     Ok(found)
 }
 
-fn in_file(krate: &str, file: &str, module: &str, text: &str, found: &mut Vec<Function>) -> Result<(), String> {
+/// `U32FromRefusal` of `From<Refusal> for u32 {`, as the toolchain names what converts one type into another.
+fn conversion(of: &str) -> Option<String> {
+    let (from, into) = of.strip_suffix(" {")?.split_once("> for ")?;
+    let (kind, from) = from.split_once('<').filter(|(kind, _)| ["From", "TryFrom"].contains(kind))?;
+    let whole = |name: &str| name[..1].to_uppercase() + &name[1..];
+    Some(format!("{}{kind}{}", whole(into), whole(from)))
+}
+
+/// What the law of a conversion says of its answer, with the parameter's own name: of `{ λ x r. r ≡ f x };` that `result ≡ f x`.
+fn given_by(law: &str, parameter: &str) -> Option<Vec<String>> {
+    let (names, said) = law.strip_prefix("{ λ ")?.strip_suffix(" };")?.split_once(". ")?;
+    let (given, answer) = names.split_once(' ')?;
+    let named = |word: String| if word == given { parameter.to_string() } else if word == answer { "result".to_string() } else { word };
+    Some(tokens(said).into_iter().map(named).collect())
+}
+
+/// In a library what converts its types is public as well: it promises what its law says.
+fn in_file(krate: &str, file: &str, module: &str, text: &str, library: bool, found: &mut Vec<Function>) -> Result<(), String> {
     let scope = Rc::new(scope(text));
     let (mut owner, mut comment) = (String::new(), Vec::new());
+    // of a conversion: the comment above it, and its law
+    let (mut converts, mut law) = (None, "");
     let mut lines = text.lines();
     while let Some(line) = lines.next() {
         let item = line.trim_start();
@@ -71,14 +92,21 @@ fn in_file(krate: &str, file: &str, module: &str, text: &str, found: &mut Vec<Fu
         let comment = std::mem::take(&mut comment).join(" ");
         // `impl Words {`, and `impl<'a> Words<'a> {`
         if let Some(rest) = line.strip_prefix("impl ").or_else(|| line.strip_prefix("impl<")?.split_once("> ").map(|(_, rest)| rest)) {
-            owner = format!("{}::", rest.split([' ', '{', '<']).next().unwrap_or_default());
+            let converted = conversion(rest).filter(|_| library);
+            owner = format!("{}::", converted.as_deref().unwrap_or(rest.split([' ', '{', '<']).next().unwrap_or_default()));
+            converts = converted.map(|_| comment.clone());
+            law = "";
         } else if line.starts_with('}') {
             owner.clear();
+            converts = None;
+        } else if let Some((_, said)) = item.strip_prefix("ghost ").and_then(|item| item.split_once("from_gives = ")) {
+            law = said;
         }
         let Some((before, rest)) = item.split_once("fn ") else { continue };
         let public = match before {
             "pub " | "pub extern \"C\" " => true,
-            "" | "pub(crate) " => false,
+            "" => converts.is_some(),
+            "pub(crate) " => false,
             _ if !format!(" {before}").contains(" pub ") => continue,
             _ => return Err(format!("{krate}: a public function is written in a way that is not read here: {item}")),
         };
@@ -98,18 +126,24 @@ fn in_file(krate: &str, file: &str, module: &str, text: &str, found: &mut Vec<Fu
             Some((name, kind)) => (name.to_string(), kind.to_string()),
             None => ("self".to_string(), one.replace("self", owner.trim_end_matches(':'))),
         });
+        let parameters: Vec<(String, String)> = parameters.collect();
         let clause = |said: &str| tokens(said.split_once('{').and_then(|(_, said)| said.rsplit_once('}')).map_or("", |(said, _)| said));
         let mut clauses = contract.trim_end_matches('{').split(" ensures ");
+        let requires = clauses.next().unwrap_or_default().split(" requires ").skip(1).map(clause).collect();
+        let ensures = match (&converts, &parameters[..]) {
+            (Some(_), [(parameter, _)]) => vec![given_by(law, parameter).ok_or(format!("{krate}: the law of {owner}{name} is written in a way that is not read here: {law}"))?],
+            _ => clauses.map(clause).collect(),
+        };
         found.push(Function {
             krate: krate.to_string(),
             file: file.to_string(),
             routine: format!("{owner}{name}"),
             path: format!("{module}{owner}{name}"),
             public,
-            comment,
-            parameters: parameters.collect(),
-            requires: clauses.next().unwrap_or_default().split(" requires ").skip(1).map(clause).collect(),
-            ensures: clauses.map(clause).collect(),
+            comment: converts.clone().filter(|_| comment.is_empty()).unwrap_or(comment),
+            parameters,
+            requires,
+            ensures,
             body: body.join(" "),
             scope: scope.clone(),
         });

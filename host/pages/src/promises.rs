@@ -8,7 +8,7 @@ use std::fmt::Write;
 const FACE: &str = "probe";
 
 /// By hand: the public functions of which no `OneAnswer` can be stated, the theorem that each has instead, and why.
-const EXCEPTIONS: [(&str, &str, &str); 7] = [
+const EXCEPTIONS: [(&str, &str, &str); 5] = [
     (
         "relay_geo::lent::SimplexShield::step_lent",
         "step_lent_once",
@@ -23,21 +23,16 @@ const EXCEPTIONS: [(&str, &str, &str); 7] = [
         "The same, with `next_says`. It answers a part of the lent log: what the part holds is fixed; where it lies is not said, and no code of the language can ask.",
     ),
     (
-        "words::view::Words::new",
-        "new_once",
-        "It answers a struct that holds the lent bytes: what they hold and whether they are plain is fixed; where they lie is not said.",
-    ),
-    ("words::view::Words::scanned", "scanned_once", "The same."),
-    (
         "lent_tick::tick::tick_toward",
         "tick_toward_once",
-        "Its source may be any that gives a reference or a refusal, and might give another the next time. Where it gives one, the promise has one answer.",
+        "It takes a source of references, a closure of any type. It is `OneAnswer` of the function's own contract, for every source of whose own promise the same holds. \
+         That the two that there are give one reference is what the promises of `calls::tick` and `route::route_tick` rest on (`ticked_by`).",
     ),
 ];
 
 /// By hand: the crates whose public functions may ask something of their caller, and why.
 const ASKING: [(&str, &str); 4] = [
-    ("words", "A word is read or written within lengths that the caller tested once, and read untested where a scan found no NaN's pattern. A test for each word would be paid at every tick."),
+    ("words", "A word is read or written within lengths that the caller tested once, and read untested where a scan found no NaN's pattern. A test for each word would be paid at every tick. What a scan found is a fact that `Words` carries: whoever makes one by hand owes `Plain plain bytes`."),
     ("image", "The same, part by part: `lent_tick` tests the lengths of a tick and `calls` those of its other calls, then they read and write."),
     ("route", "`legs_meet` compares two legs that lie within lengths which `route` and `pattern` have tested: a route tick compares up to 31 joins."),
     ("lent_tick", "The tick that a plain tick and a route tick are asks that its source can be called. Its parts are called once it has tested the lengths, and nothing is written before it knows that the image is unbroken."),

@@ -37,13 +37,13 @@ function draw() {
 function drawStrip(panel, cols, flags, turns) {
     const y = Math.round(panel.top * ratio), h = Math.round(panel.height * ratio), left = Math.round(LEFT * ratio);
     for (let p = 0; p < cols; p++) {
-        const b = edge[p + 1], a = edge[p] - (holds(p, edge[p]) ? 1 : 0);
+        const a = since[p], b = edge[p + 1];
         if (a < b) box(left + p, y, 1, h, turns[b - 1] - turns[a] > 1 ? ink.mixed : flags[b - 1] ? ink.fallback : ink.planner);
     }
 }
 function drawLines(panel, cols) {
     const y0 = Math.round(panel.top * ratio), h = Math.round(panel.height * ratio), left = Math.round(LEFT * ratio), thick = Math.max(1, Math.round(ratio));
-    const kept = panel.words.map((w) => (columns(w, cols), [least.slice(), most.slice(), odds.slice()])), band = panel.band && given;
+    const kept = panel.words.map((w) => columns(w, cols)), band = panel.band && given;
     let [lo, hi] = [Infinity, -Infinity];
     for (const [l, m] of kept) for (let p = 0; p < cols; p++) { if (l[p] < lo) lo = l[p]; if (m[p] > hi) hi = m[p]; }
     Object.assign(panel, { least: lo, most: hi });

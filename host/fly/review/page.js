@@ -3,7 +3,7 @@ const attempt = (what) => { el('mistake').textContent = ''; try { what(); } catc
 function open(files) {
     flight = flightOf(together(files, core));
     const { N, file, secs } = flight, float = (at) => new DataView(file.setUp.buffer).getFloat32(at, true);
-    [blocks, turns, replay, changes, places] = [[], turnsOf(flight.flags), null, [], Float64Array.from({ length: N + 1 }, (_, k) => k)];
+    [blocks, turns, replay, changes, places] = [[], turnsOf(flight.flags), null, [], new Float64Array(N + 1).map((_, k) => k)];
     for (let k = 1; k < N; k++) if (turns[k] !== turns[k - 1]) changes.push(k);
     Object.assign(state, { records: false, cursor: 0, from: 0, end: Math.max(secs[N], 1e-6), to: Math.max(secs[N], 1e-6) });
     [t, held, el('drop').hidden, el('ask').hidden] = [secs, HOLDS, true, Boolean(file) && !page.given];

@@ -84,5 +84,5 @@ function flightOf({ title, logs, file, before }) {
         const leg = (k) => Math.min(ends.filter((end) => !(col[TIME][k] < end)).length, ends.length - 1);
         for (let k = from + 1; k <= to && k < N; k++) if (col[TIME][k] !== col[TIME][k - 1] && leg(k) !== leg(k - 1)) joins.push(k);
     }
-    return { title, logs, file, before, N, bits, col, secs, seams, exchanges, joins, flags: Uint8Array.from(bits[FLAG], (flag) => (flag === 0 ? 0 : 1)) };
+    return { title, logs, file, before, N, bits, col, secs, seams, exchanges, joins, flags: new Uint8Array(bits[FLAG].map((flag) => (flag === 0 ? 0 : 1))) };
 }

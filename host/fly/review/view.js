@@ -2,16 +2,16 @@
 const BLOCK = 64, LEFT = 78, AXIS = 22;
 const state = { from: 0, to: 1, end: 1, cursor: 0, records: false, full: false, stretch: -1, frames: 0, drawn: 0 };
 let flight = null, given = null, rule = null, stretches = [], wrong = null, turns, ruleTurns, changes = [], t, places, held = HOLDS, blocks = [];
-let edge = [], start, least, most, odds, width = 0, height = 0, ratio = 1;
+let edge = [], since, width = 0, height = 0, ratio = 1;
 /** How often a flag has changed up to each record. */
-const turnsOf = (flags) => { let turns = 0; return Int32Array.from(flags, (flag, k) => (turns += k && flag !== flags[k - 1] ? 1 : 0)); };
+const turnsOf = (flags) => { let turns = 0; return new Int32Array(flags).map((flag, k) => (turns += k && flag !== flags[k - 1] ? 1 : 0)); };
 /** Least and greatest of each block of ticks, and whether one is no number, so that a wide view reads few of them. */
 function blocksOf(column) {
-    const n = Math.ceil(column.length / BLOCK), low = new Float32Array(n).fill(Infinity), high = new Float32Array(n).fill(-Infinity), odd = new Uint8Array(n);
-    for (let k = 0; k < column.length; k++) {
-        const x = column[k], b = (k / BLOCK) | 0;
-        if (x - x !== 0) odd[b] = 1;
-        else { if (x < low[b]) low[b] = x; if (x > high[b]) high[b] = x; }
+    const n = Math.ceil(column.length / BLOCK), low = new Float32Array(n), high = new Float32Array(n), odd = new Uint8Array(n);
+    for (let b = 0, k = 0; b < n; b++) {
+        let l = Infinity, h = -Infinity;
+        for (const end = Math.min(k + BLOCK, column.length); k < end; k++) { const x = column[k]; if (x - x !== 0) odd[b] = 1; else { if (x < l) l = x; if (x > h) h = x; } }
+        [low[b], high[b]] = [l, h];
     }
     return { low, high, odd };
 }
@@ -23,26 +23,25 @@ function first(a, b, holds) {
 const tickAt = (s) => first(0, flight.N, (k) => t[k] >= s);
 const xOf = (s) => LEFT + (s - state.from) / (state.to - state.from) * (width - LEFT);
 const secondsAt = (px) => state.from + (px - LEFT) / (width - LEFT) * (state.to - state.from);
-/** Whether the tick before this one still holds where a column begins. */
-const holds = (p, a) => a > 0 && start[p] - t[a - 1] < held && start[p] <= t[flight.N];
+/** Of each column the first tick that begins in it or later, and the first that is in it: the one before, if that still holds where the column begins. */
 function edges(cols) {
-    if (edge.length !== cols + 1) [edge, start, least, most, odds] = [new Int32Array(cols + 1), new Float64Array(cols + 1), new Float32Array(cols), new Float32Array(cols), new Uint8Array(cols)];
-    for (let p = 0; p <= cols; p++) { start[p] = state.from + (state.to - state.from) * p / cols; edge[p] = tickAt(start[p]); }
+    if (edge.length !== cols + 1) [edge, since] = [new Int32Array(cols + 1), new Int32Array(cols + 1)];
+    for (let p = 0; p <= cols; p++) { const s = state.from + (state.to - state.from) * p / cols, a = (edge[p] = tickAt(s)); since[p] = a > 0 && s - t[a - 1] < held && s <= t[flight.N] ? a - 1 : a; }
 }
-/** Of a word, in every column: of the ticks that begin in it, and of the one that holds at its left edge. */
+/** Of a word, the least and the greatest in every column, and whether one is no number. */
 function columns(w, cols) {
-    const c = flight.col[w], { low, high, odd } = (blocks[w] ??= blocksOf(c));
+    const c = flight.col[w], { low, high, odd } = (blocks[w] ??= blocksOf(c)), least = new Float32Array(cols), most = new Float32Array(cols), odds = new Uint8Array(cols);
     for (let p = 0; p < cols; p++) {
-        let [k, b, l, h, o] = [edge[p], edge[p + 1], Infinity, -Infinity, 0];
-        if (holds(p, k)) k--;
-        while (k < b) {
+        let k = since[p], l = Infinity, h = -Infinity, o = 0;
+        for (const b = edge[p + 1]; k < b;) {
             const whole = k % BLOCK === 0 && k + BLOCK <= b, q = k / BLOCK, x = c[k], number = x - x === 0;
             if (whole) { if (low[q] < l) l = low[q]; if (high[q] > h) h = high[q]; o |= odd[q]; }
             else if (number) { if (x < l) l = x; if (x > h) h = x; } else o = 1;
             k += whole ? BLOCK : 1;
         }
-        [least[p], most[p], odds[p]] = [l, h, o];
+        least[p] = l; most[p] = h; odds[p] = o;
     }
+    return [least, most, odds];
 }
 const brief = (v) => (v === 0 ? '0' : Math.abs(v) >= 1e5 || Math.abs(v) < 1e-3 ? v.toExponential(1) : String(+v.toPrecision(4)));
 /** A number in as few letters as give its bits back. */

@@ -4,7 +4,16 @@ use fosavalo::{Log, LogView, Record, MOST_RECORDS};
 use std::io::{BufRead, BufReader, Write};
 use std::path::{Path, PathBuf};
 use std::process::{Child, ChildStdin, ChildStdout, Command, Stdio};
+use std::sync::{PoisonError, RwLock, RwLockReadGuard, RwLockWriteGuard};
 use std::time::{Duration, Instant};
+
+/// Browsers that are only looked at run beside each other, and one that is timed runs alone.
+static TURNS: RwLock<()> = RwLock::new(());
+
+enum Turn {
+    Beside(#[allow(dead_code)] RwLockReadGuard<'static, ()>),
+    Alone(#[allow(dead_code)] RwLockWriteGuard<'static, ()>),
+}
 
 /// A number that is wanted in the gate's own log, where the lines of a test that passes are not shown.
 macro_rules! tell {
@@ -97,11 +106,21 @@ struct Browser {
     session: String,
     errors: Vec<String>,
     folder: PathBuf,
+    /// given back once the browser is gone
+    _turn: Turn,
 }
 
 impl Browser {
-    /// None where there is no Chromium; then that is said.
     fn start(name: &str) -> Option<Self> {
+        Self::in_turn(name, Turn::Beside(TURNS.read().unwrap_or_else(PoisonError::into_inner)))
+    }
+
+    fn alone(name: &str) -> Option<Self> {
+        Self::in_turn(name, Turn::Alone(TURNS.write().unwrap_or_else(PoisonError::into_inner)))
+    }
+
+    /// None where there is no Chromium; then that is said.
+    fn in_turn(name: &str, turn: Turn) -> Option<Self> {
         let found = |name: &&&str| {
             Command::new(name).arg("--version").stdout(Stdio::null()).stderr(Stdio::null()).status().is_ok_and(|status| status.success())
         };
@@ -117,7 +136,7 @@ impl Browser {
         command.args(["-c", &line]).current_dir(&folder).stdin(Stdio::piped()).stdout(Stdio::piped()).stderr(Stdio::null());
         let mut child = command.spawn().expect("a shell");
         let (to, from) = (child.stdin.take().expect("it is piped"), BufReader::new(child.stdout.take().expect("it is piped")));
-        let mut browser = Browser { child, to, from, id: 0, session: String::new(), errors: Vec::new(), folder };
+        let mut browser = Browser { child, to, from, id: 0, session: String::new(), errors: Vec::new(), folder, _turn: turn };
         let made = browser.call("Target.createTarget", "{\"url\":\"about:blank\"}");
         let target = field(&made, "\"targetId\":\"").expect("a target");
         let attached = browser.call("Target.attachToTarget", &format!("{{\"targetId\":\"{target}\",\"flatten\":true}}"));
@@ -483,7 +502,7 @@ fn odd_flights() {
 /// How long the main thread itself takes till a flight is drawn, and for a step of the zoom: the least of three.
 #[test]
 fn soon_drawn() {
-    let (true, Some(mut browser)) = (can(), Browser::start("soon")) else { return };
+    let (true, Some(mut browser)) = (can(), Browser::alone("soon")) else { return };
     let folder = checkout::scratch("review-soon");
     for (ticks, bar) in [(65_535, 0.6), (917_490, 5.0)] {
         let text: String = (0..ticks / 997).map(|k| format!("tick 997 gyro {} 0 0\n", [1.9, 0.2, 1.8][k % 3])).collect();
